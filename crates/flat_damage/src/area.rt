@@ -1,6 +1,7 @@
-ghost use Rattle.std.specs.Prelude.{◌≡◌, ◌<◌, ◌≤◌, ℕ};
+ghost use Rattle.std.specs.Prelude.{◌≡◌, ◌<◌, ◌≤◌, ℕ, IsTrue, false};
 ghost use Rattle.flat_geom.specs.Rectangles.{has_point};
 ghost use Rattle.flat_render.specs.Areas.{has_pixel};
+ghost use Rattle.flat_render.specs.Damaged.{is_in_any};
 ghost use Rattle.flat_render.specs.Pixels.{centre};
 
 use flat_base::Rect;
@@ -26,4 +27,31 @@ pub fn area_of(rect: Rect, w: u32, h: u32) -> Area
         x1: area.x1.min(w as usize).max(x0),
         y1: area.y1.min(h as usize).max(y0),
     }
+}
+
+/// Whether an area has no pixel in the rows from one up to another.
+fn is_apart(area: Area, from: u32, upto: u32) -> bool
+    ensures { IsTrue result → (px py : ℕ) → from ≤ py → py < upto → has_pixel area px py ≡ false }
+{
+    if area.x0 >= area.x1 {
+        return true;
+    }
+    area.y1 <= from as usize || area.y0 >= upto as usize
+}
+
+/// Whether the damage has the centre of no pixel in the rows of a display from one up to another.
+/// Such rows need no new drawing. If it says no, some of them may need one.
+pub fn is_beside(rects: &[Rect], w: u32, h: u32, from: u32, upto: u32) -> bool
+    requires w { w ≤ PIXELS_MAX }
+    requires h { h ≤ PIXELS_MAX }
+    requires rows { upto ≤ h }
+    ensures { IsTrue result → (px py : ℕ) → px < w → from ≤ py → py < upto →
+        is_in_any rects.now px py ≡ false }
+{
+    for rect in rects {
+        if !is_apart(area_of(*rect, w, h), from, upto) {
+            return false;
+        }
+    }
+    true
 }

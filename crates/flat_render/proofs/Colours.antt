@@ -2,7 +2,7 @@
 use Rattle.std.proofs.Common.{ℕ, ◌+◌, ◌*◌, ◌<◌, ◌≡◌, refl, ap, ◌∙◌, sym, List, [], ◌∷◌, ◌++◌, length, set, take, arith, append_assoc}
 use Rattle.std.specs.List.{flat_map, range_with_len}
 use Rattle.std.proofs.lemmas.List.{take_more_set, length-set}
-use Rattle.flat_render.proofs.Bytes.{piece-more}
+use Rattle.flat_render.proofs.lemmas.Bytes.{piece-more}
 
 -- one colour more at the front of a line
 pub colour-more : (f : ℕ → List ℕ) (i r g b : ℕ) (line one two three : List ℕ) → 3 * i + 2 < length line → take (3 * i) line ≡ flat_map f (range_with_len 0 i) → f i ≡ r ∷ g ∷ b ∷ []

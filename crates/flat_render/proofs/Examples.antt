@@ -19,6 +19,7 @@ use Rattle.flat_render.specs.Grids.{tile_of, tile_bytes, band_bytes, grid_bytes,
 use Rattle.flat_render.specs.Inks.{tone, mix_of, mixed, shade_at}
 use Rattle.flat_render.specs.Pixels.{centre, covers, part_of, along_x, flipped_column, flipped_row, painted, pixel}
 use Rattle.flat_render.specs.Ppm.{header, ppm_bytes}
+use Rattle.flat_render.specs.Rows.{band_of, rows_bytes}
 use Rattle.flat_render.specs.Stored.{stored_x, stored_y}
 use Rattle.flat_render.specs.Tiles.{channel_at}
 use Rattle.std.specs.Fmt.{digits}
@@ -176,3 +177,13 @@ two_pixels = refl
 a_header : header 2 1 ≡ 80 ∷ 54 ∷ 10 ∷ 50 ∷ 32 ∷ 49 ∷ 10 ∷ 50 ∷ 53 ∷ 53 ∷ 10 ∷ []
 unfolding digits
 a_header = refl
+
+two_rows : rows_bytes (λ x y. x ∷ y ∷ 9 ∷ []) 1 2 ≡ 0 ∷ 0 ∷ 9 ∷ 0 ∷ 1 ∷ 9 ∷ []
+two_rows = refl
+
+-- the second row of tiles of a picture of three rows has one of them, and a third row of tiles would have none
+last_band : (band_of (record a_grid { height = 3; down = 2 }) 1).height ≡ 1
+last_band = refl
+
+no_band : (band_of (record a_grid { height = 3; down = 2 }) 2).height ≡ 0
+no_band = refl

@@ -13,7 +13,7 @@ pub mod Places
 pub mod Chunks
 pub mod Any
 pub mod Seen
-pub mod Bytes
+pub mod lemmas
 pub mod Brushing
 pub mod Preparing
 pub mod ThreePlanes
@@ -21,6 +21,7 @@ pub mod PreparedLists
 pub mod Bands
 pub mod Runs
 pub mod Rendered
+pub mod RowsOf
 pub mod RowWords
 pub mod Wholes
 pub mod Steps

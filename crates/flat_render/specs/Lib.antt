@@ -13,4 +13,5 @@ pub mod Tiles
 pub mod Inks
 pub mod Preparing
 pub mod Stored
+pub mod Rows
 pub mod Bands

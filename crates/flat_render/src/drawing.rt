@@ -24,6 +24,9 @@ use std::thread::Threads;
 /// costs more than it saves.
 const LIGHT: usize = 2_000_000;
 
+/// The most work for which a picture's bytes are made on the calling thread.
+const LIGHT_TEXT: usize = 8_000_000;
+
 /// What an item costs beside its pixels, counted in pixels.
 const ITEM_WORK: usize = 512;
 
@@ -44,6 +47,12 @@ fn work_of(list: &[Prepared]) -> usize {
         work = work.saturating_add(pixels.saturating_add(ITEM_WORK));
     }
     work
+}
+
+/// Whether there is so little to draw that its bytes are sooner made on one thread than drawn on
+/// many and put in order after that.
+pub fn is_light(list: &[Prepared]) -> bool {
+    work_of(list) <= LIGHT_TEXT
 }
 
 /// How many pieces of equal height the rows of tiles are shared out in: one if the caller is to

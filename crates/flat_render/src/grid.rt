@@ -1,6 +1,7 @@
 ghost use Rattle.std.specs.Prelude.{◌≡◌, ◌+◌, ◌*◌, ◌<◌, ◌≤◌, ◌^◌};
 ghost use Rattle.flat_render.specs.Grids.{tile_of, tile_count, tile_size, tile_bytes, band_bytes};
 ghost use Rattle.flat_render.specs.Grids.{grid_bytes, place_of, run_of, IsGrid};
+ghost use Rattle.flat_render.specs.Rows.{band_of};
 ghost use Rattle.flat_render.specs.Tiles.{IsTile};
 
 use crate::tile::{CHANNELS, TILE_SIDE, Tile};
@@ -113,6 +114,23 @@ pub fn tile(grid: &Grid, n: usize) -> Tile
         top: n / grid.across * grid.tile_h,
         width: grid.tile_w,
         height: grid.tile_h,
+    }
+}
+
+/// The n-th row of tiles as a grid of its own, as high as the picture has pixels there.
+pub fn band_grid(grid: &Grid, n: usize) -> Grid
+    requires grid { IsGrid grid.now }
+    requires there { n < grid.now.down }
+    ensures value { result ≡ band_of grid.now n }
+    ensures grid { IsGrid result }
+{
+    Grid {
+        width: grid.width,
+        height: grid.height.saturating_sub(n * grid.tile_h).min(grid.tile_h),
+        tile_w: grid.tile_w,
+        tile_h: grid.tile_h,
+        across: grid.across,
+        down: 1,
     }
 }
 

@@ -6,7 +6,8 @@
 //! A picture is drawn by rows of tiles (band), each tile by the items that may be seen there
 //! (chosen). What an item gives all tiles is found once (prepared) and laid on each (laying,
 //! stamp). Any other image is drawn channel by channel (brush, texture, ink), row by row (plane).
-//! `Picture::write_row` (words) and `ppm_of` (ppm) hand the colours out.
+//! `Picture::write_row` (words) and `ppm_of` (ppm) hand the colours out; `render_ppm` (rendering)
+//! makes the bytes at once where no picture is needed. proofs/lemmas speaks of these bytes.
 #![tactic(auto)]
 
 mod area;
@@ -34,5 +35,5 @@ pub use area::{Area, area_of};
 pub use colour::texel;
 pub use grid::PIXELS_MAX;
 pub use picture::Picture;
-pub use ppm::ppm_of;
-pub use rendering::{is_too_large, render};
+pub use ppm::{ppm_head, ppm_of, ppm_rows};
+pub use rendering::{is_too_large, render, render_ppm};

@@ -1,13 +1,13 @@
 //! Times the renderer: `flat_render_bench KIND COUNT WIDTH HEIGHT ROUNDS` draws a
 //! picture of 1920 by 1080 so many times, with so many items of those sides: opaque
 //! fills (kind 0), fills of alpha 128 (1), opaque images (2) or images at half
-//! opacity (3); kind 4 is as 2, and makes the bytes of each picture too. It prints the
-//! sum of the reds in the middle, and of those lengths.
+//! opacity (3); kinds 4 to 7 are the same, and make the bytes of each picture too; kinds 8
+//! to 11 make the bytes alone. It prints the sum of the reds in the middle, and of those lengths.
 #![tactic(auto)]
 
 use flat_base::{BufferNo, IntRect, Items, NoMemory, SessionNo};
 use flat_drawable::{are_drawable, full_rect};
-use flat_render::{ppm_of, render};
+use flat_render::{ppm_of, render, render_ppm};
 use flat_scene::{BlendMode, DrawItem, ImageFlip, ItemList, Paint, SceneMatrix};
 use std::alloc::Global;
 use std::process::ExitCode;
@@ -17,6 +17,12 @@ use std::{env, io};
 const WIDTH: u32 = 1920;
 
 const HEIGHT: u32 = 1080;
+
+/// How many kinds of items there are. From this kind on the bytes of each picture are made too.
+const KINDS: u32 = 4;
+
+/// From this kind on they are made without a picture.
+const BYTES_ALONE: u32 = 8;
 
 /// What is drawn, and how often.
 #[derive(Clone, Copy)]
@@ -59,7 +65,7 @@ fn item(load: &Load, n: u32) -> DrawItem {
     let mut item = DrawItem {
         session: SessionNo(1),
         serial: 1,
-        paint: paint_of(load.kind, n, w, h),
+        paint: paint_of(load.kind % KINDS, n, w, h),
         w,
         h,
         matrix: SceneMatrix {
@@ -70,7 +76,11 @@ fn item(load: &Load, n: u32) -> DrawItem {
             y: y * 65_536,
         },
         visible: flat_geom::sized(0, 0),
-        opacity: if load.kind == 3 { 32_768 } else { 65_536 },
+        opacity: if load.kind % KINDS == 3 {
+            32_768
+        } else {
+            65_536
+        },
         blend: if load.kind % 2 == 1 {
             BlendMode::SrcOver
         } else {
@@ -96,9 +106,13 @@ fn draw(rt: &(impl Threads + Sync), alloc: Global, load: &Load) -> Result<u64, N
     }
     let mut sum = 0u64;
     for _round in 0..load.rounds {
+        if load.kind >= BYTES_ALONE {
+            sum = sum.wrapping_add(render_ppm(rt, alloc, &items, WIDTH, HEIGHT)?.len() as u64);
+            continue;
+        }
         let picture = render(rt, alloc, &items, WIDTH, HEIGHT)?;
         sum = sum.wrapping_add(picture.pixel(WIDTH / 2, HEIGHT / 2)[0] as u64);
-        if load.kind > 3 {
+        if load.kind >= KINDS {
             sum = sum.wrapping_add(ppm_of(alloc, &picture)?.len() as u64);
         }
     }

@@ -97,7 +97,7 @@ fn redrawn(
 ) -> Result<Picture, NoMemory> {
     assert!(rt; are_drawable(new.as_slice()));
     let mut picture = shown(rt, alloc, old, w, h)?;
-    redraw(alloc, &mut picture, old, new)?;
+    let _damage = redraw(alloc, &mut picture, old, new)?;
     Ok(picture)
 }
 

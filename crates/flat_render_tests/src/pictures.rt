@@ -1,8 +1,9 @@
 ghost use Rattle.std.specs.Prelude.{◌<◌};
 
-use crate::scenes::{BLACK, WHITE, Wrong, fill, repainted, shown_of, white, wrong};
+use crate::scenes::{BLACK, WHITE, Wrong, fill, list, repainted, shown_of, white, wrong};
 use flat_base::{NoMemory, Rect};
-use flat_render::{is_too_large, ppm_of};
+use flat_drawable::are_drawable;
+use flat_render::{is_too_large, ppm_of, ppm_rows, render_ppm};
 use flat_scene::BlendMode;
 use std::alloc::Global;
 use std::process::Abort;
@@ -97,6 +98,37 @@ fn pictures_are_written_and_repainted(rt: HostRuntime) -> Result<(), Fail> {
     let text = repainted_text(&rt, rt.alloc())?;
     let expected = b"P6\n2 2\n255\n\xff\xff\xff\0\0\0\0\0\0\0\0\0";
     assert_eq!(rt; text.as_slice(), expected.as_slice());
+    Ok(())
+}
+
+/// The bytes of a picture of 2 by 2 pixels of which one is white, made at once.
+fn drawn_text(rt: &(impl Abort + Threads + Sync), alloc: Global) -> Result<Vec<u8>, NoMemory> {
+    let items = list(alloc, &[fill([255, 255, 255, 255], 1, 1, 1, 0)])?;
+    assert!(rt; are_drawable(items.as_slice()));
+    render_ppm(rt, alloc, &items, 2, 2)
+}
+
+/// The bytes that are made without a picture are the same.
+#[test]
+fn bytes_are_made_at_once(rt: HostRuntime) -> Result<(), Fail> {
+    let text = drawn_text(&rt, rt.alloc())?;
+    let expected = b"P6\n2 2\n255\n\0\0\0\xff\xff\xff\0\0\0\0\0\0";
+    assert_eq!(rt; text.as_slice(), expected.as_slice());
+    Ok(())
+}
+
+/// The second row of a picture of which two pixels have a colour.
+fn second_row(rt: &(impl Abort + Threads + Sync), alloc: Global) -> Result<Vec<u8>, NoMemory> {
+    let picture = shown_of(rt, alloc, &[fill([1, 2, 3, 255], 1, 2, 0, 0)], 2, 2)?;
+    assert!(rt; picture.height() == 2);
+    ppm_rows(alloc, &picture, 1, 2)
+}
+
+/// Rows are written as they stand in the bytes of the whole.
+#[test]
+fn rows_are_written_by_themselves(rt: HostRuntime) -> Result<(), Fail> {
+    let row = second_row(&rt, rt.alloc())?;
+    assert_eq!(rt; row.as_slice(), [1, 2, 3, 0, 0, 0].as_slice());
     Ok(())
 }
 

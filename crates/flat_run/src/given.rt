@@ -32,7 +32,7 @@ pub(crate) enum Given {
 }
 
 /// The pictures of all frames together have no more pixels than these.
-pub const FILM_PIXELS_MAX: u64 = 67_108_864;
+pub const FILM_PIXELS_MAX: u64 = 268_435_456;
 
 /// Whether a line of a script ends a frame.
 fn ends_frame(body: &Body) -> bool

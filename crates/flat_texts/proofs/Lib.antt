@@ -2,3 +2,4 @@ pub mod Damaging
 pub mod Examples
 pub mod Filming
 pub mod Printing
+pub mod StripLemmas

@@ -3,3 +3,4 @@ pub mod Filming
 pub mod Films
 pub mod Lines
 pub mod Pictures
+pub mod Strips

@@ -1,18 +1,22 @@
 //! A film: the pictures of all frames of a run. One picture is kept over all of them, of which
-//! each frame repaints what changed, and its bytes are gathered frame by frame.
+//! each frame repaints what changed. Its bytes are gathered frame by frame; rows that stayed
+//! are shared with the frame before (strips).
 ghost use Rattle.std.specs.Prelude.{◌≡◌, ◌*◌, ◌<◌, ◌≤◌, ◌∷◌, ◌++◌, [], List, All, IfOk, OnOk};
 ghost use Rattle.flat_drawable.specs.Drawable.{IsDrawable};
 ghost use Rattle.flat_render.specs.declared.grid.TheConstants.{PIXELS_MAX};
+ghost use Rattle.flat_render.specs.Pictures.{width_of, height_of};
+ghost use Rattle.flat_render.specs.Ppm.{header};
 ghost use Rattle.flat_scene.specs.declared.frames.FrameOut.{FrameOut};
 ghost use Rattle.flat_scene.specs.declared.setup.Setup.{Setup};
 ghost use Rattle.flat_texts.specs.Films.{film_text};
 ghost use Rattle.flat_texts.specs.Filming.{IsFilm};
 
-use crate::picture::picture_after;
+use crate::picture::black_picture;
+use crate::strips::push_strips;
 use flat_base::{Items, NoMemory};
-use flat_damage::redraw;
-use flat_render::{Picture, ppm_of};
-use flat_report::Pieces;
+use flat_damage::{damage_laws, redraw};
+use flat_render::{Picture, ppm_head, ppm_of};
+use flat_report::{Pieces, Run};
 use flat_scene::{FrameOut, ItemList, Setup};
 use std::alloc::Global;
 use std::sync::Arc;
@@ -28,8 +32,21 @@ pub struct Film {
     shown: ItemList,
     /// The bytes of each frame's picture.
     pictures: Pieces,
+    /// Those of the last one's rows, so many in each run; none before the first frame.
+    strips: Vec<Run>,
     /// Whether there was a frame.
     any: bool,
+}
+
+/// Puts what stands before a picture's colours behind a text.
+fn push_head(alloc: Global, picture: &Picture, text: &mut Pieces) -> Result<(), NoMemory>
+    ensures { OnOk result (text.new ≡ text.old ++ header (width_of picture.now)
+        (height_of picture.now)) }
+{
+    let head = ppm_head(alloc, picture.width(), picture.height())?;
+    let run = Arc::new(alloc, Items::from_vec(head))?;
+    text.push(run)?;
+    Ok(())
 }
 
 impl Film {
@@ -40,12 +57,13 @@ impl Film {
         requires size { setup.now.width * setup.now.height ≤ PIXELS_MAX }
         ensures { IfOk result (IsFilm setup.now []) }
     {
-        let picture = picture_after(rt, alloc, setup, None)?;
+        let picture = black_picture(rt, alloc, setup)?;
         Ok(Film {
             alloc,
             picture,
             shown: ItemList::new(alloc),
             pictures: Pieces::new(alloc),
+            strips: Vec::new(alloc),
             any: false,
         })
     }
@@ -57,12 +75,14 @@ impl Film {
         ensures { (setup : Setup) (frames : List FrameOut) → IsFilm setup frames self.old →
             OnOk result (IsFilm setup (frames ++ frame.now ∷ []) self.new) }
     {
+        damage_laws();
         let next = frame.items.copy(self.alloc)?;
-        redraw(self.alloc, &mut self.picture, &self.shown, &next)?;
+        let rects = redraw(self.alloc, &mut self.picture, &self.shown, &next)?;
         self.shown = next;
-        let bytes = ppm_of(self.alloc, &self.picture)?;
-        let picture = Arc::new(self.alloc, Items::from_vec(bytes))?;
-        self.pictures.push(picture)?;
+        push_head(self.alloc, &self.picture, &mut self.pictures)?;
+        let (rects, old) = (rects.as_slice(), self.strips.as_slice());
+        let strips = push_strips(self.alloc, &self.picture, rects, old, &mut self.pictures)?;
+        self.strips = strips;
         self.any = true;
         Ok(())
     }
@@ -78,6 +98,7 @@ impl Film {
             picture,
             shown: _,
             pictures,
+            strips: _,
             any,
         } = self;
         if any {

@@ -10,6 +10,7 @@ mod damage;
 mod film;
 mod lines;
 mod picture;
+mod strips;
 
 pub use damage::{Damaged, FrameDamages};
 pub use film::Film;
