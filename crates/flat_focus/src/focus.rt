@@ -1,4 +1,4 @@
-ghost use Rattle.std.specs.Prelude.{◌≡◌, ◌+◌, ◌-◌, ◌<◌, ◌≤◌, [], ◌++◌, length, reverse, find, IfOk, slice_get, Some};
+ghost use Rattle.std.specs.Prelude.{◌≡◌, ◌+◌, ◌-◌, ◌<◌, ◌≤◌, ◌↔◌, [], ◌++◌, length, reverse, find, IfOk, IsTrue, slice_get, Some};
 ghost use Rattle.flat_scene.specs.ViewTrees.{is_node};
 ghost use Rattle.flat_focus.specs.Chains.{root_of, path_to, focus_in, stands_on, is_granted, answer_to};
 ghost use Rattle.flat_focus.specs.Steps.{unfocused, framed, asked, on_the_way, way_on};
@@ -155,6 +155,13 @@ impl Focus {
             chain: Roomy::with_capacity(alloc, sessions as usize)?,
             path: Roomy::with_capacity(alloc, sessions as usize)?,
         })
+    }
+
+    /// Whether there is room for a frame with this view tree.
+    pub fn has_room(&self, tree: &ViewTree) -> bool
+        ensures { IsTrue result ↔ length tree.now.nodes ≤ self.now.sessions }
+    {
+        tree.nodes.len() <= self.sessions as usize
     }
 
     /// Keeps the nodes of a frame.

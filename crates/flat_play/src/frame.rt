@@ -2,7 +2,7 @@
 //! probes want: what is shown is joined at the first of them, and stays for the next ones
 //! and for later frames before which neither a session nor the pixel ratio changed.
 ghost use Rattle.std.specs.Prelude.{◌≡◌, ◌+◌, ◌<◌, ◌^◌, ◌++◌, List, [], ◌∷◌, true, length, map};
-ghost use Rattle.std.specs.Prelude.{IfOk, IsTrue, OnOk};
+ghost use Rattle.std.specs.Prelude.{IfOk, IsTrue, OnErr, OnOk};
 ghost use Rattle.std.specs.List.{list_any};
 ghost use Rattle.std.specs.Arc.{arc_value};
 ghost use Rattle.flat_scene.specs.declared.frames.FrameOut.{FrameOut};
@@ -192,6 +192,7 @@ impl LastFrame {
         ensures hits { IfOk result (λ hits. hits
             ≡ hit_list (at_ratio self.old.ratio setup.now) self.old.reuse x y) }
         ensures stays { OnOk result (StaysLast setup.now self.old self.new) }
+        ensures kept { OnErr result (StaysLast setup.now self.old self.new) }
     {
         let joined = joined_once(
             alloc,

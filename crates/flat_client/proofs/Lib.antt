@@ -1,0 +1,3 @@
+mod Answering
+mod Settling
+mod Standing

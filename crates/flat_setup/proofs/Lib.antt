@@ -1,0 +1,4 @@
+mod Examples
+mod Keeping
+mod FaultLemmas
+mod Held
