@@ -10,7 +10,7 @@ use flat_render::Picture;
 use flat_scene::{ItemList, RectList};
 use std::alloc::Global;
 
-/// Turns the picture of a draw list into that of another, by drawing anew what is in the
+/// Turns the picture of a draw list into that of another, by drawing again what is in the
 /// damage between them, which it answers. If memory runs out, the picture is as it was.
 pub fn redraw(
     alloc: Global,

@@ -1,4 +1,5 @@
-ghost use Rattle.std.specs.Prelude.{◌≡◌, ◌+◌, ◌-◌, ◌<◌, ◌≤◌, ◌↔◌, [], ◌++◌, length, reverse, find, IfOk, IsTrue, slice_get, Some};
+ghost use Rattle.std.specs.Prelude.{◌≡◌, ◌+◌, ◌-◌, ◌<◌, ◌≤◌, ◌↔◌, [], ◌++◌, length, reverse, find, IfOk, IsTrue};
+ghost use Rattle.std.specs.Prelude.{slice_get, Some};
 ghost use Rattle.flat_scene.specs.ViewTrees.{is_node};
 ghost use Rattle.flat_focus.specs.Chains.{root_of, path_to, focus_in, stands_on, is_granted, answer_to};
 ghost use Rattle.flat_focus.specs.Steps.{unfocused, framed, asked, on_the_way, way_on};
