@@ -1,0 +1,3 @@
+mod Beside
+mod Living
+mod Shelving

@@ -1,0 +1,27 @@
+use thiserror::Error;
+
+/// Why the compositor made no entry.
+#[derive(Clone, Copy, Debug, PartialEq, Eq, Error)]
+pub enum DisplayFault {
+    /// The line names what isn't the display's: a fence of others, a session that isn't
+    /// declared, or a pixel ratio beyond its limits.
+    #[error("the display may not name that")]
+    NotOwned,
+    /// The display has made all entries of its share.
+    #[error("the display's share of entries is used up")]
+    Full,
+    /// So many looks found this value, which isn't enough.
+    #[error("the value was {0} to the last look")]
+    Unmet(u32),
+}
+
+/// Why no frame may begin.
+#[derive(Clone, Copy, Debug, PartialEq, Eq, Error)]
+pub enum BeginFault {
+    /// The display's share has no room for a begin and its done.
+    #[error("the display's share of entries is used up")]
+    Full,
+    /// The last frame began at this later time.
+    #[error("the last frame began at {0}, which is later")]
+    Before(u64),
+}
