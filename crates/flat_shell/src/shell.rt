@@ -127,7 +127,8 @@ impl Shell {
     }
 
     /// Ends the stage, and hands out its board, whose journal is one legal history of all that
-    /// the clients and the compositor entered. [`StillHeld`] comes if a client is still out.
+    /// the clients and the compositor entered. [`StillHeld`] comes if a client is still out;
+    /// the stage is let go then, and its journal with it.
     pub fn close(self, compositor: DisplayCompositor) -> Result<Board, StillHeld>
         requires own { compositor.stage ≡ self.stage }
         ensures { IfOk result (Closes self compositor) }
