@@ -36,7 +36,8 @@ use Rattle.flat_topology.specs.Shown.{Shown}
 use Rattle.flat_report.specs.Report.{finished, frame_at}
 use Rattle.flat_places.specs.declared.script.Script.{Script}
 use Rattle.flat_playable.specs.Playable.{frames_close, is_playable, is_played, keeps_frames}
-use Rattle.flat_stage.specs.Displays.{AreViewed, DisplayEnters, DisplayView, FrameView, HasDisplayRoom}
+use Rattle.flat_stage.specs.Displays.{DisplayEnters, DisplayView, FrameView, HasDisplayRoom}
+use Rattle.flat_core.specs.Views.{AreViewed}
 use Rattle.flat_stage.specs.Seats.{StageView, setup_of, entries_of_seat}
 use Rattle.flat_stage.specs.Seats as stage
 use Rattle.flat_play.specs.Last.{StaysLast}

@@ -12,7 +12,8 @@ use Rattle.flat_rules.specs.Ends.{to_begin}
 use Rattle.flat_rules.specs.Legal.{Legal}
 use Rattle.flat_rules.specs.Shown.{shown_states}
 use Rattle.flat_topology.specs.Shown.{Shown}
-use Rattle.flat_stage.specs.Displays.{AreViewed, DisplaySees, DisplayView}
+use Rattle.flat_stage.specs.Displays.{DisplaySees, DisplayView}
+use Rattle.flat_core.specs.Views.{AreViewed}
 use Rattle.flat_stage.specs.Seats.{StageView, setup_of, entries_of_seat}
 use Rattle.flat_actors.specs.declared.hand.Hand.{Hand}
 use Rattle.flat_actors.specs.declared.hand.Hand.TheVariants.{Idle, Open}

@@ -23,7 +23,8 @@ use Rattle.flat_rules.specs.Owned.{is_played_line}
 use Rattle.flat_places.specs.declared.script.Script.{Script}
 use Rattle.flat_playable.specs.Playable.{is_playable, is_played}
 use Rattle.flat_stage.specs.Homes.{fresh_view}
-use Rattle.flat_stage.specs.Readings.{NewSeatsHaveRead, Rise, SeatHasRead}
+use Rattle.flat_stage.specs.Readings.{NewSeatsHaveRead, SeatHasRead}
+use Rattle.flat_session.specs.Readings.{Rise}
 use Rattle.flat_stage.specs.Seats as stage
 use Rattle.flat_stage.specs.Seats.{SessionView, StageView, GoesOn, HasRoom, setup_of}
 use Rattle.flat_play.specs.Playing.{last_number, lines_by, shares_of}

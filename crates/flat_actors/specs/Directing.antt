@@ -17,7 +17,8 @@ use Rattle.flat_topology.specs.Shown.{Shown}
 use Rattle.flat_report.specs.Report.{finished, frame_at}
 use Rattle.flat_places.specs.declared.script.Script.{Script}
 use Rattle.flat_display.specs.Had.{AreDriven}
-use Rattle.flat_stage.specs.Displays.{AreViewed, DisplayEnters, DisplaySees, DisplayView}
+use Rattle.flat_stage.specs.Displays.{DisplayEnters, DisplaySees, DisplayView}
+use Rattle.flat_core.specs.Views.{AreViewed}
 use Rattle.flat_stage.specs.Seats.{StageView, entries_of_seat}
 use Rattle.flat_play.specs.Keeping.{Keeps, KeepsMore}
 use Rattle.flat_play.specs.Last.{IsLast}

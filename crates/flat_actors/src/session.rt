@@ -22,7 +22,8 @@ use crate::gate::{ASKS, Gate, LOOKS, ask};
 use crate::lent::Lent;
 use flat_base::{NoMemory, SessionNo, TryCopy};
 use flat_scene::{Body, Call, Cond, Line};
-use flat_stage::{Edit, SessionSeat, lines_are_read};
+use flat_session::Edit;
+use flat_stage::{SessionSeat, new_seats_have_read};
 use flat_waits::Waiter;
 use std::sync::Wait;
 use std::thread;
@@ -252,7 +253,7 @@ fn read_all<R: Wait, G: Gate>(
     ensures begun { Follows lent.now.script.now.setup lent.now.script.now.count
         (session_lines seat.old.session lent.now.script.now.lines) (history_of seat.new.mine) }
 {
-    lines_are_read();
+    new_seats_have_read();
     for i in 0..places.len() {
         read_next(lent, seat, places[i])?;
     }

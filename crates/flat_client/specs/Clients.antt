@@ -23,7 +23,7 @@ use Rattle.flat_scene.specs.Journals.{history_of}
 use Rattle.flat_scene.specs.Misuse.{misuse}
 use Rattle.flat_rules.specs.Legal.{asked_of, value_of, Legal}
 use Rattle.flat_rules.specs.Owned.{is_played_condition, is_played_line}
-use Rattle.flat_stage.specs.Reads.{draft_so_far}
+use Rattle.flat_session.specs.Reads.{draft_so_far}
 use Rattle.flat_stage.specs.Readings.{entry_by}
 use Rattle.flat_stage.specs.Seats.{SessionView, StageView, SeesMore, SessionEnds, SessionEnters, is_ended, setup_of}
 use Rattle.flat_stage.specs.Seats.{shares_of}

@@ -43,14 +43,6 @@ use std::alloc::Global;
 use std::marker::Model;
 use std::sync::Arc;
 
-/// What was moved into a call that wanted memory. Nothing changed.
-#[derive(Drop)]
-pub struct Back {
-    pub calls: CallList,
-    pub args: Option<PresentArgs>,
-    pub snap: Option<Arc<Snapshot>>,
-}
-
 /// A frame that began.
 #[derive(Clone, Copy)]
 pub struct Begun {

@@ -13,6 +13,6 @@ mod dones;
 mod entries;
 mod polls;
 
-pub use board::{Back, Begun, Board};
+pub use board::{Begun, Board};
 pub use flat_facts::shown_states_fit;
 pub use polls::EventList;

@@ -27,9 +27,9 @@ use Rattle.flat_scene.specs.Setups.{is_declared}
 use Rattle.flat_core.specs.Machines.{Machine, HasShare, entered, entry_of, made}
 use Rattle.flat_places.specs.declared.script.Script.{Script}
 use Rattle.flat_playable.specs.Playable.{is_playable, is_played}
-use Rattle.flat_stage.specs.declared.reader.Reader.{Reader}
-use Rattle.flat_stage.specs.Readings.{EndsAreRead, HasRead, NoneIsRead, OneMoreIsRead, Rise}
-use Rattle.flat_stage.specs.Reads.{IsNew, Reads, Stands}
+use Rattle.flat_session.specs.declared.reader.Reader.{Reader}
+use Rattle.flat_session.specs.Readings.{EndsAreRead, HasRead, NoneIsRead, OneMoreIsRead, Rise}
+use Rattle.flat_session.specs.Reads.{IsNew, Reads, Stands}
 use Rattle.flat_play.specs.Playing.{ReaderStands, lines_by, session_text, shares_of}
 use Rattle.flat_play.proofs.lemmas.Growing.{Grows, is_quiet}
 use Rattle.flat_play.proofs.lemmas.Places.{Here, counted, few_lines, rises}

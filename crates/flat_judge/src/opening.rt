@@ -8,7 +8,7 @@ use crate::seat::Seat;
 use flat_base::{Items, NoMemory, SessionNo};
 use flat_places::Script;
 use flat_report::ProbeAnswers;
-use flat_stage::{Reader, lines_are_read};
+use flat_session::{Reader, lines_are_read};
 use std::alloc::Global;
 
 /// Sessions that have read no line.

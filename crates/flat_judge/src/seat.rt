@@ -9,14 +9,14 @@ ghost use Rattle.flat_core.specs.Machines.{HasShare};
 ghost use Rattle.flat_rules.specs.Owned.{is_played_line};
 ghost use Rattle.flat_playable.specs.Playable.{is_playable};
 ghost use Rattle.flat_play.specs.Playing.{shares_of};
-ghost use Rattle.flat_stage.specs.Reads.{Reads, Stands};
+ghost use Rattle.flat_session.specs.Reads.{Reads, Stands};
 ghost use Rattle.flat_judge.specs.GuidedRuns.{Goes, IsAt, Sits, own_text};
 
 use flat_base::{Actor, NoMemory, SessionNo, TryCopy};
 use flat_core::Board;
 use flat_places::Script;
 use flat_scene::{Body, Line, ScriptLine};
-use flat_stage::{Reader, lines_are_read};
+use flat_session::{Reader, lines_are_read};
 use std::alloc::Global;
 
 /// A session at its place of the script.

@@ -19,7 +19,7 @@ use Rattle.flat_topology.specs.Views.{view_nodes, view_tree}
 use Rattle.flat_tree.specs.Laws.{ViewsGiveTrees, IsSetOf}
 use Rattle.flat_tree.specs.Trees.{tree_of}
 use Rattle.flat_report.specs.Report.{frame_at}
-use Rattle.flat_stage.specs.Displays.{AreViewed}
+use Rattle.flat_core.specs.Views.{AreViewed}
 use Rattle.flat_play.proofs.lemmas.Starting.{few_sessions}
 use Rattle.flat_base.proofs.lemmas.Tests.{and-true}
 

@@ -18,9 +18,9 @@ use Rattle.flat_report.specs.Handed.{answers_of}
 use Rattle.flat_report.specs.Report.{finished}
 use Rattle.flat_places.specs.declared.script.Script.{Script}
 use Rattle.flat_play.specs.declared.play.Play.{Play}
-use Rattle.flat_stage.specs.declared.reader.Reader.{Reader}
-use Rattle.flat_stage.specs.Readings.{EndsAreRead, HasRead, Rise}
-use Rattle.flat_stage.specs.Reads.{Stands}
+use Rattle.flat_session.specs.declared.reader.Reader.{Reader}
+use Rattle.flat_session.specs.Readings.{EndsAreRead, HasRead, Rise}
+use Rattle.flat_session.specs.Reads.{Stands}
 use Rattle.flat_playable.specs.Playable.{is_playable}
 use Rattle.flat_play.specs.Keeping.{Keeps}
 use Rattle.flat_play.proofs.lemmas.PlaySteps.{keeps_same}

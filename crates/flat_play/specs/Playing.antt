@@ -36,9 +36,9 @@ use Rattle.flat_report.specs.declared.report.HitAnswer.{HitAnswer}
 use Rattle.flat_report.specs.Handed.{answers_of}
 use Rattle.flat_report.specs.Report.{finished, frame_at}
 use Rattle.flat_places.specs.declared.script.Script.{Script}
-use Rattle.flat_stage.specs.declared.reader.Reader.{Reader}
-use Rattle.flat_stage.specs.Readings.{HasRead}
-use Rattle.flat_stage.specs.Reads.{IsNew, Stands}
+use Rattle.flat_session.specs.declared.reader.Reader.{Reader}
+use Rattle.flat_session.specs.Readings.{HasRead}
+use Rattle.flat_session.specs.Reads.{IsNew, Stands}
 use Rattle.flat_play.specs.declared.play.Play.{Play}
 use Rattle.flat_play.specs.declared.frame.LastFrame.{LastFrame}
 use Rattle.flat_play.specs.declared.kept.Kept.{Kept}

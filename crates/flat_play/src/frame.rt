@@ -20,7 +20,7 @@ ghost use Rattle.flat_topology.specs.Hits.{hit_list};
 ghost use Rattle.flat_topology.specs.Shown.{Shown};
 ghost use Rattle.flat_rules.specs.Shown.{shown_states};
 ghost use Rattle.flat_report.specs.Report.{frame_at};
-ghost use Rattle.flat_stage.specs.Displays.{AreViewed};
+ghost use Rattle.flat_core.specs.Views.{AreViewed};
 ghost use Rattle.flat_places.specs.declared.script.Script.{Script};
 ghost use Rattle.flat_play.specs.Keeping.{Keeps};
 ghost use Rattle.flat_play.specs.Last.{IsJoined};

@@ -30,7 +30,7 @@ use flat_display::{Display, DisplaySet};
 use flat_places::Script;
 use flat_report::{HitAnswer, HitAnswers};
 use flat_scene::{Body, CallList, DisplayLine, Line, SessionSet};
-use flat_stage::{Reader, lines_are_read};
+use flat_session::{Reader, lines_are_read};
 use flat_topology::Shown;
 use std::alloc::Global;
 

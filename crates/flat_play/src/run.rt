@@ -33,7 +33,7 @@ use flat_places::Script;
 use flat_pointer::{PointerLine, Touch};
 use flat_report::{HitAnswers, ProbeAnswers};
 use flat_scene::{SessionSet, Setup};
-use flat_stage::{Reader, lines_are_read};
+use flat_session::{Reader, lines_are_read};
 use flat_topology::Shown;
 use flat_why::Whys;
 use std::alloc::Global;

@@ -5,7 +5,6 @@ use Rattle.flat_base.specs.declared.limits.TheConstants.{FIRST_CREDITS, FULL_CRE
 use Rattle.flat_scene.specs.declared.calls.PresentArgs.{PresentArgs}
 use Rattle.flat_scene.specs.Frames.{is_ready}
 use Rattle.flat_queue.specs.declared.queue.WaitingPresent.{WaitingPresent}
-use Rattle.flat_queue.specs.declared.queue.Queued.{Queued}
 
 -- how many presents were taken, and those that wait, the oldest first
 pub record Line (T : Type 0) : Type 0 where
@@ -28,8 +27,7 @@ ready_of time is_signalled = take_while (λ kept. is_ready time is_signalled kep
 abbrev pub pushed : {T : Type 0} → Line T → T → PresentArgs → Line T
 pushed line item args = record { taken = line.taken; waiting = line.waiting ++ record { item = item; args = args } ∷ [] }
 
--- the first was taken, and this is it with its number
-pub record Gave {T : Type 0} (queued : Queued T) (old new : Line T) : Type 0 where
-  pub waiting : old.waiting ≡ record { item = queued.item; args = queued.args } ∷ new.waiting
+-- The first was taken, and this is it.
+pub record TakesFirst {T : Type 0} (present : WaitingPresent T) (old new : Line T) : Type 0 where
+  pub waiting : old.waiting ≡ present ∷ new.waiting
   pub taken : new.taken ≡ old.taken + 1
-  pub number : queued.number ≡ new.taken

@@ -3,7 +3,7 @@ ghost use Rattle.std.specs.Prelude.{IfSome, IfNone, IsTrue, is_ok};
 ghost use Rattle.std.specs.List.{list_all};
 ghost use Rattle.flat_scene.specs.Frames.{is_ready};
 ghost use Rattle.flat_fence.specs.Fences.{has};
-ghost use Rattle.flat_queue.specs.Line.{most_of, credits_of, ready_of, pushed, Gave};
+ghost use Rattle.flat_queue.specs.Line.{most_of, credits_of, ready_of, pushed, TakesFirst};
 
 use flat_base::{FIRST_CREDITS, FULL_CREDITS, FenceNo, NoMemory, Roomy};
 use flat_fence::FenceSet;
@@ -11,23 +11,11 @@ use flat_scene::PresentArgs;
 use std::alloc::Global;
 use std::marker::Model;
 
-/// A present that a queue gives out.
-#[derive(Drop)]
-pub struct Queued<T> {
-    pub item: T,
-    pub args: PresentArgs,
-    /// Its number among all presents of its session, from 1.
-    pub number: u32,
-}
+/// There is no credit for a present.
+#[derive(Clone, Copy, Debug, PartialEq, Eq)]
+pub struct NoCredit;
 
-/// What is handed back where there is no credit.
-#[derive(Drop)]
-pub struct NoCredit<T> {
-    pub item: T,
-    pub args: PresentArgs,
-}
-
-/// A present that waits.
+/// A present that waits, or that was taken.
 #[derive(Drop)]
 pub struct WaitingPresent<T> {
     pub item: T,
@@ -87,53 +75,48 @@ impl<T> Queue<T> {
         most - self.waiting.len() as u32
     }
 
-    /// Makes a present, and answers its number, from 1. Exactly where there is no
-    /// credit it is refused, and all that was handed in is handed back.
-    pub fn push(&mut self, item: T, args: PresentArgs) -> Result<u32, NoCredit<T>>
+    /// Makes a present, and answers its number, from 1. It is refused, and dropped, if and only
+    /// if there is no credit.
+    pub fn push(&mut self, item: T, args: PresentArgs) -> Result<u32, NoCredit>
+    where
+        T: Drop,
         requires { self.old.taken + length self.old.waiting < 2 ^ 32 - 1 }
         ensures ok { IsTrue (is_ok result) ↔ (0 < credits_of self.old) }
         ensures number { IfOk result (λ number. number ≡ self.old.taken + length self.old.waiting
             + 1) }
         ensures after { IfOk result (λ _. self.new ≡ pushed self.old item args) }
         ensures same { IfErr result (λ _. self.new ≡ self.old) }
-        ensures back { IfErr result (λ back. (back.item ≡ item) × (back.args ≡ args)) }
     {
         if self.credits() == 0 {
-            return Err(NoCredit { item, args });
+            return Err(NoCredit);
         }
         let number = self.taken + self.waiting.len() as u32 + 1;
         self.waiting.push(WaitingPresent { item, args });
         Ok(number)
     }
 
-    /// Takes the first present, whatever its time and its fences; None exactly
-    /// where nothing waits.
-    pub fn take_any(&mut self) -> Option<Queued<T>>
+    /// Takes the first present, whatever its time and its fences; None if and only if
+    /// nothing waits.
+    pub fn take_any(&mut self) -> Option<WaitingPresent<T>>
         ensures none { IfNone result ((self.new ≡ self.old) × (self.old.waiting ≡ [])) }
-        ensures first { IfSome result (λ queued. Gave queued self.old self.new) }
+        ensures first { IfSome result (λ present. TakesFirst present self.old self.new) }
     {
         if self.waiting.len() == 0 {
             return None;
         }
-        let WaitingPresent { item, args } = self.waiting.remove(0);
         self.taken += 1;
-        Some(Queued {
-            item,
-            args,
-            number: self.taken,
-        })
+        Some(self.waiting.remove(0))
     }
 
-    /// Takes the first present, where it is due and its acquire fences are
-    /// signalled; None exactly where nothing waits or the first isn't ready. So
+    /// Takes the first present, if it is due and its acquire fences are
+    /// signalled; None if and only if nothing waits or the first isn't ready. So
     /// taking until None takes all before the first that isn't ready.
-    pub fn take(&mut self, now: u64, fences: &FenceSet) -> Option<Queued<T>>
+    pub fn take(&mut self, now: u64, fences: &FenceSet) -> Option<WaitingPresent<T>>
         ensures none { IfNone result ((self.new ≡ self.old)
             × (ready_of now (has fences.now) self.old.waiting ≡ [])) }
-        ensures first { IfSome result (λ queued. Gave queued self.old self.new) }
-        ensures ready { IfSome result (λ queued. ready_of now (has fences.now) self.old.waiting
-            ≡ record { item = queued.item; args = queued.args } ∷ ready_of now (has fences.now)
-            self.new.waiting) }
+        ensures first { IfSome result (λ present. TakesFirst present self.old self.new) }
+        ensures ready { IfSome result (λ present. ready_of now (has fences.now) self.old.waiting
+            ≡ present ∷ ready_of now (has fences.now) self.new.waiting) }
     {
         let first = self.waiting.as_slice().first()?;
         if is_ready(&first.args, now, fences) {

@@ -31,7 +31,8 @@ use Rattle.flat_play.specs.Last.{IsLast}
 use Rattle.flat_play.proofs.lemmas.FramesShown.{all-finished, few_frames}
 use Rattle.flat_page.proofs.lemmas.LastItems.{last-more}
 use Rattle.flat_play.proofs.lemmas.Seen.{frames_more}
-use Rattle.flat_stage.specs.Displays.{AreViewed, DisplayEnters, DisplaySees, DisplayView, FrameView}
+use Rattle.flat_stage.specs.Displays.{DisplayEnters, DisplaySees, DisplayView, FrameView}
+use Rattle.flat_core.specs.Views.{AreViewed}
 use Rattle.flat_stage.specs.Seats.{StageView, entries_of_seat, setup_of, shares_of}
 use Rattle.flat_shell.specs.declared.keeper.Keeper.{Keeper}
 use Rattle.flat_shell.specs.Live.{GoesBefore, HasBegun, HasLast, IsComposed, IsKept, MayBegin, left, next_frame}

@@ -23,7 +23,8 @@ use Rattle.flat_topology.specs.Changes.{AreSame}
 use Rattle.flat_report.specs.Report.{finished, frame_at}
 use Rattle.flat_play.specs.declared.frame.LastFrame.{LastFrame}
 use Rattle.flat_play.specs.Last.{IsLast}
-use Rattle.flat_stage.specs.Displays.{AreViewed, DisplayEnters, DisplaySees, DisplayView, FrameView}
+use Rattle.flat_stage.specs.Displays.{DisplayEnters, DisplaySees, DisplayView, FrameView}
+use Rattle.flat_core.specs.Views.{AreViewed}
 use Rattle.flat_stage.specs.Seats.{entries_of_seat, setup_of, shares_of}
 use Rattle.flat_shell.specs.declared.fault.DisplayFault.{DisplayFault}
 use Rattle.flat_shell.specs.declared.fault.DisplayFault.TheVariants.{Full, NotOwned, Unmet}

@@ -1,6 +1,4 @@
 pub mod Displays
 pub mod Homes
-pub mod Made
-pub mod Reads
-pub mod Seats
 pub mod Readings
+pub mod Seats

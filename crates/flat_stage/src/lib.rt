@@ -1,24 +1,21 @@
-//! The stage: seats by which sessions and the compositor step on one board.
+//! The stage: seats by which sessions and the compositor step on one board, through a lock.
 //!
-//! A `Reader` (reader) reads lines by specs/Reads and specs/Readings, what a line makes is
-//! `Made` (made; specs/Made), and seats (seats, session, compositor) by specs/Seats.
+//! Begin at [`Stage`]. A session's seat ([`SessionSeat`]) reads lines as a `Reader` of
+//! flat_session does, each in a turn of the lock; the compositor has a seat of its own
+//! ([`CompositorSeat`], and [`OpenFrame`] while a frame is open). What contracts see of
+//! seats stands in specs/Seats, Displays and Homes.
 #![tactic(auto)]
 
 mod compositor;
 mod frames;
-mod judging;
 mod laws;
-mod made;
-mod reader;
 mod seats;
 mod session;
 mod shared;
 mod stage;
 
 pub use compositor::{CompositorSeat, OpenFrame};
-pub use laws::lines_are_read;
-pub use made::Made;
-pub use reader::{Edit, Reader};
+pub use laws::new_seats_have_read;
 pub use seats::SessionSeats;
 pub use session::SessionSeat;
 pub use stage::Stage;

@@ -5,24 +5,24 @@ ghost use Rattle.flat_core.specs.Machines.{MayLook};
 ghost use Rattle.flat_rules.specs.Legal.{value_of, Legal};
 ghost use Rattle.flat_stage.specs.Homes.{lock_seat};
 ghost use Rattle.flat_scene.specs.declared.script.Line.{Line};
-ghost use Rattle.flat_stage.specs.Readings.{Rise, SeatEdits, SeatHasRead};
+ghost use Rattle.flat_stage.specs.Readings.{SeatEdits, SeatHasRead};
+ghost use Rattle.flat_session.specs.Readings.{Rise};
 ghost use Rattle.flat_rules.specs.Owned.{is_played_line};
-ghost use Rattle.flat_stage.specs.Made.{kind_of, takes_memory};
-ghost use Rattle.flat_stage.specs.Reads.{kept_calls, viewport_call, IsReady};
+ghost use Rattle.flat_session.specs.Made.{kind_of, takes_memory};
+ghost use Rattle.flat_session.specs.Reads.{kept_calls, viewport_call, IsReady};
 ghost use Rattle.flat_scene.specs.Journals.{history_of};
 ghost use Rattle.flat_scene.specs.Interleave.{IsReading};
 ghost use Rattle.flat_scene.specs.Setups.{is_declared};
 ghost use Rattle.flat_stage.specs.Seats.{is_ended, entries_of_seat, session_view, setup_of, AreAtOne, AreOne, GoesOn};
 ghost use Rattle.flat_stage.specs.Seats.{HasRoom, SeatSeesMore, SessionEnds, SessionEnters, SessionReads, SeesMore};
 
-use crate::made::Made;
-use crate::reader::{Edit, Reader};
 use crate::shared::Shared;
 use crate::stage::Stage;
 use flat_base::{Actor, NoMemory, SessionNo};
 use flat_core::EventList;
 use flat_lock::LockSeat;
 use flat_scene::{Cond, Line, Reply};
+use flat_session::{Edit, Made, Reader};
 use std::marker::Model;
 use std::sync::Wait;
 
@@ -35,8 +35,8 @@ pub struct SessionSeat {
 }
 
 impl Model for SessionSeat {
-    ghost use Rattle.flat_stage.specs.Made.{kind_of, takes_memory};
-    ghost use Rattle.flat_stage.specs.Reads.{kept_calls, viewport_call, IsReady};
+    ghost use Rattle.flat_session.specs.Made.{kind_of, takes_memory};
+    ghost use Rattle.flat_session.specs.Reads.{kept_calls, viewport_call, IsReady};
     ghost use Rattle.flat_scene.specs.Journals.{history_of};
     ghost use Rattle.flat_scene.specs.Interleave.{IsReading};
     ghost use Rattle.flat_scene.specs.Setups.{is_declared};

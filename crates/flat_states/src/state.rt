@@ -5,7 +5,7 @@ ghost use Rattle.flat_states.specs.Presents.{present_reply, with_waiting, IsNew,
 
 use flat_base::{FIRST_CREDITS, FULL_CREDITS, FenceList, FlatlandError, NoMemory, PairNo};
 use flat_fence::FenceSet;
-use flat_queue::{Queue, Queued};
+use flat_queue::{Queue, WaitingPresent};
 use flat_scene::{PresentArgs, Reply};
 use flat_snap::Snapshot;
 use std::alloc::Global;
@@ -85,7 +85,7 @@ pub fn take_ready(state: &mut SessionState, time: u64, fences: &FenceSet) -> Opt
     state.took = 0;
     let mut last = None;
     while let Some(queued) = state.queue.take(time, fences) {
-        let Queued { item, args, .. } = queued;
+        let WaitingPresent { item, args } = queued;
         let PresentArgs {
             release,
             unsquashable,
@@ -125,7 +125,7 @@ pub fn let_go(state: &mut SessionState)
     state.going.clear();
     state.took = 0;
     while let Some(queued) = state.queue.take_any() {
-        let Queued { args, .. } = queued;
+        let WaitingPresent { args, .. } = queued;
         let PresentArgs { release, .. } = args;
         state.going.push_reserved(release);
     }

@@ -6,7 +6,7 @@ ghost use Rattle.flat_rules.specs.Legal.{reply_to, unread_events};
 ghost use Rattle.flat_states.specs.Presents.{owed_for};
 ghost use Rattle.flat_rules.specs.Shown.{tree_of};
 
-use crate::board::{Back, Board};
+use crate::board::Board;
 use crate::entries::enter;
 use crate::polls::{EventList, push_events_from};
 use flat_base::{Actor, SessionNo, TryCopy};
@@ -22,6 +22,8 @@ impl Board {
 
     /// Presents the tree of all calls of the session: its number and the credits
     /// left, or the session is closed where it has no credit.
+    ///
+    /// If memory runs out, the calls come back, and nothing changed.
     pub fn present(
         &mut self,
         s: SessionNo,
@@ -29,7 +31,7 @@ impl Board {
         calls: CallList,
         args: PresentArgs,
         snap: Arc<Snapshot>,
-    ) -> Result<Reply, Back>
+    ) -> Result<Reply, CallList>
         requires may { MayCall self.old (Session s) calls (Present args) }
         requires tree { Some (arc_value snap)
             ≡ tree_of self.old.setup (present_of self.old.history s calls args) }
@@ -38,28 +40,14 @@ impl Board {
         ensures entry { IfOk result (λ reply. self.new
             ≡ entered self.old (Session s) line calls (Present args) reply) }
         ensures same { IfErr result (λ back. self.new ≡ self.old) }
-        ensures back { IfErr result (λ back. back
-            ≡ record { calls = calls; args = Some args; snap = Some snap }) }
+        ensures back { IfErr result (λ back. back ≡ calls) }
     {
-        let copy = match args.copy(self.alloc) {
-            Ok(copy) => copy,
-            Err(_) => {
-                return Err(Back {
-                    calls,
-                    args: Some(args),
-                    snap: Some(snap),
-                });
-            }
+        let Ok(copy) = args.copy(self.alloc) else {
+            return Err(calls);
         };
         match self.log.reserve(self.owed + 2) {
             Ok(()) => {}
-            Err(_) => {
-                return Err(Back {
-                    calls,
-                    args: Some(args),
-                    snap: Some(snap),
-                });
-            }
+            Err(_) => return Err(calls),
         }
         let place = s.0 as usize - 1;
         let reply = present_in(&mut self.sessions[place], snap, copy);
@@ -82,13 +70,15 @@ impl Board {
 
     /// Hands over the events posted to the session since its last poll, behind
     /// those of the list, and answers how many.
+    ///
+    /// If memory runs out, the calls come back, and nothing changed.
     pub fn poll(
         &mut self,
         s: SessionNo,
         line: u32,
         calls: CallList,
         into: &mut EventList,
-    ) -> Result<Reply, Back>
+    ) -> Result<Reply, CallList>
         requires { MayCall self.old (Session s) calls Poll }
         ensures reply { IfOk result (λ reply. reply
             ≡ reply_to self.old.setup self.old.history (Session s) calls Poll) }
@@ -99,8 +89,7 @@ impl Board {
         ensures count { IfOk result (λ reply. reply
             ≡ Polled (length (unread_events self.old.setup s self.old.history))) }
         ensures same { IfErr result (λ back. (self.new ≡ self.old) × (into.new ≡ into.old)) }
-        ensures back { IfErr result (λ back. back
-            ≡ record { calls = calls; args = None; snap = None }) }
+        ensures back { IfErr result (λ back. back ≡ calls) }
     {
         let place = s.0 as usize - 1;
         let state = &mut self.sessions[place];
@@ -108,13 +97,7 @@ impl Board {
         let before = into.len();
         match push_events_from(posts, state.account.polled, s, into) {
             Ok(()) => {}
-            Err(_) => {
-                return Err(Back {
-                    calls,
-                    args: None,
-                    snap: None,
-                });
-            }
+            Err(_) => return Err(calls),
         }
         let count = (into.len() - before) as u32;
         state.account.polled = posts.len();

@@ -9,7 +9,7 @@ ghost use Rattle.flat_rules.specs.Watch.{watcher_of};
 ghost use Rattle.flat_gets.specs.Dues.{due_told};
 ghost use Rattle.flat_gets.specs.Watchers.{AreWatched, HasRoomAt, is_held, is_shut, watcher_meant};
 
-use crate::board::{Back, Board, number_if};
+use crate::board::{Board, number_if};
 use crate::entries::enter;
 use flat_base::{Actor, NoMemory, PairNo, SessionNo};
 use flat_gets::telling::Telling;
@@ -55,6 +55,8 @@ impl Board {
 
     /// Makes a viewport, by the last of the calls: done, or the session is closed
     /// where the token isn't held.
+    ///
+    /// If memory runs out, the calls come back, and nothing changed.
     pub fn viewport(
         &mut self,
         s: SessionNo,
@@ -62,15 +64,14 @@ impl Board {
         calls: CallList,
         p: PairNo,
         props: ViewportProps,
-    ) -> Result<Reply, Back>
+    ) -> Result<Reply, CallList>
         requires { MayCall self.old (Session s) calls (Viewport p props) }
         ensures reply { IfOk result (λ reply. reply
             ≡ reply_to self.old.setup self.old.history (Session s) calls (Viewport p props)) }
         ensures entry { IfOk result (λ reply. self.new
             ≡ entered self.old (Session s) line calls (Viewport p props) reply) }
         ensures same { IfErr result (λ back. self.new ≡ self.old) }
-        ensures back { IfErr result (λ back. back
-            ≡ record { calls = calls; args = None; snap = None }) }
+        ensures back { IfErr result (λ back. back ≡ calls) }
     {
         let owner = self.setup.pairs.at(p.0 as usize).view;
         let is_shut = is_shut(self.sessions.as_slice(), owner);
@@ -78,13 +79,7 @@ impl Board {
         let ends = &mut self.viewports[place];
         match make_room(&mut self.watchers, ends, &mut self.log, p, self.owed + 1) {
             Ok(()) => {}
-            Err(_) => {
-                return Err(Back {
-                    calls,
-                    args: None,
-                    snap: None,
-                });
-            }
+            Err(_) => return Err(calls),
         }
         let state = &mut self.sessions[place];
         let ends = &mut self.viewports[place];
@@ -114,6 +109,8 @@ impl Board {
 
     /// Asks for a value of this pair: what is told now if it is news, or else later
     /// by an event; the session is closed where a get of that watcher waits.
+    ///
+    /// If memory runs out, the calls come back, and nothing changed.
     pub fn get(
         &mut self,
         s: SessionNo,
@@ -121,7 +118,7 @@ impl Board {
         calls: CallList,
         get: Watch,
         p: PairNo,
-    ) -> Result<Reply, Back>
+    ) -> Result<Reply, CallList>
         requires may { MayCall self.old (Session s) calls (Get get) }
         requires meant { watcher_of self.old.setup self.old.history (Session s) calls get
             ≡ Some (watcher_meant self.old.history get p) }
@@ -130,8 +127,7 @@ impl Board {
         ensures entry { IfOk result (λ reply. self.new
             ≡ entered self.old (Session s) line calls (Get get) reply) }
         ensures same { IfErr result (λ back. self.new ≡ self.old) }
-        ensures back { IfErr result (λ back. back
-            ≡ record { calls = calls; args = None; snap = None }) }
+        ensures back { IfErr result (λ back. back ≡ calls) }
     {
         let telling = Telling {
             setup: &self.setup,
@@ -142,13 +138,7 @@ impl Board {
         let posts = self.owed + 1;
         let reply = match self.watchers.ask(s, p, get, &telling, &mut self.log, posts) {
             Ok(reply) => reply,
-            Err(_) => {
-                return Err(Back {
-                    calls,
-                    args: None,
-                    snap: None,
-                });
-            }
+            Err(_) => return Err(calls),
         };
         self.owed += number_if(is_held(reply)) as usize;
         enter(

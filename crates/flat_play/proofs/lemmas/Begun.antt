@@ -14,8 +14,8 @@ use Rattle.flat_rules.specs.Legal.{Legal}
 use Rattle.flat_report.specs.Report.{finished}
 use Rattle.flat_places.specs.declared.script.Script.{Script}
 use Rattle.flat_playable.specs.Playable.{is_playable}
-use Rattle.flat_stage.specs.declared.reader.Reader.{Reader}
-use Rattle.flat_stage.specs.Readings.{HasReadBy, Rise}
+use Rattle.flat_session.specs.declared.reader.Reader.{Reader}
+use Rattle.flat_session.specs.Readings.{HasReadBy, Rise}
 use Rattle.flat_play.specs.declared.play.Play.{Play}
 use Rattle.flat_play.specs.Beginning.{Begins, AreBegun}
 use Rattle.flat_play.specs.Playing.{PlayStands, ReaderStands}

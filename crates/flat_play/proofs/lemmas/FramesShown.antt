@@ -16,7 +16,7 @@ use Rattle.flat_rules.specs.Laws.{BegunStatesFit, EachSessionHasOneState}
 use Rattle.flat_rules.specs.Legal.{Legal, frames, is_frame_open, may_act, session_may}
 use Rattle.flat_topology.specs.Fit.{FitsSetup}
 use Rattle.flat_topology.specs.Shown.{Shown}
-use Rattle.flat_stage.specs.Displays.{AreViewed}
+use Rattle.flat_core.specs.Views.{AreViewed}
 use Rattle.flat_play.specs.Playing.{FramesStand, HasViews}
 use Rattle.flat_rules.proofs.lemmas.FrameKinds.{not-finish}
 use Rattle.flat_base.proofs.lemmas.Tests.{and-left}

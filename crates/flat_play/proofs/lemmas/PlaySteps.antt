@@ -41,7 +41,7 @@ use Rattle.flat_play.specs.declared.kept.Kept.{Kept}
 use Rattle.flat_play.specs.Keeping.{Keeps}
 use Rattle.flat_play.specs.Last.{IsLast, StaysLast}
 use Rattle.flat_report.specs.declared.report.HitAnswer.{HitAnswer}
-use Rattle.flat_stage.specs.declared.reader.Reader.{Reader}
+use Rattle.flat_session.specs.declared.reader.Reader.{Reader}
 use Rattle.flat_playable.specs.Playable.{is_played, keeps_frames}
 use Rattle.flat_play.specs.Playing.{IsSpent, lines_by, shares_of, ReaderStands, ReadersStand, DisplayStands, FramesStand, PlayStands, BeginsFrame, FinishesFrame, EntersBeside, AsksPoint, AnswersStand, HasViews, session_text, display_text}
 use Rattle.flat_play.proofs.lemmas.Growing.{Grows, grows, stays, is_quiet}

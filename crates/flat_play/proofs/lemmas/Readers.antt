@@ -22,9 +22,9 @@ use Rattle.flat_scene.specs.Misuse.{misuse, first_reason}
 use Rattle.flat_scene.specs.Tree.{present_tests}
 use Rattle.flat_core.specs.Machines.{Machine}
 use Rattle.flat_places.specs.declared.script.Script.{Script}
-use Rattle.flat_stage.specs.declared.reader.Reader.{Reader}
-use Rattle.flat_stage.specs.Readings.{HasRead, NoneIsRead, OneMoreIsRead, Rise}
-use Rattle.flat_stage.specs.Reads.{IsNew, Makes, Reads, Stands, draft_so_far, made_by_line}
+use Rattle.flat_session.specs.declared.reader.Reader.{Reader}
+use Rattle.flat_session.specs.Readings.{HasRead, NoneIsRead, OneMoreIsRead, Rise}
+use Rattle.flat_session.specs.Reads.{IsNew, Makes, Reads, Stands, draft_so_far, made_by_line}
 use Rattle.flat_playable.specs.Playable.{rise_from}
 use Rattle.flat_play.specs.Playing.{ReaderStands}
 use Rattle.flat_play.proofs.lemmas.Growing.{Grows, grows, stays, is_quiet}

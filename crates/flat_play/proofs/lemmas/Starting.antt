@@ -25,9 +25,9 @@ use Rattle.flat_rules.specs.Ends.{has_view, views_of}
 use Rattle.flat_report.specs.declared.report.HitAnswer.{HitAnswer}
 use Rattle.flat_topology.specs.Shown.{Shown, state_of}
 use Rattle.flat_topology.specs.Members.{is_member}
-use Rattle.flat_stage.specs.declared.reader.Reader.{Reader}
-use Rattle.flat_stage.specs.Readings.{NoneIsRead}
-use Rattle.flat_stage.specs.Reads.{IsNew}
+use Rattle.flat_session.specs.declared.reader.Reader.{Reader}
+use Rattle.flat_session.specs.Readings.{NoneIsRead}
+use Rattle.flat_session.specs.Reads.{IsNew}
 use Rattle.flat_places.specs.declared.script.Script.{Script}
 use Rattle.flat_playable.specs.Playable.{rise_from, is_playable}
 use Rattle.flat_play.specs.declared.play.Play.{Play}

@@ -11,9 +11,9 @@ use Rattle.flat_scene.specs.Journals.{seat_number}
 use Rattle.flat_scene.specs.Interleave.{session_lines, session_line, last_line}
 use Rattle.flat_core.specs.Machines.{made}
 use Rattle.flat_places.specs.declared.script.Script.{Script}
-use Rattle.flat_stage.specs.declared.reader.Reader.{Reader}
-use Rattle.flat_stage.specs.Readings.{HasRead}
-use Rattle.flat_stage.specs.Reads.{Stands}
+use Rattle.flat_session.specs.declared.reader.Reader.{Reader}
+use Rattle.flat_session.specs.Readings.{HasRead}
+use Rattle.flat_session.specs.Reads.{Stands}
 use Rattle.flat_playable.specs.Playable.{rise_from, is_played, is_playable}
 use Rattle.flat_play.specs.Playing.{last_number, lines_by, ReaderStands, IsSpent, IsInOrder}
 use Rattle.flat_play.proofs.InOrder.{lines_rise, no_ends_more}

@@ -8,7 +8,7 @@ use Rattle.flat_scene.specs.Journals.{history_of}
 use Rattle.flat_rules.specs.Ends.{to_begin}
 use Rattle.flat_rules.specs.Legal.{frames}
 use Rattle.flat_report.specs.Report.{finished, frame_at}
-use Rattle.flat_stage.specs.Displays.{AreViewed}
+use Rattle.flat_core.specs.Views.{AreViewed}
 use Rattle.flat_stage.specs.Seats.{setup_of}
 use Rattle.flat_play.specs.Showing.{IsShown}
 use Rattle.flat_play.proofs.lemmas.FramesShown.{scaled}

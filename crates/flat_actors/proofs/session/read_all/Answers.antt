@@ -16,7 +16,7 @@ pub loop-i-init : goal.loop-i-init
 loop-i-init g c = record {
   place = 0;
   within = omega arith;
-  stands = fresh_stands c.lines_are_read.ensures.new c.args.lent.now.script.now c.args.lent.now.stage.now c.args.seat.now.session c.args.seat.now c.requires.fresh;
+  stands = fresh_stands c.new_seats_have_read.ensures c.args.lent.now.script.now c.args.lent.now.stage.now c.args.seat.now.session c.args.seat.now c.requires.fresh;
   are_left = c.requires.places;
 }
 

@@ -5,7 +5,7 @@ use Rattle.flat_scene.specs.Frames.{setup_at}
 use Rattle.flat_scene.specs.Setups.{at_ratio}
 use Rattle.flat_rules.specs.Ends.{to_begin}
 use Rattle.flat_rules.specs.Shown.{shown_states}
-use Rattle.flat_stage.specs.Displays.{AreViewed}
+use Rattle.flat_core.specs.Views.{AreViewed}
 use Rattle.flat_report.specs.Report.{frame_at}
 use Rattle.flat_play.proofs.lemmas.FramesShown.{scaled, shown_count, shown_fits, viewed}
 use Rattle.flat_judge.proofs.screen.compose_next.Goals as goal

@@ -1,5 +1,5 @@
 use Rattle.std.proofs.Common.{◌≡◌, ◌+◌, ℕ, List, refl, sym, subst, arith}
-use Rattle.flat_stage.specs.declared.reader.Reader.{Reader}
+use Rattle.flat_session.specs.declared.reader.Reader.{Reader}
 use Rattle.flat_play.specs.Playing.{AreNew}
 use Rattle.flat_play.proofs.lemmas.Starting.{is_numbered, new_more}
 use Rattle.flat_play.proofs.run.new_readers.Goals as goal

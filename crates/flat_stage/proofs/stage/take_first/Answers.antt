@@ -4,7 +4,8 @@ use Rattle.flat_stage.proofs.AtHome.{first_new, others_new}
 use Rattle.flat_stage.proofs.stage.take_first.Goals as goal
 
 pub returns-clause-seat : goal.returns-clause-seat
-returns-clause-seat c = first_new c.args.seats.now.lock c.args.seats.now.seats c.requires.new c.in-Some.seat c.requires.some (sym c.in-Some.is ∙ c.take.ensures.seat)
+returns-clause-seat c = first_new c.args.seats.now.lock c.args.seats.now.seats c.requires.new c.in-Some.seat c.requires.some
+    (sym c.in-Some.is ∙ c.take.ensures.seat)
 
 pub returns-clause-wide : goal.returns-clause-wide
 returns-clause-wide c = ap (λ s. length s.seats) c.take.ensures.away ∙ length-set c.args.seats.now.seats 0 None ∙ c.requires.new.wide

@@ -20,7 +20,7 @@ takes-first {T} time signalled was now first ready b is =
 pub loop-queued-preserved : goal.loop-queued-preserved
 loop-queued-preserved c =
     let first = c.in-Some.ensures.first in
-    let kept : WaitingPresent (Arc Snapshot Global) = record { item = c.in-Some.queued.item; args = c.in-Some.queued.args } in
+    let kept : WaitingPresent (Arc Snapshot Global) = c.in-Some.queued in
     let ready = takes-first c.args.time (has c.args.fences.now) c.loop-queued.state.queue.waiting c.take.new.self.waiting kept c.in-Some.ensures.ready false c.if-unsquashable.false in
     record {
       waiting = drop-next _ _ c.args.state.now.queue.waiting c.loop-queued.state.took (sym first.waiting ∙ c.loop-queued.invariant.waiting);
@@ -41,7 +41,7 @@ loop-queued-preserved c =
 pub returns-then-unsquashable : goal.returns-then-unsquashable
 returns-then-unsquashable c =
     let first = c.in-Some.ensures.first in
-    let kept : WaitingPresent (Arc Snapshot Global) = record { item = c.in-Some.queued.item; args = c.in-Some.queued.args } in
+    let kept : WaitingPresent (Arc Snapshot Global) = c.in-Some.queued in
     let ready = takes-first c.args.time (has c.args.fences.now) c.loop-queued.state.queue.waiting c.take.new.self.waiting kept c.in-Some.ensures.ready true c.if-unsquashable.true in
     record {
       took = omega (arith, ap length ready, c.loop-queued.invariant.took);

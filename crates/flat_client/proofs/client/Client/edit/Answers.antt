@@ -4,7 +4,7 @@ use Rattle.flat_base.specs.declared.ids.SessionNo.{SessionNo}
 use Rattle.flat_scene.specs.declared.script.Line.TheVariants as line
 use Rattle.flat_scene.specs.declared.setup.Setup.{Setup}
 use Rattle.flat_rules.specs.Owned.{is_played_call}
-use Rattle.flat_stage.specs.declared.reader.Edit.{Edit}
+use Rattle.flat_session.specs.declared.reader.Edit.{Edit}
 use Rattle.flat_stage.specs.Readings.{IsReadAlone, SeatEdits}
 use Rattle.flat_stage.specs.Seats.{SessionView, setup_of}
 use Rattle.flat_client.specs.Clients.{ClientView, IsFree, IsWaiting, may_say}

@@ -1,7 +1,7 @@
 use Rattle.std.proofs.Common.{◌≡◌, ◌+◌, ◌<◌, ℕ, length, get_or, refl, sym, ap, ◌∙◌, subst, arith, append-nil}
 use Rattle.flat_places.specs.declared.script.Script.{Script}
 use Rattle.flat_report.specs.Report.{finished}
-use Rattle.flat_stage.specs.declared.reader.Reader.{Reader}
+use Rattle.flat_session.specs.declared.reader.Reader.{Reader}
 use Rattle.flat_play.specs.declared.play.Play.{Play}
 use Rattle.flat_play.specs.Playing.{ReaderStands, EndsStand}
 use Rattle.flat_play.proofs.Ending.{end_share, end_stands, ends_more}

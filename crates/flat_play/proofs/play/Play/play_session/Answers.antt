@@ -7,7 +7,7 @@ use Rattle.flat_play.proofs.lemmas.PlaySteps.{below_declared, session_finishes, 
 use Rattle.flat_scene.specs.declared.script.Line.{Line}
 use Rattle.flat_core.specs.Machines.{HasShare}
 use Rattle.flat_rules.specs.Owned.{is_played_line}
-use Rattle.flat_stage.specs.Reads.{Reads, Stands}
+use Rattle.flat_session.specs.Reads.{Reads, Stands}
 use Rattle.flat_play.proofs.lemmas.Places.{here}
 use Rattle.flat_play.proofs.lemmas.Readers.{on_board, reader_grows, reader_more, reader_owns}
 use Rattle.flat_play.proofs.lemmas.Steps.{at_place}

@@ -2,18 +2,20 @@ use Rattle.std.proofs.Common.{sym, refl, ◌+◌, Some, None, [], ◌∷◌, ◌
 use Rattle.flat_scene.specs.declared.journal.Entry.{Entry}
 use Rattle.flat_scene.specs.declared.setup.Setup.{Setup}
 use Rattle.flat_scene.specs.Journals.{history_of}
-use Rattle.flat_stage.specs.declared.made.Made.{Made}
-use Rattle.flat_stage.specs.declared.reader.Reader.{Reader}
-use Rattle.flat_stage.specs.Made.{kind_of, takes_memory}
+use Rattle.flat_session.specs.declared.made.Made.{Made}
+use Rattle.flat_session.specs.declared.reader.Reader.{Reader}
+use Rattle.flat_session.specs.Made.{kind_of, takes_memory}
 use Rattle.flat_rules.specs.Owned.{is_played_line}
-use Rattle.flat_stage.specs.Reads.{Tells, Stands, kept_calls, viewport_call, draft_so_far}
+use Rattle.flat_session.specs.Reads.{Tells, Stands, kept_calls, viewport_call, draft_so_far}
 use Rattle.flat_stage.specs.Seats.{Seat, SessionView, SessionEnters, SessionReads, SeatSeesMore, SeesMore, session_view, setup_of, is_ended, HasRoom, shares_of}
 use Rattle.flat_scene.specs.Interleave.{entry_of_line}
 use Rattle.flat_stage.specs.Readings.{SeatHasRead}
-use Rattle.flat_stage.proofs.Following.{waits_more, refused_more, seat_enters_more}
+use Rattle.flat_stage.proofs.SeatReadings.{seat_enters_more}
+use Rattle.flat_session.proofs.lemmas.Following.{waits_more, refused_more}
 use Rattle.flat_stage.proofs.Going.{goes_on}
-use Rattle.flat_stage.proofs.Sitting.{if_ok, on_err_three, reads_line, view_kept, at_one_same, enters_line}
-use Rattle.flat_stage.proofs.Standing.{was, so_far, is_ready, stands_waiting, kept_line}
+use Rattle.flat_stage.proofs.Sitting.{reads_line, view_kept, at_one_same, enters_line}
+use Rattle.flat_session.proofs.lemmas.Outcomes.{if_ok, on_err_three}
+use Rattle.flat_session.proofs.lemmas.Standing.{was, so_far, is_ready, stands_waiting, kept_line}
 use Rattle.flat_base.specs.declared.ids.SessionNo.{SessionNo}
 use Rattle.std.specs.Prelude.{slice_index}
 use Rattle.flat_stage.proofs.session.SessionSeat.call.Goals as goal
@@ -26,7 +28,8 @@ invariant_of-self-in-None g c =
     let setup : Setup = setup_of seat.lock in
     let mine : List Entry = history_of seat.mine in
     let stands : Stands setup mine reader = c.self.invariant.stands (ap (λ (v : SessionView). is_ended v.mine) c.self.view_is ∙ c.requires.unended) in
-    let owned : is_played_line setup reader.session c.args.text ≡ true = ap (λ (v : SessionView). is_played_line (setup_of v.stage) v.session c.args.text) c.self.view_is ∙ c.requires.owned in
+    let owned : is_played_line setup reader.session c.args.text ≡ true =
+    ap (λ (v : SessionView). is_played_line (setup_of v.stage) v.session c.args.text) c.self.view_is ∙ c.requires.owned in
     let before = was setup mine c.args.text reader judged stands c.if-self.false in
     let T : Option Made → Type 0 = Tells setup reader.session before.draft c.args.text judged.draft in
     let tells = subst T c.in-None.is (c.in_ok-judge.ensures.tells setup before.draft before.stands owned) in
@@ -43,7 +46,8 @@ enter-requires-clause-ready g c =
     let setup : Setup = setup_of seat.lock in
     let mine : List Entry = history_of seat.mine in
     let stands : Stands setup mine reader = c.self.invariant.stands (ap (λ (v : SessionView). is_ended v.mine) c.self.view_is ∙ c.requires.unended) in
-    let owned : is_played_line setup reader.session c.args.text ≡ true = ap (λ (v : SessionView). is_played_line (setup_of v.stage) v.session c.args.text) c.self.view_is ∙ c.requires.owned in
+    let owned : is_played_line setup reader.session c.args.text ≡ true =
+    ap (λ (v : SessionView). is_played_line (setup_of v.stage) v.session c.args.text) c.self.view_is ∙ c.requires.owned in
     let before = was setup mine c.args.text reader judged stands c.if-self.false in
     let T : Option Made → Type 0 = Tells setup reader.session before.draft c.args.text judged.draft in
     let tells = subst T c.in-Some.is (c.in_ok-judge.ensures.tells setup before.draft before.stands owned) in
@@ -57,7 +61,8 @@ returns-in-Some-clause-reads g c =
     let setup : Setup = setup_of seat.lock in
     let mine : List Entry = history_of seat.mine in
     let stands : Stands setup mine reader = c.self.invariant.stands (ap (λ (v : SessionView). is_ended v.mine) c.self.view_is ∙ c.requires.unended) in
-    let owned : is_played_line setup reader.session c.args.text ≡ true = ap (λ (v : SessionView). is_played_line (setup_of v.stage) v.session c.args.text) c.self.view_is ∙ c.requires.owned in
+    let owned : is_played_line setup reader.session c.args.text ≡ true =
+    ap (λ (v : SessionView). is_played_line (setup_of v.stage) v.session c.args.text) c.self.view_is ∙ c.requires.owned in
     let before = was setup mine c.args.text reader judged stands c.if-self.false in
     let T : Option Made → Type 0 = Tells setup reader.session before.draft c.args.text judged.draft in
     let tells = subst T c.in-Some.is (c.in_ok-judge.ensures.tells setup before.draft before.stands owned) in
@@ -66,8 +71,10 @@ returns-in-Some-clause-reads g c =
     let after : Reader = c.enter.new.reader in
     let V : SessionView → Type 0 = λ v. IfOk c.enter.result (λ reply. SessionReads c.args.number c.args.text reply v (session_view given after) v.closed) in
     subst V c.self.view_is
-    (if_ok (λ reply. SessionEnters c.args.number judged.pending (kind_of one) reply (session_view seat judged) (session_view given after)) (λ reply. SessionReads c.args.number c.args.text reply (session_view seat reader) (session_view given after) reader.closed) c.enter.result
-    (λ reply enters. reads_line seat given reader judged after c.args.number c.args.text before.draft one reply c.if-self.false c.in_ok-judge.ensures.rest (so_far setup mine c.args.text reader judged stands c.if-self.false) tells enters)
+    (if_ok (λ reply. SessionEnters c.args.number judged.pending (kind_of one) reply (session_view seat judged) (session_view given after))
+    (λ reply. SessionReads c.args.number c.args.text reply (session_view seat reader) (session_view given after) reader.closed) c.enter.result
+    (λ reply enters. reads_line seat given reader judged after c.args.number c.args.text before.draft one reply c.if-self.false c.in_ok-judge.ensures.rest
+    (so_far setup mine c.args.text reader judged stands c.if-self.false) tells enters)
     c.enter.ensures.enters)
 
 pub returns-in-Some-clause-kept : goal.returns-in-Some-clause-kept
@@ -78,7 +85,8 @@ returns-in-Some-clause-kept g c =
     let setup : Setup = setup_of seat.lock in
     let mine : List Entry = history_of seat.mine in
     let stands : Stands setup mine reader = c.self.invariant.stands (ap (λ (v : SessionView). is_ended v.mine) c.self.view_is ∙ c.requires.unended) in
-    let owned : is_played_line setup reader.session c.args.text ≡ true = ap (λ (v : SessionView). is_played_line (setup_of v.stage) v.session c.args.text) c.self.view_is ∙ c.requires.owned in
+    let owned : is_played_line setup reader.session c.args.text ≡ true =
+    ap (λ (v : SessionView). is_played_line (setup_of v.stage) v.session c.args.text) c.self.view_is ∙ c.requires.owned in
     let before = was setup mine c.args.text reader judged stands c.if-self.false in
     let T : Option Made → Type 0 = Tells setup reader.session before.draft c.args.text judged.draft in
     let tells = subst T c.in-Some.is (c.in_ok-judge.ensures.tells setup before.draft before.stands owned) in
@@ -87,13 +95,16 @@ returns-in-Some-clause-kept g c =
     let after : Reader = c.enter.new.reader in
     let V : SessionView → Type 0 = λ v. OnErr c.enter.result (SeesMore v (session_view given after)) in
     subst V c.self.view_is
-    (on_err_three (SeatSeesMore seat given) (takes_memory one ≡ true) (after ≡ record judged { pending = kept_calls (viewport_call one) judged.pending }) (SeesMore (session_view seat reader) (session_view given after)) c.enter.result
-    (λ sees takes kept. view_kept seat given reader after sees (kept_line setup c.args.text reader judged after before.draft one c.in_ok-judge.ensures.rest tells takes kept))
+    (on_err_three (SeatSeesMore seat given) (takes_memory one ≡ true) (after ≡ record judged { pending = kept_calls (viewport_call one) judged.pending })
+    (SeesMore (session_view seat reader) (session_view given after)) c.enter.result
+    (λ sees takes kept. view_kept seat given reader after sees
+    (kept_line setup c.args.text reader judged after before.draft one c.in_ok-judge.ensures.rest tells takes kept))
     c.enter.ensures.sees c.enter.ensures.only c.enter.ensures.kept)
 
 pub returns-in-Some-clause-goes_on : goal.returns-in-Some-clause-goes_on
 returns-in-Some-clause-goes_on g c =
-    goes_on c.args.self.now (session_view c.enter.new.seat c.enter.new.reader) c.args.number c.args.text c.enter.result (returns-in-Some-clause-reads g c) (returns-in-Some-clause-kept g c)
+    goes_on c.args.self.now (session_view c.enter.new.seat c.enter.new.reader) c.args.number c.args.text c.enter.result (returns-in-Some-clause-reads g c)
+    (returns-in-Some-clause-kept g c)
 
 pub returns-in-None-clause-follows : goal.returns-in-None-clause-follows
 returns-in-None-clause-follows g c = λ given has.
@@ -103,14 +114,17 @@ returns-in-None-clause-follows g c = λ given has.
     let setup : Setup = setup_of seat.lock in
     let mine : List Entry = history_of seat.mine in
     let stands : Stands setup mine reader = c.self.invariant.stands (ap (λ (v : SessionView). is_ended v.mine) c.self.view_is ∙ c.requires.unended) in
-    let owned : is_played_line setup reader.session c.args.text ≡ true = ap (λ (v : SessionView). is_played_line (setup_of v.stage) v.session c.args.text) c.self.view_is ∙ c.requires.owned in
+    let owned : is_played_line setup reader.session c.args.text ≡ true =
+    ap (λ (v : SessionView). is_played_line (setup_of v.stage) v.session c.args.text) c.self.view_is ∙ c.requires.owned in
     let before = was setup mine c.args.text reader judged stands c.if-self.false in
     let so : draft_so_far setup mine reader.pending ≡ before.draft = so_far setup mine c.args.text reader judged stands c.if-self.false in
     let T : Option Made → Type 0 = Tells setup reader.session before.draft c.args.text judged.draft in
     let tells = subst T c.in-None.is (c.in_ok-judge.ensures.tells setup before.draft before.stands owned) in
     let V : SessionView → Type 0 = SeatHasRead given in
-    let none : entry_of_line setup (draft_so_far setup mine reader.pending) c.args.text ≡ None = ap (λ d. entry_of_line setup d c.args.text) so ∙ sym tells.kind in
-    waits_more setup given c.args.number c.args.text mine reader judged (subst V (sym c.self.view_is) has) c.if-self.false before.draft before.made none c.in_ok-judge.ensures.rest
+    let none : entry_of_line setup (draft_so_far setup mine reader.pending) c.args.text ≡ None =
+    ap (λ d. entry_of_line setup d c.args.text) so ∙ sym tells.kind in
+    waits_more setup given c.args.number c.args.text mine reader judged (subst V (sym c.self.view_is) has) c.if-self.false before.draft before.made none
+    c.in_ok-judge.ensures.rest
 
 pub returns-in-Some-clause-follows : goal.returns-in-Some-clause-follows
 returns-in-Some-clause-follows g c = λ given has.
@@ -120,7 +134,8 @@ returns-in-Some-clause-follows g c = λ given has.
     let setup : Setup = setup_of seat.lock in
     let mine : List Entry = history_of seat.mine in
     let stands : Stands setup mine reader = c.self.invariant.stands (ap (λ (v : SessionView). is_ended v.mine) c.self.view_is ∙ c.requires.unended) in
-    let owned : is_played_line setup reader.session c.args.text ≡ true = ap (λ (v : SessionView). is_played_line (setup_of v.stage) v.session c.args.text) c.self.view_is ∙ c.requires.owned in
+    let owned : is_played_line setup reader.session c.args.text ≡ true =
+    ap (λ (v : SessionView). is_played_line (setup_of v.stage) v.session c.args.text) c.self.view_is ∙ c.requires.owned in
     let before = was setup mine c.args.text reader judged stands c.if-self.false in
     let so : draft_so_far setup mine reader.pending ≡ before.draft = so_far setup mine c.args.text reader judged stands c.if-self.false in
     let T : Option Made → Type 0 = Tells setup reader.session before.draft c.args.text judged.draft in
@@ -129,9 +144,12 @@ returns-in-Some-clause-follows g c = λ given has.
     let then : Seat = c.enter.new.seat in
     let after : Reader = c.enter.new.reader in
     let V : SessionView → Type 0 = SeatHasRead given in
-    let some : entry_of_line setup (draft_so_far setup mine reader.pending) c.args.text ≡ Some (kind_of one) = ap (λ d. entry_of_line setup d c.args.text) so ∙ sym tells.kind in
-    if_ok (λ reply. SessionEnters c.args.number judged.pending (kind_of one) reply (session_view seat judged) (session_view then after)) (λ reply. SeatHasRead (given ++ (c.args.number, c.args.text) ∷ []) (session_view then after)) c.enter.result
-    (λ reply enters. seat_enters_more given c.args.number c.args.text then seat reader after (kind_of one) reply (subst V (sym c.self.view_is) has) c.if-self.false before.none_refused (stands.closed ∙ c.if-self.false) some
+    let some : entry_of_line setup (draft_so_far setup mine reader.pending) c.args.text ≡ Some (kind_of one) =
+    ap (λ d. entry_of_line setup d c.args.text) so ∙ sym tells.kind in
+    if_ok (λ reply. SessionEnters c.args.number judged.pending (kind_of one) reply (session_view seat judged) (session_view then after))
+    (λ reply. SeatHasRead (given ++ (c.args.number, c.args.text) ∷ []) (session_view then after)) c.enter.result
+    (λ reply enters. seat_enters_more given c.args.number c.args.text then
+    seat reader after (kind_of one) reply (subst V (sym c.self.view_is) has) c.if-self.false before.none_refused (stands.closed ∙ c.if-self.false) some
     (enters_line seat then reader judged after c.args.number c.args.text before.draft (kind_of one) reply c.in_ok-judge.ensures.rest enters))
     c.enter.ensures.enters
 
@@ -140,19 +158,26 @@ returns-then-self-clause-follows g c = λ given has.
     let seat : Seat = c.self.inside.seat in
     let reader : Reader = c.self.inside.reader in
     let V : SessionView → Type 0 = SeatHasRead given in
-    refused_more (setup_of seat.lock) given c.args.number c.args.text (history_of seat.mine) reader (record reader { refused = reader.refused + 1 }) (subst V (sym c.self.view_is) has) c.if-self.true refl
+    refused_more (setup_of seat.lock) given c.args.number c.args.text (history_of seat.mine) reader (record reader { refused = reader.refused + 1 })
+    (subst V (sym c.self.view_is) has) c.if-self.true refl
 
 pub judge-requires-clause-stands : goal.judge-requires-clause-stands
-judge-requires-clause-stands g c = let opened = (c.self.invariant.stands (ap (λ (v : SessionView). is_ended v.mine) c.self.view_is ∙ c.requires.unended)).when_open c.if-self.false in (setup_of c.self.inside.seat.lock, (opened.draft, opened.stands))
+judge-requires-clause-stands g c = let opened = (c.self.invariant.stands
+    (ap (λ (v : SessionView). is_ended v.mine) c.self.view_is ∙ c.requires.unended)).when_open c.if-self.false in
+    (setup_of c.self.inside.seat.lock, (opened.draft, opened.stands))
 
 pub judge-requires-clause-opened : goal.judge-requires-clause-opened
-judge-requires-clause-opened g c = ((c.self.invariant.stands (ap (λ (v : SessionView). is_ended v.mine) c.self.view_is ∙ c.requires.unended)).when_open c.if-self.false).still_open
+judge-requires-clause-opened g c = ((c.self.invariant.stands (ap (λ (v : SessionView). is_ended v.mine) c.self.view_is ∙ c.requires.unended)).when_open
+    c.if-self.false).still_open
 
 pub enter-requires-clause-own : goal.enter-requires-clause-own
 enter-requires-clause-own g c = ap (λ (v : SessionView). v.stage) c.self.view_is ∙ c.requires.own
 
 pub enter-requires-clause-one : goal.enter-requires-clause-one
-enter-requires-clause-one g c = at_one_same c.self.inside.seat c.self.inside.reader c.judge.new.self c.self.invariant.at_one (ap (λ (r : Reader). r.session) c.in_ok-judge.ensures.rest)
+enter-requires-clause-one g c = at_one_same c.self.inside.seat c.self.inside.reader c.judge.new.self c.self.invariant.at_one
+    (ap (λ (r : Reader). r.session) c.in_ok-judge.ensures.rest)
 
 pub enter-requires-clause-room : goal.enter-requires-clause-room
-enter-requires-clause-room g c = let R : SessionNo → Type 0 = λ s. length c.self.inside.seat.mine < slice_index (shares_of c.self.inside.seat.lock) s.0 in subst R (sym (ap (λ (r : Reader). r.session) c.in_ok-judge.ensures.rest)) (subst HasRoom (sym c.self.view_is) c.requires.room)
+enter-requires-clause-room g c = let R : SessionNo → Type 0 =
+    λ s. length c.self.inside.seat.mine < slice_index (shares_of c.self.inside.seat.lock) s.0 in
+    subst R (sym (ap (λ (r : Reader). r.session) c.in_ok-judge.ensures.rest)) (subst HasRoom (sym c.self.view_is) c.requires.room)

@@ -4,13 +4,13 @@ use Rattle.flat_scene.specs.declared.journal.Reply.TheVariants.{Closed}
 use Rattle.flat_scene.specs.declared.setup.Setup.{Setup}
 use Rattle.flat_scene.specs.Journals.{history_of}
 use Rattle.flat_rules.specs.Owned.{is_played_line}
-use Rattle.flat_stage.specs.declared.reader.Reader.{Reader}
+use Rattle.flat_session.specs.declared.reader.Reader.{Reader}
 use Rattle.flat_stage.specs.Readings.{IsReadAlone, SeatEdits}
-use Rattle.flat_stage.specs.Reads.{Edits, Stands}
+use Rattle.flat_session.specs.Reads.{Edits, Stands}
 use Rattle.flat_stage.specs.Seats.{Seat, SessionView, is_ended, session_view, setup_of}
 use Rattle.flat_stage.proofs.Editing.{edited_one, read_closed, seat_edits}
-use Rattle.flat_stage.proofs.Sitting.{if_ok}
-use Rattle.flat_stage.proofs.Standing.{was}
+use Rattle.flat_session.proofs.lemmas.Outcomes.{if_ok}
+use Rattle.flat_session.proofs.lemmas.Standing.{was}
 use Rattle.flat_stage.proofs.session.SessionSeat.edit.Goals as goal
 
 pub returns-then-self-clause-edits : goal.returns-then-self-clause-edits
@@ -28,7 +28,8 @@ invariant_of-self-2 c =
     let setup : Setup = setup_of seat.lock in
     let mine : List Entry = history_of seat.mine in
     let stands : Stands setup mine reader = c.self.invariant.stands (ap (λ (v : SessionView). is_ended v.mine) c.self.view_is ∙ c.requires.unended) in
-    let owned : is_played_line setup reader.session c.args.text ≡ true = ap (λ (v : SessionView). is_played_line (setup_of v.stage) v.session c.args.text) c.self.view_is ∙ c.requires.owned in
+    let owned : is_played_line setup reader.session c.args.text ≡ true =
+    ap (λ (v : SessionView). is_played_line (setup_of v.stage) v.session c.args.text) c.self.view_is ∙ c.requires.owned in
     let before = was setup mine c.args.text reader after stands c.if-self.false in
     edited_one seat reader after c.args.text stands c.if-self.false c.edit.result c.self.invariant.at_one owned
     (c.edit.ensures.edits setup before.draft before.stands owned) c.edit.ensures.same
@@ -41,7 +42,8 @@ returns-clause-edits c =
     let setup : Setup = setup_of seat.lock in
     let mine : List Entry = history_of seat.mine in
     let stands : Stands setup mine reader = c.self.invariant.stands (ap (λ (v : SessionView). is_ended v.mine) c.self.view_is ∙ c.requires.unended) in
-    let owned : is_played_line setup reader.session c.args.text ≡ true = ap (λ (v : SessionView). is_played_line (setup_of v.stage) v.session c.args.text) c.self.view_is ∙ c.requires.owned in
+    let owned : is_played_line setup reader.session c.args.text ≡ true =
+    ap (λ (v : SessionView). is_played_line (setup_of v.stage) v.session c.args.text) c.self.view_is ∙ c.requires.owned in
     let before = was setup mine c.args.text reader after stands c.if-self.false in
     let V : SessionView → Type 0 = λ v. IfOk c.edit.result (SeatEdits c.args.text v (session_view seat after)) in
     subst V c.self.view_is

@@ -1,0 +1,4 @@
+mod Beginning
+mod Editing
+mod Ending
+pub mod lemmas
