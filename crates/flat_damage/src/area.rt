@@ -1,4 +1,4 @@
-ghost use Rattle.std.specs.Prelude.{◌≡◌, ◌<◌, ◌≤◌, ℕ, IsTrue, false};
+ghost use Rattle.std.specs.Prelude.{◌≡◌, ◌<◌, ◌≤◌, ℕ, IsTrue, false, true};
 ghost use Rattle.flat_geom.specs.Rectangles.{has_point};
 ghost use Rattle.flat_render.specs.Areas.{has_pixel};
 ghost use Rattle.flat_render.specs.Damaged.{is_in_any};
@@ -31,22 +31,25 @@ pub fn area_of(rect: Rect, w: u32, h: u32) -> Area
 
 /// Whether an area has no pixel in the rows from one up to another.
 fn is_apart(area: Area, from: u32, upto: u32) -> bool
-    ensures { IsTrue result → (px py : ℕ) → from ≤ py → py < upto → has_pixel area px py ≡ false }
+    ensures none { IsTrue result → (px py : ℕ) → from ≤ py → py < upto → has_pixel area px py
+        ≡ false }
+    ensures some { result ≡ false → (px : ℕ) × (py : ℕ) × (from ≤ py) × (py < upto)
+        × (px < area.x1) × (has_pixel area px py ≡ true) }
 {
-    if area.x0 >= area.x1 {
-        return true;
-    }
-    area.y1 <= from as usize || area.y0 >= upto as usize
+    let (top, bottom) = (area.y0.max(from as usize), area.y1.min(upto as usize));
+    area.x0 >= area.x1 || top >= bottom
 }
 
 /// Whether the damage has the centre of no pixel in the rows of a display from one up to another.
-/// Such rows need no new drawing. If it says no, some of them may need one.
+/// Such rows need no new drawing.
 pub fn is_beside(rects: &[Rect], w: u32, h: u32, from: u32, upto: u32) -> bool
     requires w { w ≤ PIXELS_MAX }
     requires h { h ≤ PIXELS_MAX }
     requires rows { upto ≤ h }
-    ensures { IsTrue result → (px py : ℕ) → px < w → from ≤ py → py < upto →
+    ensures none { IsTrue result → (px py : ℕ) → px < w → from ≤ py → py < upto →
         is_in_any rects.now px py ≡ false }
+    ensures some { result ≡ false → (px : ℕ) × (py : ℕ) × (px < w) × (from ≤ py) × (py < upto)
+        × (is_in_any rects.now px py ≡ true) }
 {
     for rect in rects {
         if !is_apart(area_of(*rect, w, h), from, upto) {

@@ -1,9 +1,9 @@
 -- Rows of tiles, drawn by the items that are seen there.
-use Rattle.std.proofs.Common.{ℕ, ◌+◌, ◌*◌, ◌/◌, ◌%◌, ◌^◌, ◌<◌, ◌≤◌, ◌≡◌, refl, ap, ◌∙◌, sym, true, false, List, [], ◌∷◌, ◌++◌, length, get_or, take, drop, arith}
+use Rattle.std.proofs.Common.{ℕ, ◌+◌, ◌*◌, ◌/◌, ◌^◌, ◌<◌, ◌≤◌, ◌≡◌, refl, ap, ◌∙◌, sym, true, false, List, [], ◌∷◌, ◌++◌, length, get_or, take, drop, arith}
 use Rattle.std.proofs.lemmas.List.{get_or-take, get_or-drop, length-take, length-drop}
 use Rattle.std.proofs.lemmas.List.Elements.{All-nil, All-cons, All-append}
 use Rattle.std.proofs.lemmas.Grind.{fold-append}
-use Rattle.std.proofs.lemmas.Nat.{div-mul-add, mod-mul-add, div-add-mod', mul-add-lt, mul-le, row_fits}
+use Rattle.std.proofs.lemmas.Nat.{div-mul-add, mod-mul-add, mul-add-lt, mul-le, row_fits}
 use Rattle.flat_drawable.specs.Drawable.{IsDrawable}
 use Rattle.flat_scene.specs.declared.frames.DrawItem.{DrawItem}
 use Rattle.flat_render.specs.Areas.{has_pixel}
@@ -18,7 +18,6 @@ use Rattle.flat_render.specs.declared.grid.Grid.{Grid}
 use Rattle.flat_render.specs.declared.tile.Tile.{Tile}
 use Rattle.flat_render.proofs.Items.{after-more, tile-has-byte}
 use Rattle.flat_render.proofs.Planes.{some-pixels}
-use Rattle.flat_render.proofs.Places.{some-byte}
 
 step-none : (c : ℕ) (item : DrawItem) (px py was : ℕ) → covers item px py ≡ false → channel_step c item px py was ≡ was
 step-none c item px py was e = rw e refl
@@ -71,9 +70,6 @@ part-black a z bytes black fits k small =
     get_or-take z (drop a bytes) k 0 (omega (arith, len)) ∙ get_or-drop a bytes k 0 ∙ black (a + k) (omega (arith, len))
 
 -- how many bytes a row of tiles has, and how many rows there are
-pub some-band : (g : Grid) → IsGrid g → 0 < band_bytes g
-some-band g is = omega (arith, mul-le 1 1 g.across (tile_bytes g) (omega (arith, is.some)) (omega (arith, some-byte g is)))
-
 pub band-most : (g : Grid) → IsGrid g → band_bytes g < 2 ^ 36
 band-most g is =
     let most : (g.across * g.tile_w) * g.tile_h ≤ 2 ^ 28 * 64 = mul-le (g.across * g.tile_w) g.tile_h (2 ^ 28) 64 (omega (arith, is.most_right)) is.low in
@@ -99,12 +95,6 @@ tile-in-grid g n s all is there size whole =
     let fits : n * s + s ≤ tile_count g * s = row_fits n s (tile_count g) s there (omega arith) in
     let same : tile_count g * s ≡ grid_bytes g = ap (λ (m : ℕ). tile_count g * m) size in
     (omega (arith, fits, same), omega (arith, is.most))
-
--- where a chunk begins
-pub chunk-start : (s z start offset i : ℕ) → z ≡ s → start % z ≡ 0 → start + offset ≡ i → start / z * s + offset ≡ i
-chunk-start s z start offset i e whole place =
-    let at : start / z * z + start % z ≡ start = div-add-mod' start z in
-    ap (λ (n : ℕ). start / z * n + offset) (sym e) ∙ omega (arith, at, whole, place)
 
 -- the bytes of a row of tiles end within those that are stored, which a number holds
 pub band-in-grid : (g : Grid) (row size all : ℕ) → IsGrid g → row < g.down → size ≡ band_bytes g → all ≡ grid_bytes g → (row * size + size ≤ all) × (all < 2 ^ 28)

@@ -1,9 +1,8 @@
 -- Tiles as chunks of what is stored.
-use Rattle.std.proofs.Common.{ℕ, ◌+◌, ◌-◌, ◌*◌, ◌/◌, ◌%◌, ◌<◌, ◌≤◌, ◌≡◌, refl, ap, ◌∙◌, sym, subst, Bool, if◌then◌else◌, List, length, get_or, take, drop, arith}
+use Rattle.std.proofs.Common.{ℕ, ◌+◌, ◌-◌, ◌*◌, ◌/◌, ◌<◌, ◌≤◌, ◌≡◌, refl, ap, ◌∙◌, sym, Bool, if◌then◌else◌, List, length, get_or, take, drop, arith}
 use Rattle.std.proofs.lemmas.Bool.{cases_lt}
 use Rattle.std.proofs.lemmas.List.{length-take, length-drop, get_or-take, get_or-drop}
-use Rattle.std.proofs.lemmas.Nat.{div-mul-add, mod-mul-add, div_below}
-use Rattle.std.specs.Fork.{IsChunk}
+use Rattle.std.proofs.lemmas.Nat.{div-mul-add, mod-mul-add}
 use borrow.Rule.Slice.PartMut.{put_mid}
 use Rattle.flat_scene.specs.declared.frames.DrawItem.{DrawItem}
 use Rattle.flat_render.specs.Grids.{tile_of, tile_bytes}
@@ -12,20 +11,6 @@ use Rattle.flat_render.specs.Tiles.{x_at, y_at}
 use Rattle.flat_render.specs.declared.grid.Grid.{Grid}
 use Rattle.flat_render.specs.declared.tile.Tile.{Tile}
 use Rattle.flat_render.proofs.Rows.{either, put-before, put-inside, put-after}
-
--- a chunk of whole chunks is one of so many
-pub chunk-there : (xs ys : List ℕ) (s n start : ℕ) → 0 < s → length xs ≡ n * s → IsChunk xs s start ys → start / s < n
-chunk-there xs ys s n start some all chunk = div_below start s n some (omega (arith, chunk.in_bounds, chunk.nonempty, all))
-
--- and whole
-pub chunk-whole : (xs ys : List ℕ) (s n start : ℕ) → 0 < s → length xs ≡ n * s → IsChunk xs s start ys → length ys ≡ s
-chunk-whole xs ys s n start some all chunk =
-    let e : n * s + 0 ≡ length xs = omega (arith, all) in
-    chunk.full_size (subst (λ (m : ℕ). m % s ≡ 0) e (mod-mul-add n s 0 some))
-
--- a chunk of what is black is black
-pub chunk-black : (xs ys : List ℕ) (s start : ℕ) → ((i : ℕ) → i < length xs → get_or xs i 0 ≡ 0) → IsChunk xs s start ys → (m : ℕ) → m < length ys → get_or ys m 0 ≡ 0
-chunk-black xs ys s start black chunk m small = chunk.elements m 0 small ∙ black (start + m) (omega (arith, chunk.in_bounds))
 
 -- the pixels of the first n tiles are changed by h, and the others are as they were
 pub record IsRepaintedTo (h : ℕ → ℕ → ℕ) (s : ℕ) (old pixels : List ℕ) (n : ℕ) : Type 0 where

@@ -22,6 +22,8 @@ pub mod Bands
 pub mod Runs
 pub mod Rendered
 pub mod RowsOf
+pub mod StripSteps
+pub mod SpanSteps
 pub mod RowWords
 pub mod Wholes
 pub mod Steps

@@ -12,6 +12,8 @@ pub mod Grids
 pub mod Tiles
 pub mod Inks
 pub mod Preparing
+pub mod Plans
 pub mod Stored
+pub mod Strips
 pub mod Rows
 pub mod Bands

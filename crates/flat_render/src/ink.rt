@@ -76,6 +76,9 @@ pub fn wash_ends(s: u8, count: usize, line: &mut [u8])
         line[i] = s;
     }
     let rest = line.len() - count;
+    if rest == 0 {
+        return;
+    }
     for i in 0..count {
         line[rest + i] = s;
     }
@@ -125,6 +128,9 @@ pub fn copy_ends(values: &[u8], count: usize, line: &mut [u8])
     let rest = line.len() - count;
     let front = &mut line[..count];
     front.copy_from_slice(&values[..count]);
+    if rest == 0 {
+        return;
+    }
     let back = &mut line[rest..];
     back.copy_from_slice(&values[rest..rest + count]);
 }

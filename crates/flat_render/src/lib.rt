@@ -6,8 +6,9 @@
 //! A picture is drawn by rows of tiles (band), each tile by the items that may be seen there
 //! (chosen). What an item gives all tiles is found once (prepared) and laid on each (laying,
 //! stamp). Any other image is drawn channel by channel (brush, texture, ink), row by row (plane).
-//! `Picture::write_row` (words) and `ppm_of` (ppm) hand the colours out; `render_ppm` (rendering)
-//! makes the bytes at once where no picture is needed. proofs/lemmas speaks of these bytes.
+//! Threads share the rows of tiles out by their work (plan, spans). `Picture::write_row` (words)
+//! and `ppm_of` (ppm) hand the colours out; `render_strips` (rendering) makes the bytes without a
+//! picture (strips, parts). proofs/lemmas speaks of these bytes.
 #![tactic(auto)]
 
 mod area;
@@ -20,13 +21,17 @@ mod drawing;
 mod grid;
 mod ink;
 mod laying;
+mod parts;
 mod picture;
+mod plan;
 mod plane;
 mod ppm;
 mod prepared;
 mod rendering;
 mod sorting;
+mod spans;
 mod stamp;
+mod strips;
 mod texture;
 mod tile;
 mod words;
@@ -36,4 +41,5 @@ pub use colour::texel;
 pub use grid::PIXELS_MAX;
 pub use picture::Picture;
 pub use ppm::{ppm_head, ppm_of, ppm_rows};
-pub use rendering::{is_too_large, render, render_ppm};
+pub use rendering::{is_too_large, render, render_strips};
+pub use strips::Strip;

@@ -1,22 +1,60 @@
-ghost use Rattle.std.specs.Prelude.{◌≡◌, ◌*◌, ◌<◌, ◌≤◌, ◌↔◌, ◌++◌, All, IfOk, IsTrue, OnOk};
+ghost use Rattle.std.specs.Prelude.{◌≡◌, ◌*◌, ◌<◌, ◌≤◌, ◌↔◌, All, IfOk, IsTrue};
+ghost use Rattle.std.specs.Arc.{arc_value};
+ghost use Rattle.std.specs.List.{flat_map};
 ghost use Rattle.flat_drawable.specs.Drawable.{IsDrawable};
-ghost use Rattle.flat_render.specs.Grids.{IsGrid};
 ghost use Rattle.flat_render.specs.Pixels.{pixel};
 ghost use Rattle.flat_render.specs.Pictures.{Shows};
 ghost use Rattle.flat_render.specs.Ppm.{ppm_bytes};
-ghost use Rattle.flat_render.specs.Preparing.{ArePrepared};
-ghost use Rattle.flat_render.specs.Rows.{rows_bytes};
 
-use crate::band::draw_band;
-use crate::drawing::{draw_here, draw_tiles, is_light, pieces_for};
-use crate::grid::{Grid, PIXELS_MAX, bytes_of_bands, grid_for, stored};
+use crate::grid::{PIXELS_MAX, grid_for, stored};
+use crate::parts::all_strips;
 use crate::picture::Picture;
-use crate::ppm::{ppm_of, push_band, start_ppm};
-use crate::prepared::{Prepared, prepare_all};
-use flat_base::NoMemory;
-use flat_scene::{DrawItem, ItemList};
+use crate::plan::{Plan, Span, THREADS_MAX, threads_for, works_for};
+use crate::ppm::ppm_head;
+use crate::prepared::prepare_all;
+use crate::spans::draw_span;
+use crate::strips::Strip;
+use flat_base::{Items, NoMemory};
+use flat_scene::ItemList;
 use std::alloc::Global;
+use std::sync::Arc;
 use std::thread::Threads;
+
+/// How many rows of tiles a picture's bytes have at least, if few items are drawn and it is high
+/// enough: the lower a strip is, the more of them look like the one before.
+const STRIPS: usize = 32;
+
+/// For so many items low tiles cost little more than high ones.
+const FEW: usize = 32;
+
+/// Of which number the rows of tiles are a multiple. Many items lie on fewer tiles where these are
+/// high.
+fn step_for(threads: usize) -> usize
+    requires some { 0 < threads }
+    requires few { threads ≤ THREADS_MAX }
+    ensures some { 0 < result }
+    ensures small { result ≤ 64 }
+{
+    if threads == 1 { 1 } else { ROWS_EACH * threads }
+}
+
+/// The same if bytes are made.
+fn step_for_strips(items: usize, threads: usize) -> usize
+    requires some { 0 < threads }
+    requires few { threads ≤ THREADS_MAX }
+    ensures some { 0 < result }
+    ensures small { result ≤ 64 }
+{
+    if items <= FEW {
+        STRIPS
+    } else {
+        step_for(threads)
+    }
+}
+
+/// How many rows of tiles a picture has for each thread, if it is high enough: with fewer of them
+/// the threads would have unequal work.
+const ROWS_EACH: usize = 8;
 
 /// Whether a display has more pixels than a picture may have, [`PIXELS_MAX`].
 pub fn is_too_large(w: u32, h: u32) -> bool
@@ -45,71 +83,61 @@ pub fn render(
 {
     let drawn = items.as_slice();
     let prepared = prepare_all(alloc, drawn)?;
-    let pieces = pieces_for(rt, prepared.as_slice());
-    let grid = grid_for(w, h, pieces);
+    let list = prepared.as_slice();
+    let threads = threads_for(rt, list);
+    let grid = grid_for(w, h, step_for(threads));
+    let works = works_for(alloc, list, &grid, threads)?;
+    let plan = Plan {
+        alloc,
+        items: drawn,
+        list,
+        grid,
+        works: works.as_slice(),
+    };
+    let all = Span {
+        from: 0,
+        upto: grid.down,
+        threads,
+    };
     let mut bytes = vec![in alloc; 0u8; stored(&grid)]?;
-    let (list, all) = (prepared.as_slice(), bytes.as_mut_slice());
-    if pieces == 1 {
-        draw_here(alloc, drawn, list, &grid, all);
-        return Ok(Picture { grid, bytes });
-    }
-    draw_tiles(rt, alloc, drawn, list, &grid, all);
+    draw_span(rt, &plan, all, bytes.as_mut_slice());
     Ok(Picture { grid, bytes })
 }
 
-/// Draws a picture one row of tiles after the other, all in the same memory, and appends the
-/// colours of each before the next is drawn. So what is drawn is still in the processor's cache.
-fn push_drawn(
-    alloc: Global,
-    out: &mut Vec<u8>,
-    items: &[DrawItem],
-    list: &[Prepared],
-    grid: &Grid,
-) -> Result<(), NoMemory>
-    requires items { All IsDrawable items.now }
-    requires prepared { ArePrepared items.now list.now }
-    requires grid { IsGrid grid.now }
-    ensures { OnOk result (out.new.items ≡ out.old.items ++ rows_bytes (pixel items.now)
-        grid.now.width grid.now.height) }
-{
-    let mut band = vec![in alloc; 0u8; bytes_of_bands(grid)]?;
-    for n in 0..grid.down {
-        let bytes = band.as_mut_slice();
-        bytes.fill(0);
-        draw_band(alloc, items, list, grid, n, bytes);
-        push_band(out, grid, n, band.as_slice())?;
-    }
-    Ok(())
-}
-
-/// The bytes of the picture of a draw list in the form `P6`, as [`ppm_of`] gives those of
-/// [`render`]. Where there is little to draw, no picture is kept.
-pub fn render_ppm(
+/// The bytes of the picture of a draw list in the form `P6`, as [`ppm_of`](crate::ppm_of) gives
+/// those of [`render`], one run of them behind the other. No picture is kept, and rows of pixels
+/// that look like those before them share their bytes.
+pub fn render_strips(
     rt: &(impl Threads + Sync),
     alloc: Global,
     items: &ItemList,
     w: u32,
     h: u32,
-) -> Result<Vec<u8>, NoMemory>
+) -> Result<Vec<Strip>, NoMemory>
     requires items { All IsDrawable items.now }
     requires w { 0 < w }
     requires h { 0 < h }
     requires size { w * h ≤ PIXELS_MAX }
-    ensures { IfOk result (λ out. out.items ≡ ppm_bytes w h (pixel items.now)) }
+    ensures { IfOk result (λ strips. flat_map arc_value strips.items
+        ≡ ppm_bytes w h (pixel items.now)) }
 {
     let drawn = items.as_slice();
     let prepared = prepare_all(alloc, drawn)?;
-    if is_light(prepared.as_slice()) {
-        let mut out = start_ppm(alloc, w, h)?;
-        push_drawn(
-            alloc,
-            &mut out,
-            drawn,
-            prepared.as_slice(),
-            &grid_for(w, h, 1),
-        )?;
-        return Ok(out);
-    }
-    let picture = render(rt, alloc, items, w, h)?;
-    ppm_of(alloc, &picture)
+    let list = prepared.as_slice();
+    let threads = threads_for(rt, list);
+    let grid = grid_for(w, h, step_for_strips(drawn.len(), threads));
+    let works = works_for(alloc, list, &grid, threads)?;
+    let plan = Plan {
+        alloc,
+        items: drawn,
+        list,
+        grid,
+        works: works.as_slice(),
+    };
+    let head = ppm_head(alloc, w, h)?;
+    let mut strips = Vec::with_capacity(alloc, 1)?;
+    strips.push(Arc::new(alloc, Items::from_vec(head))?)?;
+    let mut rows = all_strips(rt, &plan, threads)?;
+    strips.append(&mut rows)?;
+    Ok(strips)
 }

@@ -7,7 +7,7 @@
 
 use flat_base::{BufferNo, IntRect, Items, NoMemory, SessionNo};
 use flat_drawable::{are_drawable, full_rect};
-use flat_render::{ppm_of, render, render_ppm};
+use flat_render::{Strip, ppm_of, render, render_strips};
 use flat_scene::{BlendMode, DrawItem, ImageFlip, ItemList, Paint, SceneMatrix};
 use std::alloc::Global;
 use std::process::ExitCode;
@@ -99,6 +99,15 @@ fn scene(alloc: Global, load: &Load) -> Result<ItemList, NoMemory> {
     Ok(items)
 }
 
+/// How many bytes there are in some strips.
+fn bytes_in(strips: &[Strip]) -> u64 {
+    let mut sum = 0u64;
+    for strip in strips {
+        sum = sum.wrapping_add(strip.len() as u64);
+    }
+    sum
+}
+
 fn draw(rt: &(impl Threads + Sync), alloc: Global, load: &Load) -> Result<u64, NoMemory> {
     let items = scene(alloc, load)?;
     if !are_drawable(items.as_slice()) {
@@ -107,7 +116,8 @@ fn draw(rt: &(impl Threads + Sync), alloc: Global, load: &Load) -> Result<u64, N
     let mut sum = 0u64;
     for _round in 0..load.rounds {
         if load.kind >= BYTES_ALONE {
-            sum = sum.wrapping_add(render_ppm(rt, alloc, &items, WIDTH, HEIGHT)?.len() as u64);
+            let strips = render_strips(rt, alloc, &items, WIDTH, HEIGHT)?;
+            sum = sum.wrapping_add(bytes_in(strips.as_slice()));
             continue;
         }
         let picture = render(rt, alloc, &items, WIDTH, HEIGHT)?;

@@ -3,8 +3,8 @@ ghost use Rattle.std.specs.Prelude.{◌<◌};
 use crate::scenes::{BLACK, WHITE, Wrong, fill, list, repainted, shown_of, white, wrong};
 use flat_base::{NoMemory, Rect};
 use flat_drawable::are_drawable;
-use flat_render::{is_too_large, ppm_of, ppm_rows, render_ppm};
-use flat_scene::BlendMode;
+use flat_render::{Strip, is_too_large, ppm_of, ppm_rows, render, render_strips};
+use flat_scene::{BlendMode, ItemList};
 use std::alloc::Global;
 use std::process::Abort;
 use std::test::Fail;
@@ -101,19 +101,55 @@ fn pictures_are_written_and_repainted(rt: HostRuntime) -> Result<(), Fail> {
     Ok(())
 }
 
-/// The bytes of a picture of 2 by 2 pixels of which one is white, made at once.
-fn drawn_text(rt: &(impl Abort + Threads + Sync), alloc: Global) -> Result<Vec<u8>, NoMemory> {
+/// The bytes of some strips, one behind the other.
+fn text_of(alloc: Global, strips: &[Strip]) -> Result<Vec<u8>, NoMemory> {
+    let mut text = Vec::new(alloc);
+    for strip in strips {
+        text.extend_from_slice(strip.as_slice())?;
+    }
+    Ok(text)
+}
+
+/// The strips of a picture of 2 by 2 pixels of which one is white.
+fn drawn_strips(rt: &(impl Abort + Threads + Sync), alloc: Global) -> Result<Vec<Strip>, NoMemory> {
     let items = list(alloc, &[fill([255, 255, 255, 255], 1, 1, 1, 0)])?;
     assert!(rt; are_drawable(items.as_slice()));
-    render_ppm(rt, alloc, &items, 2, 2)
+    render_strips(rt, alloc, &items, 2, 2)
 }
 
 /// The bytes that are made without a picture are the same.
 #[test]
-fn bytes_are_made_at_once(rt: HostRuntime) -> Result<(), Fail> {
-    let text = drawn_text(&rt, rt.alloc())?;
+fn bytes_are_made_in_strips(rt: HostRuntime) -> Result<(), Fail> {
+    let strips = drawn_strips(&rt, rt.alloc())?;
+    let text = text_of(rt.alloc(), strips.as_slice())?;
     let expected = b"P6\n2 2\n255\n\0\0\0\xff\xff\xff\0\0\0\0\0\0";
     assert_eq!(rt; text.as_slice(), expected.as_slice());
+    Ok(())
+}
+
+/// So many fills on a picture of 100 by 100 pixels.
+fn many(alloc: Global, count: usize) -> Result<ItemList, NoMemory> {
+    let mut items = ItemList::new(alloc);
+    for n in 0..count {
+        let shade = (n % 256) as u8;
+        let (x, y) = ((n % 97) as i32, (n % 89) as i32);
+        items.push(fill([shade, 1, 2, 255], 3, 2, x, y))?;
+    }
+    Ok(items)
+}
+
+/// Where there is much to draw, several threads make the same bytes.
+#[test]
+fn bytes_are_made_in_parts(rt: HostRuntime) -> Result<(), Fail> {
+    let items = many(rt.alloc(), 20_000)?;
+    assert!(rt; are_drawable(items.as_slice()));
+    let strips = render_strips(&rt, rt.alloc(), &items, 100, 100)?;
+    let picture = render(&rt, rt.alloc(), &items, 100, 100)?;
+    let (made, expected) = (
+        text_of(rt.alloc(), strips.as_slice())?,
+        ppm_of(rt.alloc(), &picture)?,
+    );
+    assert_eq!(rt; made.as_slice(), expected.as_slice());
     Ok(())
 }
 

@@ -88,11 +88,11 @@ fn last_picture<T: Threads + Sync>(
     alloc: Global,
     script: &Script,
     played: &Played,
-) -> Result<Vec<u8>, NoMemory>
+) -> Result<Pieces, NoMemory>
     requires playable { is_playable script.now ≡ true }
     requires played { HasPlayed script.now played.now.board played.now.kept played.now.answers }
     requires fits { Fits Render script.now }
-    ensures { IfOk result (λ text. text.items ≡
+    ensures { IfOk result (λ text. text ≡
         picture_text script.now.setup (finished script.now.setup played.now.board.history)) }
 {
     items_are_drawable();
@@ -182,9 +182,8 @@ fn damages_of(script: &Script, played: Played) -> Result<Vec<u8>, NoMemory>
     played.into_kept().into_damages().text()
 }
 
-/// What a form writes of a run in place of its report.
-fn picture_or_lines<T: Threads + Sync>(
-    rt: &T,
+/// The lines that a form writes of a run in place of its report.
+fn lines_of(
     alloc: Global,
     form: Form,
     reading: &Reading,
@@ -195,6 +194,7 @@ fn picture_or_lines<T: Threads + Sync>(
     requires other { form ≢ Why }
     requires no_judge { form ≢ Judge }
     requires unfilmed { form ≢ Film }
+    requires no_picture { form ≢ Render }
     requires keeping { keeping_of played.kept ≡ keeping_for form }
     requires lines { keeping_for form ≢ keeping.Texts }
     requires runnable { IsRunnable reading.now }
@@ -206,13 +206,13 @@ fn picture_or_lines<T: Threads + Sync>(
         played.set.lost (frames_seen played.probes.items)) text.items) }
 {
     match form {
-        Form::Play | Form::Race | Form::Stress(_) | Form::Judge | Form::Why | Form::Film =>
-            unreachable!(),
-        Form::Render => {
-            let text = last_picture(rt, alloc, &reading.script, &played);
-            played.let_go();
-            text
-        }
+        Form::Play
+        | Form::Race
+        | Form::Render
+        | Form::Stress(_)
+        | Form::Judge
+        | Form::Why
+        | Form::Film => unreachable!(),
         Form::Damage => damages_of(&reading.script, played),
         Form::Focus => focus_of(alloc, reading, played),
         Form::Pointer => pointers_of(alloc, reading, played, touches),
@@ -244,8 +244,13 @@ pub(crate) fn text_of<T: Threads + Sync>(
 {
     match form {
         Form::Play | Form::Race => report_of(alloc, &reading.script, played),
+        Form::Render => {
+            let text = last_picture(rt, alloc, &reading.script, &played);
+            played.let_go();
+            text
+        }
         _ => {
-            let text = picture_or_lines(rt, alloc, form, reading, played, touches)?;
+            let text = lines_of(alloc, form, reading, played, touches)?;
             let pieces = Pieces::one(alloc, text)?;
             Ok(pieces)
         }

@@ -1,5 +1,5 @@
 -- Worked cases, computed.
-use Rattle.std.proofs.Common.{ℕ, ◌+◌, ◌*◌, ◌≡◌, refl, ap, arith, false, length, List, [], ◌∷◌, ◌++◌}
+use Rattle.std.proofs.Common.{ℕ, ◌≡◌, refl, ap, arith, false, length, List, [], ◌∷◌, ◌++◌}
 use Rattle.std.specs.Prelude.{Some, codes, pos}
 use Rattle.std.specs.Fmt.{digits}
 use Rattle.flat_base.specs.declared.ids.Actor.TheVariants.{Display}

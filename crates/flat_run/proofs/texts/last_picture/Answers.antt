@@ -17,5 +17,5 @@ picture_of-requires-clause-height g c κs within = high c.args.script.now.setup 
 pub returns : goal.returns
 returns g c =
     let script = c.args.script.now in
-    let P : Option FrameOut → Type 0 = λ last. IfOk c.picture_of.result (λ text. text.items ≡ picture_of script.setup last) in
+    let P : Option FrameOut → Type 0 = λ last. IfOk c.picture_of.result (λ text. text ≡ picture_of script.setup last) in
     subst P (c.last.ensures script _ c.requires.played.keeps) c.picture_of.ensures

@@ -12,5 +12,5 @@ picture_of_list-requires-clause-items g c κs within =
 
 pub returns-in-None : goal.returns-in-None
 returns-in-None g c =
-    let P : Option (Bor FrameOut) → Type 0 = λ last. IfOk c.black_text.result (λ text. text.items ≡ picture_of c.args.setup.now (option_copied last)) in
+    let P : Option (Bor FrameOut) → Type 0 = λ last. IfOk c.black_text.result (λ text. text ≡ picture_of c.args.setup.now (option_copied last)) in
     subst P (sym c.in-None.is) c.black_text.ensures
