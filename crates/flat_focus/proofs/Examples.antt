@@ -7,7 +7,8 @@ use Rattle.flat_base.specs.declared.shapes.Rect.{Rect}
 use Rattle.flat_scene.specs.declared.frames.FrameOut.{FrameOut}
 use Rattle.flat_scene.specs.declared.frames.ViewNode.{ViewNode}
 use Rattle.flat_page.specs.Happenings.{merged, all_lines}
-use Rattle.flat_page.specs.Words.{Word, line_of}
+use Rattle.flat_page.specs.Words.{line_of}
+use Rattle.flat_places.specs.Forms.{Word}
 use Rattle.flat_focus.specs.declared.focus.FocusAnswer.TheVariants.{Denied}
 use Rattle.flat_focus.specs.declared.text.FocusLine.{FocusLine}
 use Rattle.flat_focus.specs.Chains.{path_to, focus_in, chain_in, is_granted, answer_to}

@@ -3,7 +3,8 @@ use Rattle.std.proofs.Common.{ℕ, ◌≡◌, refl, ap, ◌∙◌, Bool, true, L
 use Rattle.std.specs.List.{list_all}
 use Rattle.flat_page.specs.Happenings.{Happening, finished, said, all_lines}
 use Rattle.flat_page.specs.Steps.{after_all, without_items}
-use Rattle.flat_page.specs.Words.{Word, text_of}
+use Rattle.flat_page.specs.Words.{text_of}
+use Rattle.flat_places.specs.Forms.{Word}
 use Rattle.flat_page.proofs.lemmas.Telling as told
 use Rattle.flat_focus.specs.declared.text.FocusLine.{FocusLine}
 use Rattle.flat_focus.specs.Chains.{Focusing}

@@ -9,7 +9,7 @@ use Rattle.flat_scene.specs.ViewTrees.{is_node}
 use Rattle.flat_scene.specs.ViewShapes.{is_tree}
 use Rattle.flat_page.specs.Happenings.{Happening, merged}
 use Rattle.flat_page.specs.Steps.{after_all, without_items}
-use Rattle.flat_page.specs.Words.{Word}
+use Rattle.flat_places.specs.Forms.{Word}
 use Rattle.flat_focus.specs.declared.text.FocusLine.{FocusLine}
 use Rattle.flat_focus.specs.Chains.{Focusing, root_of, path_to, is_granted}
 use Rattle.flat_focus.specs.Steps.{unfocused, framed, asked}

@@ -4,7 +4,7 @@ use Rattle.flat_base.specs.declared.ids.SessionNo.{SessionNo}
 use Rattle.flat_scene.specs.declared.frames.ViewNode.{ViewNode}
 use Rattle.flat_focus.specs.Chains.{Focusing, chain_in, is_granted, path_to, answer_to}
 use Rattle.flat_page.specs.Happenings.{Happening, finished, said}
-use Rattle.flat_page.specs.Words.{Word}
+use Rattle.flat_places.specs.Forms.{Word}
 use Rattle.flat_focus.specs.declared.text.FocusLine.{FocusLine}
 use Rattle.flat_focus.specs.Events.{frame}
 use Rattle.flat_focus.specs.Text.{ask_line, frame_line}

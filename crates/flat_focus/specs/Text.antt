@@ -3,7 +3,8 @@ use Rattle.std.specs.Prelude.{ℕ, List, [], ◌∷◌, ◌++◌, length, map, c
 use Rattle.flat_base.specs.declared.ids.SessionNo.{SessionNo}
 use Rattle.flat_scene.specs.declared.frames.FrameOut.{FrameOut}
 use Rattle.flat_page.specs.Happenings.{Happening, finished, said, merged, all_lines}
-use Rattle.flat_page.specs.Words.{Word, number, session_name, text_of}
+use Rattle.flat_page.specs.Words.{number, session_name, text_of}
+use Rattle.flat_places.specs.Forms.{Word}
 use Rattle.flat_focus.specs.declared.focus.FocusAnswer.{FocusAnswer}
 use Rattle.flat_focus.specs.declared.focus.FocusAnswer.TheVariants.{Granted, Denied}
 use Rattle.flat_focus.specs.declared.text.FocusLine.{FocusLine}

@@ -264,9 +264,9 @@ fn push_text(
     Ok(())
 }
 
-/// The focus text of finished frames and of lines that ask, in memory of its own,
-/// for which room is taken once. `dones` are the numbers of the lines that finished
-/// the frames, and `names` those of the sessions.
+/// The focus text of finished frames and of lines that ask, in memory of its own.
+/// `dones` are the numbers of the lines that finished the frames, and `names` those
+/// of the sessions.
 pub fn print_focus(
     alloc: Global,
     sessions: u32,
@@ -279,9 +279,7 @@ pub fn print_focus(
     ensures { IfOk result (λ text. text.items
         ≡ focus_text names.now dones.now frames.now lines.now) }
 {
-    let mut count = Page::Count(0);
-    push_text(&mut count, alloc, sessions, names, dones, frames, lines)?;
-    let mut page = Page::with_room(alloc, count)?;
+    let mut page = Page::new(alloc);
     push_text(&mut page, alloc, sessions, names, dones, frames, lines)?;
     Ok(page.into_text())
 }

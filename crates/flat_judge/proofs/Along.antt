@@ -13,7 +13,8 @@ use Rattle.flat_rules.specs.Ends.{to_begin, to_finished}
 use Rattle.flat_rules.specs.Legal.{frames}
 use Rattle.flat_rules.specs.Posts.{posted}
 use Rattle.flat_places.specs.declared.script.Script.{Script}
-use Rattle.flat_page.specs.Words.{Word, number, text_of}
+use Rattle.flat_page.specs.Words.{number, text_of}
+use Rattle.flat_places.specs.Forms.{Word}
 use Rattle.flat_lines.specs.Ends.{end_line, title_line}
 use Rattle.flat_lines.specs.EntryLines.{entry_line, event_line}
 use Rattle.flat_lines.specs.FrameLines.{frame_lines, lost_at, lost_line}

@@ -5,7 +5,8 @@ use Rattle.std.proofs.lemmas.Bool.{and_parts, and_from}
 use Rattle.std.proofs.lemmas.Bool.Decides.{nat_tests}
 use Rattle.std.proofs.lemmas.List.Splits.{slice_split-cons_yes, slice_split-cons_no, length-slice_split}
 use Rattle.flat_text.specs.Pieces.{is_feed, is_space, lines_of, without_empty_end, words_of}
-use Rattle.flat_page.specs.Words.{Word, line_of, spaced, text_of}
+use Rattle.flat_page.specs.Words.{line_of, spaced, text_of}
+use Rattle.flat_places.specs.Forms.{Word}
 use Rattle.flat_report.proofs.lemmas.Sheets.{is_word}
 
 -- ---- cut behind a separator

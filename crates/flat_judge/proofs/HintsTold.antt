@@ -25,7 +25,8 @@ use Rattle.flat_text.specs.Pieces.{lines_of, words_of}
 use Rattle.flat_text.proofs.lemmas.NumberLemmas.{natural-decimal}
 use Rattle.flat_places.specs.declared.script.Script.{Script}
 use Rattle.flat_places.specs.Names.{place_of}
-use Rattle.flat_page.specs.Words.{Word, actor_name, line_of, name_at, number, text_of}
+use Rattle.flat_page.specs.Words.{actor_name, line_of, name_at, number, text_of}
+use Rattle.flat_places.specs.Forms.{Word}
 use Rattle.flat_lines.specs.Ends.{end_line, title_line}
 use Rattle.flat_lines.specs.EntryLines.{hit_words}
 use Rattle.flat_report.specs.Probes.{is_asking, never_fall_from}

@@ -17,7 +17,8 @@ use Rattle.flat_rules.specs.Legal.{frames}
 use Rattle.flat_rules.specs.Posts.{Sent, posted}
 use Rattle.flat_rules.specs.AllPosts.{posts}
 use Rattle.flat_places.specs.declared.script.Script.{Script}
-use Rattle.flat_page.specs.Words.{Word, number, text_of, actor_name}
+use Rattle.flat_page.specs.Words.{number, text_of, actor_name}
+use Rattle.flat_places.specs.Forms.{Word}
 use Rattle.flat_lines.specs.EntryLines.{entry_line, event_line, point_words, said_words}
 use Rattle.flat_lines.specs.PostLines.{post_line}
 use Rattle.flat_report.specs.FrameTexts.{frame_text}

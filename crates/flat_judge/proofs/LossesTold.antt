@@ -18,7 +18,8 @@ use Rattle.flat_report.proofs.lemmas.Sheets.{laid, laid-same, line_on, number-wo
 use Rattle.flat_report.specs.Runs.{is_display_number}
 use Rattle.std.proofs.lemmas.Fmt.{decimal_injective}
 use Rattle.std.proofs.lemmas.List.{append_cancel_left}
-use Rattle.flat_page.specs.Words.{Word, number, text_of}
+use Rattle.flat_page.specs.Words.{number, text_of}
+use Rattle.flat_places.specs.Forms.{Word}
 use Rattle.flat_text.proofs.lemmas.NumberLemmas.{natural-decimal}
 use Rattle.flat_judge.proofs.NextWords.{loss-next}
 use Rattle.flat_judge.specs.Following.{AreLosses, Begins, NoMoreLost, Passes, ReadsLoss, ReadsLosses, are_behind, fits_behind, next_display}

@@ -20,7 +20,8 @@ use Rattle.flat_scene.specs.Setups.{is_declared}
 use Rattle.flat_text.specs.Number.{natural}
 use Rattle.flat_places.specs.declared.script.Script.{Script}
 use Rattle.flat_places.specs.Names.{is_name, place_of}
-use Rattle.flat_page.specs.Words.{Word, number, name_at, session_name, actor_name}
+use Rattle.flat_page.specs.Words.{number, name_at, session_name, actor_name}
+use Rattle.flat_places.specs.Forms.{Word}
 use Rattle.flat_lines.specs.EntryLines.{answer_words, entry_line, said_words}
 use Rattle.flat_lines.specs.FrameLines.{lost_line}
 use Rattle.flat_report.specs.Report.{seen_line, seen_words}

@@ -12,7 +12,8 @@ use Rattle.flat_rules.specs.Legal.{frames}
 use Rattle.flat_rules.specs.Posts.{Sent, posted}
 use Rattle.flat_rules.specs.AllPosts.{posts}
 use Rattle.flat_places.specs.declared.script.Script.{Script}
-use Rattle.flat_page.specs.Words.{Word, line_of, number, text_of}
+use Rattle.flat_page.specs.Words.{line_of, number, text_of}
+use Rattle.flat_places.specs.Forms.{Word}
 use Rattle.flat_lines.specs.Ends.{end_line}
 use Rattle.flat_lines.specs.EntryLines.{event_line}
 use Rattle.flat_lines.specs.FrameLines.{frame_lines, lost_at, lost_line}

@@ -9,7 +9,7 @@ use Rattle.flat_text.specs.Number.{natural}
 use Rattle.flat_text.specs.Pieces.{lines_of, words_of}
 use Rattle.flat_places.specs.declared.script.Script.{Script}
 use Rattle.flat_places.specs.Names.{place_of}
-use Rattle.flat_page.specs.Words.{Word}
+use Rattle.flat_places.specs.Forms.{Word}
 use Rattle.flat_report.specs.Report.{probe_lines, probe_lines_of}
 
 -- ---- one line

@@ -18,7 +18,7 @@ use std::alloc::Global;
 pub(crate) fn title_text(alloc: Global, version: u32) -> Result<Vec<u8>, NoMemory>
     ensures { IfOk result (λ text. text.items ≡ text_of (title_line version ∷ [])) }
 {
-    let mut page = Page::Text(Vec::new(alloc));
+    let mut page = Page::new(alloc);
     push_title(&mut page, version)?;
     Ok(page.into_text())
 }
@@ -35,7 +35,7 @@ pub(crate) fn line_text(
     ensures { IfOk result (λ text. text.items
         ≡ text_of (entry_line script.now finished (λ x y. hits.now) entry.now ∷ [])) }
 {
-    let mut page = Page::Text(Vec::new(alloc));
+    let mut page = Page::new(alloc);
     push_entry(&mut page, script, finished, hits, entry)?;
     Ok(page.into_text())
 }
@@ -44,7 +44,7 @@ pub(crate) fn line_text(
 pub(crate) fn loss_text(alloc: Global, one: Lost) -> Result<Vec<u8>, NoMemory>
     ensures { IfOk result (λ text. text.items ≡ text_of (lost_line one ∷ [])) }
 {
-    let mut page = Page::Text(Vec::new(alloc));
+    let mut page = Page::new(alloc);
     push_losses(&mut page, one.frame.0 as u64, &[one])?;
     Ok(page.into_text())
 }
@@ -57,7 +57,7 @@ pub(crate) fn posts_text(
 ) -> Result<Vec<u8>, NoMemory>
     ensures { IfOk result (λ text. text.items ≡ text_of (map (post_line script.now) posts.now)) }
 {
-    let mut page = Page::Text(Vec::new(alloc));
+    let mut page = Page::new(alloc);
     push_posts(&mut page, script, posts)?;
     Ok(page.into_text())
 }

@@ -1,6 +1,7 @@
 -- The first line of a report and its last one.
 use Rattle.std.specs.Prelude.{ℕ, List, [], ◌∷◌, codes}
-use Rattle.flat_page.specs.Words.{Word, number}
+use Rattle.flat_page.specs.Words.{number}
+use Rattle.flat_places.specs.Forms.{Word}
 
 -- the first line, of a script of that version
 abbrev pub title_line : ℕ → List Word

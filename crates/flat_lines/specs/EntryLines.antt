@@ -21,7 +21,8 @@ use Rattle.flat_scene.specs.declared.journal.Reply.TheVariants as reply
 use Rattle.flat_scene.specs.declared.journal.Told.{Told}
 use Rattle.flat_scene.specs.declared.journal.Told.TheVariants as told
 use Rattle.flat_places.specs.declared.script.Script.{Script}
-use Rattle.flat_page.specs.Words.{Word, numbers, number, session_name, actor_name}
+use Rattle.flat_page.specs.Words.{numbers, number, session_name, actor_name}
+use Rattle.flat_places.specs.Forms.{Word}
 use Rattle.flat_print.specs.Choices.{interaction_number}
 use Rattle.flat_lines.specs.Names.{pair_name}
 

@@ -13,7 +13,8 @@ use Rattle.flat_scene.specs.declared.frames.Paint.TheVariants.{Fill, Image}
 use Rattle.flat_scene.specs.declared.frames.SceneMatrix.{SceneMatrix}
 use Rattle.flat_scene.specs.declared.frames.ViewNode.{ViewNode}
 use Rattle.flat_places.specs.declared.script.Script.{Script}
-use Rattle.flat_page.specs.Words.{Word, numbers, number, session_name}
+use Rattle.flat_page.specs.Words.{numbers, number, session_name}
+use Rattle.flat_places.specs.Forms.{Word}
 use Rattle.flat_print.specs.Choices.{flip_number}
 use Rattle.flat_lines.specs.Names.{buffers_name}
 

@@ -1,7 +1,8 @@
 -- The names that a script gives.
 use Rattle.flat_base.specs.declared.ids.BufferNo.{BufferNo}
 use Rattle.flat_base.specs.declared.ids.PairNo.{PairNo}
-use Rattle.flat_page.specs.Words.{Word, name_at}
+use Rattle.flat_page.specs.Words.{name_at}
+use Rattle.flat_places.specs.Forms.{Word}
 use Rattle.flat_places.specs.declared.script.Script.{Script}
 
 abbrev pub pair_name : Script → PairNo → Word

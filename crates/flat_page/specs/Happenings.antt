@@ -1,7 +1,7 @@
 -- Finished frames and lines, by the numbers of lines, and what is written of them one after another.
 use Rattle.std.specs.Prelude.{ℕ, nat_lt, List, [], ◌∷◌, ◌++◌, length, map, take, drop, take_while}
 use Rattle.flat_scene.specs.declared.frames.FrameOut.{FrameOut}
-use Rattle.flat_page.specs.Words.{Word}
+use Rattle.flat_places.specs.Forms.{Word}
 
 -- ---- their order
 

@@ -1,8 +1,10 @@
-//! Text that is written line by line: its bytes are counted first, so that the
-//! room for it can be taken at once.
+//! The writer of lines: reports, scripts, loads, and the texts of focus, pointers, damage
+//! and causes are put on a `Page` (page), word by word and line by line.
 //!
-//! A `Page` (page) is seen as what stands on it (specs/Pages); words are put on it by
-//! specs/Words, frames and lines by their numbers by specs/Happenings.
+//! Contracts see a page as its bytes; `Puts`, `Writes` and `WritesLines` (specs/Pages) say
+//! what a call puts behind them, by the words and lines of specs/Words. The names of a
+//! script's actors, as words, stand in names.rt; frames and lines by their numbers, as texts
+//! have them in order, in specs/Happenings.
 //!
 //! Other crates may cite the lemmas of proofs/lemmas/: words and lines written one
 //! after another (PageLemmas), lines and frames by their numbers (Merging), what is

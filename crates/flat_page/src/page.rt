@@ -1,101 +1,73 @@
-ghost use Rattle.std.specs.Prelude.{◌≡◌, ◌≤◌, ◌+◌, [], ◌∷◌, ◌++◌, ℕ, List, length, false, OnOk};
-ghost use Rattle.std.specs.Prelude.{IfOk, codes};
+ghost use Rattle.std.specs.Prelude.{◌≡◌, ◌++◌, ◌∷◌, [], length, codes, IfOk, OnOk};
 ghost use Rattle.std.specs.Fmt.{decimal, signed_decimal};
 ghost use Rattle.flat_page.specs.Words.{number, numbers};
-ghost use Rattle.flat_page.specs.Pages.{HasRoom, IsText, StandsAt, bytes_of, is_counting, Puts};
-ghost use Rattle.flat_page.specs.Pages.{Writes, WritesLines};
+ghost use Rattle.flat_page.specs.Pages.{Puts, Writes, WritesLines};
 
-use crate::digits::{NUMBER_BYTES, count_length, place_length, write_count, write_place};
+use crate::digits::{NUMBER_BYTES, write_count, write_place};
 use flat_base::NoMemory;
 use itoa::write_digits;
 use std::alloc::Global;
+use std::marker::Model;
 
-/// A text that is written, or whose bytes are counted first, so that the room for
-/// it can be taken at once.
+/// A text that is written, which contracts see as its bytes.
 #[derive(Drop)]
-pub enum Page {
-    /// So many bytes would stand there.
-    Count(usize),
-    /// These bytes stand there.
-    Text(Vec<u8>),
+pub struct Page {
+    text: Vec<u8>,
+}
+
+impl Model for Page {
+    ghost use Rattle.std.specs.Prelude.{List, ℕ};
+
+    ghost Value = { List ℕ };
+
+    ghost view = { λ page. page.text.items };
 }
 
 impl Page {
-    /// An empty page with room for as many bytes as stand, or were counted, on
-    /// another.
-    pub fn with_room(alloc: Global, other: Page) -> Result<Page, NoMemory>
-        ensures sort { IfOk result (λ page. is_counting page ≡ false) }
-        ensures empty { IfOk result (λ page. IsText page []) }
-        ensures room { IfOk result (HasRoom (bytes_of other)) }
+    /// An empty page. It takes no memory.
+    pub fn new(alloc: Global) -> Page
+        ensures { result ≡ [] }
     {
-        let room = match other {
-            Page::Count(count) => count,
-            Page::Text(text) => text.len(),
-        };
-        Ok(Page::Text(Vec::with_capacity(alloc, room)?))
-    }
-
-    /// An empty page of the same sort, with room for as many bytes as stand on this one.
-    pub fn like(&self, alloc: Global) -> Result<Page, NoMemory>
-        ensures sort { IfOk result (λ page. is_counting page ≡ is_counting self.now) }
-        ensures empty { IfOk result (λ page. IsText page []) }
-    {
-        match self {
-            Page::Count(_) => Ok(Page::Count(0)),
-            Page::Text(text) => Ok(Page::Text(Vec::with_capacity(alloc, text.len())?)),
+        Page {
+            text: Vec::new(alloc),
         }
     }
 
-    /// How many bytes stand on the page, or were counted.
+    /// An empty page with room for so many bytes.
+    pub fn with_capacity(alloc: Global, bytes: usize) -> Result<Page, NoMemory>
+        ensures { IfOk result (λ page. page ≡ []) }
+    {
+        Ok(Page {
+            text: Vec::with_capacity(alloc, bytes)?,
+        })
+    }
+
+    /// How many bytes stand on the page.
     pub fn len(&self) -> usize
-        ensures { result ≡ bytes_of self.now }
+        ensures { result ≡ length self.now }
     {
-        match self {
-            Page::Count(count) => *count,
-            Page::Text(text) => text.len(),
-        }
+        self.text.len()
     }
 
-    /// Puts what stands on a part of another page of the same sort.
-    pub fn put_part(&mut self, other: &Page, start: usize, end: usize) -> Result<(), NoMemory>
-        requires sort { is_counting other.now ≡ is_counting self.old }
-        requires order { start ≤ end }
-        requires within { end ≤ bytes_of other.now }
-        ensures { (bytes : List ℕ) → StandsAt start bytes other.now → end ≡ start + length bytes →
-            OnOk result (Puts bytes self.old self.new) }
+    /// The bytes that stand on the page.
+    pub fn as_slice(&self) -> &[u8]
+        ensures { result.now ≡ self.now }
     {
-        match (self, other) {
-            (Page::Count(count), Page::Count(_)) => {
-                *count = count.checked_add(end - start).ok_or(NoMemory)?;
-                Ok(())
-            }
-            (Page::Text(text), Page::Text(from)) => {
-                text.extend_from_slice(&from[start..end])?;
-                Ok(())
-            }
-            _ => unreachable!(),
-        }
+        self.text.as_slice()
     }
 
-    /// The bytes of a page on which they stand.
+    /// The text, without a copy.
     pub fn into_text(self) -> Vec<u8>
-        requires { is_counting self ≡ false }
-        ensures { (text : List ℕ) → IsText self text → result.items ≡ text }
+        ensures { result.items ≡ self }
     {
-        match self {
-            Page::Text(text) => text,
-            Page::Count(_) => unreachable!(),
-        }
+        self.text
     }
 
     /// Puts bytes behind those that stand there.
     pub fn put(&mut self, bytes: &[u8]) -> Result<(), NoMemory>
         ensures { OnOk result (Puts bytes.now self.old self.new) }
     {
-        match self {
-            Page::Count(count) => *count = count.checked_add(bytes.len()).ok_or(NoMemory)?,
-            Page::Text(text) => text.extend_from_slice(bytes)?,
-        }
+        self.text.extend_from_slice(bytes)?;
         Ok(())
     }
 
@@ -107,47 +79,38 @@ impl Page {
         self.put(word)
     }
 
-    /// Puts a number behind these bytes.
-    pub fn numbered(&mut self, before: &[u8], value: u32) -> Result<(), NoMemory>
-        ensures { OnOk result (Puts (before.now ++ decimal value) self.old self.new) }
+    /// Puts a number without a sign.
+    pub fn number(&mut self, value: u64) -> Result<(), NoMemory>
+        ensures { OnOk result (Puts (decimal value) self.old self.new) }
     {
         let mut bytes = [0; NUMBER_BYTES];
-        let start = write_digits(u64::from(value), &mut bytes, NUMBER_BYTES);
-        self.put(before)?;
+        let start = write_digits(value, &mut bytes, NUMBER_BYTES);
         self.put(&bytes[start..])
+    }
+
+    /// Puts a number without a sign behind these bytes.
+    pub fn numbered(&mut self, before: &[u8], value: u64) -> Result<(), NoMemory>
+        ensures { OnOk result (Puts (before.now ++ decimal value) self.old self.new) }
+    {
+        self.put(before)?;
+        self.number(value)
     }
 
     /// Puts a space and a number without a sign.
     pub fn count(&mut self, value: u64) -> Result<(), NoMemory>
         ensures { OnOk result (Writes (number value ∷ []) self.old self.new) }
     {
-        match self {
-            Page::Count(count) => {
-                *count = count.checked_add(count_length(value)).ok_or(NoMemory)?;
-            }
-            Page::Text(text) => {
-                let mut bytes = [0; NUMBER_BYTES];
-                let start = write_count(value, &mut bytes);
-                text.extend_from_slice(&bytes[start..])?;
-            }
-        }
-        Ok(())
+        let mut bytes = [0; NUMBER_BYTES];
+        let start = write_count(value, &mut bytes);
+        self.put(&bytes[start..])
     }
 
     fn place(&mut self, value: i64) -> Result<(), NoMemory>
         ensures { OnOk result (Writes (signed_decimal value ∷ []) self.old self.new) }
     {
-        match self {
-            Page::Count(count) => {
-                *count = count.checked_add(place_length(value)).ok_or(NoMemory)?;
-            }
-            Page::Text(text) => {
-                let mut bytes = [0; NUMBER_BYTES];
-                let start = write_place(value, &mut bytes);
-                text.extend_from_slice(&bytes[start..])?;
-            }
-        }
-        Ok(())
+        let mut bytes = [0; NUMBER_BYTES];
+        let start = write_place(value, &mut bytes);
+        self.put(&bytes[start..])
     }
 
     fn two_places(&mut self, a: i64, b: i64) -> Result<(), NoMemory>

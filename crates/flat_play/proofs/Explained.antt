@@ -4,7 +4,6 @@ use Rattle.std.proofs.lemmas.List.{length-reverse}
 use Rattle.std.specs.List.{list_all}
 use Rattle.std.specs.Prelude.{Option, Some}
 use Rattle.flat_base.proofs.lemmas.Tests.{and-left, and-right}
-use Rattle.flat_page.specs.Pages.{IsText}
 use Rattle.flat_page.specs.Words.{text_of}
 use Rattle.flat_places.specs.declared.script.Script.{Script}
 use Rattle.flat_report.specs.Report.{finished, frame_at}
@@ -47,8 +46,7 @@ module _ (script : Script) where
   explained-ended old new (Film one) on frames_are stands = subst (λ fs. IsFilm script.setup fs one) (sym frames_are) stands
   explained-ended old new (On whys) on frames_are stands = record {
     frames = stands.tells.frames ∙ sym (frames-ends on.ends old on.are_ends) ∙ ap frames (sym on.is);
-    sort = stands.tells.sort;
-    text = subst (λ ls. IsText whys.page (text_of ls)) (sym (lines-ends on.ends old on.are_ends) ∙ ap (why_lines script) (sym on.is)) stands.tells.text;
+    text = stands.tells.text ∙ ap text_of (sym (lines-ends on.ends old on.are_ends) ∙ ap (why_lines script) (sym on.is));
   }
 
 -- ---- a line makes an entry, or none

@@ -83,9 +83,7 @@ impl Explaining {
 
     /// The text of a run to its end, where it was asked for.
     pub fn into_text(self) -> Result<Vec<u8>, NoMemory>
-        requires on { is_on self ≡ true }
-        requires ran { (script : Script) × (history : List Entry)
-            × ToldExplained script history self }
+        requires { is_on self ≡ true }
         ensures { (script : Script) (history : List Entry) →
             ToldExplained script history self →
             IfOk result (λ text. text.items ≡ why_text script history) }

@@ -29,7 +29,7 @@ use Rattle.flat_playable.specs.Versions.{is_of_first_version, sets_no_ratio, fir
 use Rattle.std.proofs.lemmas.Bool.{and_from}
 use Rattle.flat_print.proofs.lemmas.RunLemmas.{NextOk, next_ok, read_at, line_ok, first_ok, Read}
 use Rattle.flat_print.proofs.lemmas.TextLemmas.{lines_room, split_room, some_parts, spelled-words_of}
-use Rattle.flat_print.specs.Print.{spelled}
+use Rattle.flat_page.specs.Words.{line_of}
 
 -- the body
 
@@ -151,7 +151,7 @@ start_line_by n s l ls next false at rest is ends =
     let words = start_words n next l (list_all is_plain l) (nat_lt 1024 (length l)) is in
     let m = mapped_ok (λ v. (part.Head, with_version empty v)) (first_line (words_of l)) next words in
     let says = first_ok (words_of l) m.a m.given in
-    let line : l ≡ version_line m.a = sym (spelled-words_of l) ∙ ap spelled says.0 ∙ ap (λ t. codes "flatland " ++ t) (append-nil (decimal m.a)) in
+    let line : l ≡ version_line m.a = sym (spelled-words_of l) ∙ ap line_of says.0 ∙ ap (λ t. codes "flatland " ++ t) (append-nil (decimal m.a)) in
     record {
       v = m.a;
       head = head_end ls (with_version empty m.a) (n + 1) s (omega arith) (head_first m.a says.1) (read_at (n + 1) (part.Head, with_version empty m.a) next ls s m.value rest);

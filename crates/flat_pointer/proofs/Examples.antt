@@ -8,7 +8,8 @@ use Rattle.flat_scene.specs.declared.frames.FrameOut.{FrameOut}
 use Rattle.flat_scene.specs.declared.frames.Hit.{Hit}
 use Rattle.flat_scene.specs.declared.frames.ViewNode.{ViewNode}
 use Rattle.flat_page.specs.Happenings.{merged, all_lines}
-use Rattle.flat_page.specs.Words.{Word, line_of}
+use Rattle.flat_page.specs.Words.{line_of}
+use Rattle.flat_places.specs.Forms.{Word}
 use Rattle.flat_pointer.specs.declared.pointers.PointerAnswer.TheVariants as answer
 use Rattle.flat_pointer.specs.declared.text.PointerCall.{PointerCall}
 use Rattle.flat_pointer.specs.declared.text.PointerCall.TheVariants.{Down, Move, Up}

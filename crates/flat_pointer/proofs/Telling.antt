@@ -8,11 +8,11 @@ use Rattle.flat_base.proofs.lemmas.Tests.{and-left, and-right}
 use Rattle.flat_base.specs.declared.ids.SessionNo.{SessionNo}
 use Rattle.flat_scene.specs.declared.frames.FrameOut.{FrameOut}
 use Rattle.flat_scene.specs.declared.frames.ViewNode.{ViewNode}
-use Rattle.flat_page.specs.declared.page.Page.{Page}
 use Rattle.flat_page.specs.Happenings.{Happening, finished, said, merged, all_lines}
 use Rattle.flat_page.specs.Steps.{without_items}
 use Rattle.flat_page.specs.Pages.{WritesLines}
-use Rattle.flat_page.specs.Words.{Word, text_of}
+use Rattle.flat_page.specs.Words.{text_of}
+use Rattle.flat_places.specs.Forms.{Word}
 use Rattle.flat_page.proofs.lemmas.PageLemmas.{then_lines, same_lines}
 use Rattle.flat_page.proofs.lemmas.Telling.{lines-follow, lines-left, all-parted, all-merged}
 use Rattle.flat_pointer.specs.declared.text.PointerCall.{PointerCall}
@@ -33,7 +33,7 @@ range-more a zero = let e : a + 0 ≡ a = omega arith in rw e refl
 range-more a (suc n) = let e : (a + 1) + n ≡ a + suc n = omega arith in ap (λ (t : List ℕ). a ∷ t) (range-more (a + 1) n ∙ ap (λ k. range_with_len (a + 1) n ++ k ∷ []) e)
 
 -- the lines of one pointer more
-pub more_cancels : (names : List Word) (number : ℕ) (nodes : List ViewNode) (start now : Streams) (p : ℕ) (cancelled : Option SessionNo) {old mid new : Page}
+pub more_cancels : (names : List Word) (number : ℕ) (nodes : List ViewNode) (start now : Streams) (p : ℕ) (cancelled : Option SessionNo) {old mid new : List ℕ}
     → now ≡ framed_below nodes p start → cancelled ≡ cancelled_in nodes (stream_of now p)
     → WritesLines (flat_map (λ q. cancel_line names number q (cancelled_in nodes (stream_of start q))) (range_with_len 0 p)) old mid → WritesLines (cancel_line names number p cancelled) mid new
     → WritesLines (flat_map (λ q. cancel_line names number q (cancelled_in nodes (stream_of start q))) (range_with_len 0 (p + 1))) old new
@@ -59,7 +59,7 @@ more_framed nodes start now new p is changed =
 pub all_framed : (nodes : List ViewNode) (start now : Streams) (p : ℕ) → p ≡ 16 → now ≡ framed_below nodes p start → now ≡ framed nodes start
 all_framed nodes start now p end is = is ∙ ap (λ k. framed_below nodes k start) end
 
-pub all_cancels : (names : List Word) (number : ℕ) (cancelled : ℕ → Option SessionNo) (p : ℕ) {old new : Page} → p ≡ 16
+pub all_cancels : (names : List Word) (number : ℕ) (cancelled : ℕ → Option SessionNo) (p : ℕ) {old new : List ℕ} → p ≡ 16
     → WritesLines (flat_map (λ q. cancel_line names number q (cancelled q)) (range_with_len 0 p)) old new → WritesLines (cancel_lines names number cancelled) old new
 all_cancels names number cancelled p end writes = same_lines (ap (λ k. flat_map (λ q. cancel_line names number q (cancelled q)) (range_with_len 0 k)) end) writes
 

@@ -11,7 +11,7 @@ use Rattle.flat_pointer.specs.declared.pointers.PointerAnswer.{PointerAnswer}
 use Rattle.flat_pointer.specs.declared.pointers.PointerAnswer.TheVariants.{Down, Moved, Up, Nobody, Busy}
 use Rattle.flat_scene.specs.ViewTrees.{is_node}
 use Rattle.flat_page.specs.Steps.{without_items}
-use Rattle.flat_page.specs.Words.{Word}
+use Rattle.flat_places.specs.Forms.{Word}
 use Rattle.flat_pointer.specs.declared.text.Touch.{Touch}
 use Rattle.flat_pointer.specs.Text.{pointer_text}
 use Rattle.flat_pointer.specs.Streams.{after_down, kept_in, cancelled_in}

@@ -8,7 +8,7 @@ use Rattle.flat_pointer.specs.Streams.{kept_in, after_down, cancelled_in}
 use Rattle.std.specs.List.{list_all}
 use Rattle.flat_scene.specs.declared.frames.Hit.{Hit}
 use Rattle.flat_page.specs.Happenings.{Happening, finished, said}
-use Rattle.flat_page.specs.Words.{Word}
+use Rattle.flat_places.specs.Forms.{Word}
 use Rattle.flat_pointer.specs.declared.text.PointerCall.{PointerCall}
 use Rattle.flat_pointer.specs.declared.text.PointerCall.TheVariants.{Down, Move, Up}
 use Rattle.flat_pointer.specs.declared.text.Touch.{Touch}

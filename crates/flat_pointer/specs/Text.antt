@@ -5,7 +5,8 @@ use Rattle.flat_base.specs.declared.ids.SessionNo.{SessionNo}
 use Rattle.flat_scene.specs.declared.frames.FrameOut.{FrameOut}
 use Rattle.flat_scene.specs.declared.frames.Hit.{Hit}
 use Rattle.flat_page.specs.Happenings.{Happening, finished, said, merged, all_lines}
-use Rattle.flat_page.specs.Words.{Word, number, numbers, session_name, text_of}
+use Rattle.flat_page.specs.Words.{number, numbers, session_name, text_of}
+use Rattle.flat_places.specs.Forms.{Word}
 use Rattle.flat_pointer.specs.declared.pointers.PointerAnswer.{PointerAnswer}
 use Rattle.flat_pointer.specs.declared.pointers.PointerAnswer.TheVariants.{Nobody, Busy}
 use Rattle.flat_pointer.specs.declared.pointers.PointerAnswer.TheVariants as answer

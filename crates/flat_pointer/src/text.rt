@@ -346,9 +346,9 @@ fn push_text(
     Ok(())
 }
 
-/// The pointer text of finished frames and of pointers' lines, in memory of its own,
-/// for which room is taken once. `dones` are the numbers of the lines that finished
-/// the frames, and `names` those of the sessions.
+/// The pointer text of finished frames and of pointers' lines, in memory of its own.
+/// `dones` are the numbers of the lines that finished the frames, and `names` those
+/// of the sessions.
 pub fn print_pointers(
     alloc: Global,
     names: &NameList,
@@ -360,9 +360,7 @@ pub fn print_pointers(
     ensures { IfOk result (λ text. text.items ≡ pointer_text names.now dones.now frames.now
         touches.now) }
 {
-    let mut count = Page::Count(0);
-    push_text(&mut count, names, dones, frames, touches)?;
-    let mut page = Page::with_room(alloc, count)?;
+    let mut page = Page::new(alloc);
     push_text(&mut page, names, dones, frames, touches)?;
     Ok(page.into_text())
 }

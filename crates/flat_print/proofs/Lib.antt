@@ -1,5 +1,5 @@
 pub mod CallLemmas
+pub mod LineLemmas
 pub mod ListWordLemmas
 pub mod SwapLemmas
-pub mod WordLemmas
 pub mod lemmas

@@ -50,7 +50,7 @@ use Rattle.flat_places.specs.declared.script.Script.{Script}
 use Rattle.flat_places.specs.Forms.{Word}
 use Rattle.flat_forms.specs.Calls.{text}
 use Rattle.flat_script.specs.Grammar.{IsScript}
-use Rattle.flat_page.specs.Words.{name_at, actor_name}
+use Rattle.flat_page.specs.Words.{name_at, actor_name, line_of}
 use Rattle.flat_print.specs.Choices.{flip_number, interaction_number}
 
 -- names
@@ -314,35 +314,21 @@ script_words s = head_words s ++ map (line_words s) s.lines
 
 -- texts
 
--- each word behind a space
-abbrev pub spaced : List Word → List ℕ
-spaced [] = []
-spaced (w ∷ words) = 32 ∷ (w ++ spaced words)
-
--- the words of a line
-abbrev pub spelled : List Word → List ℕ
-spelled [] = []
-spelled (w ∷ words) = w ++ spaced words
-
 -- each line behind a line feed
 abbrev pub fed : List (List Word) → List ℕ
 fed [] = []
-fed (words ∷ lines) = 10 ∷ (spelled words ++ fed lines)
+fed (words ∷ lines) = 10 ∷ (line_of words ++ fed lines)
 
 -- the canonical text: the version, and the other lines, with no line feed at the end
 abbrev pub text_of : Script → List ℕ
-text_of s = spelled (version_words s) ++ fed (script_words s)
-
--- the words stand behind what was there
-pub record Writes (words : List Word) (old new : List ℕ) : Type 0 where
-  pub text : new ≡ old ++ spaced words
+text_of s = line_of (version_words s) ++ fed (script_words s)
 
 -- a line feed and the first word of a line stand behind what was there
 pub record Starts (word : Word) (old new : List ℕ) : Type 0 where
   pub text : new ≡ old ++ 10 ∷ word
 
--- the lines stand behind what was there
-pub record WritesLines (lines : List (List Word)) (old new : List ℕ) : Type 0 where
+-- the lines stand behind what was there, each behind a line feed
+pub record Feeds (lines : List (List Word)) (old new : List ℕ) : Type 0 where
   pub text : new ≡ old ++ fed lines
 
 -- the line with its number left out

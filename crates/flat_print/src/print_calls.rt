@@ -4,17 +4,18 @@ ghost use Rattle.std.specs.List.{flat_map};
 ghost use Rattle.std.specs.Option.{option_map_or};
 ghost use Rattle.flat_print.specs.Print.{numbers, pair_word, buffers_word};
 ghost use Rattle.flat_print.specs.Print.{rect_words, inset_words, inset_unless_none, region_words};
-ghost use Rattle.flat_print.specs.Print.{Writes, call_name, call_fields, call_words};
+ghost use Rattle.flat_page.specs.Pages.{Writes};
+ghost use Rattle.flat_print.specs.Print.{call_name, call_fields, call_words};
 ghost use Rattle.flat_print.specs.Print.{IsFew, is_longer};
 
 use crate::print_words::{
     blend_number, flip_number, interaction_number, orientation_number, push_inset_if_any,
-    push_inset_unless_none, push_numbers, push_point, push_rect, push_rect_if_any, push_regions,
-    push_transforms, push_u64, push_word,
+    push_inset_unless_none, push_numbers, push_rect, push_rect_if_any, push_regions,
+    push_transforms,
 };
 use flat_base::{BufferNo, IntRect, NoMemory, PairNo, TransformId};
 use flat_forms::CallName;
-use flat_page::name_at;
+use flat_page::{Page, name_at};
 use flat_places::Script;
 use flat_scene::{Call, HitRegion, Inset};
 
@@ -55,23 +56,23 @@ fn call_name(call: &Call) -> CallName
     }
 }
 
-pub fn push_call(out: &mut Vec<u8>, script: &Script, call: &Call) -> Result<(), NoMemory>
-    ensures { OnOk result (Writes (call_words script.now call.now) out.old.items out.new.items) }
+pub fn push_call(page: &mut Page, script: &Script, call: &Call) -> Result<(), NoMemory>
+    ensures { OnOk result (Writes (call_words script.now call.now) page.old page.new) }
 {
-    push_word(out, call_name(call).text().as_bytes())?;
-    push_fields(out, script, call)?;
+    page.word(call_name(call).text().as_bytes())?;
+    push_fields(page, script, call)?;
     Ok(())
 }
 
-fn push_fields(out: &mut Vec<u8>, script: &Script, call: &Call) -> Result<(), NoMemory>
-    ensures { OnOk result (Writes (call_fields script.now call.now) out.old.items out.new.items) }
+fn push_fields(page: &mut Page, script: &Script, call: &Call) -> Result<(), NoMemory>
+    ensures { OnOk result (Writes (call_fields script.now call.now) page.old page.new) }
 {
     match few_of(call) {
         Some((count, a, b, c)) => {
             let values = [a, b, c];
-            push_numbers(out, &values[..count])
+            push_numbers(page, &values[..count])
         }
-        None => push_longer(out, script, call),
+        None => push_longer(page, script, call),
     }
 }
 
@@ -114,31 +115,33 @@ fn few_of(call: &Call) -> Option<(usize, u64, u64, u64)>
 }
 
 /// The fields of a call that has others than up to three numbers.
-fn push_longer(out: &mut Vec<u8>, script: &Script, call: &Call) -> Result<(), NoMemory>
+fn push_longer(page: &mut Page, script: &Script, call: &Call) -> Result<(), NoMemory>
     requires { is_longer call.now ≡ true }
-    ensures { OnOk result (Writes (call_fields script.now call.now) out.old.items out.new.items) }
+    ensures { OnOk result (Writes (call_fields script.now call.now) page.old page.new) }
 {
     match call {
-        Call::CreateView { pair } => push_word(out, name_at(&script.pairs, pair.0 as usize)),
-        Call::SetTranslation { t, x, y } => push_translation(out, t.0, *x, *y),
-        Call::SetClipBoundary { t, rect } => push_clip(out, t.0, *rect),
-        Call::ReplaceChildren { p, children } => push_children(out, p.0, children.as_slice()),
+        Call::CreateView { pair } => page.word(name_at(&script.pairs, pair.0 as usize)),
+        Call::SetTranslation { t, x, y } => push_translation(page, t.0, *x, *y),
+        Call::SetClipBoundary { t, rect } => push_clip(page, t.0, *rect),
+        Call::ReplaceChildren { p, children } => push_children(page, p.0, children.as_slice()),
         Call::CreateViewport {
             c,
             pair,
             w,
             h,
             inset,
-        } => push_viewport(out, script, c.0, *pair, *w, *h, *inset),
-        Call::SetViewportProperties { c, w, h, inset } => push_properties(out, c.0, *w, *h, *inset),
+        } => push_viewport(page, script, c.0, *pair, *w, *h, *inset),
+        Call::SetViewportProperties { c, w, h, inset } => push_properties(
+            page, c.0, *w, *h, *inset,
+        ),
         Call::CreateImage {
             c,
             buffers,
             i,
             w,
             h,
-        } => push_image(out, script, c.0, *buffers, *i, *w, *h),
-        Call::SetImageSampleRegion { c, rect } => push_sample(out, c.0, *rect),
+        } => push_image(page, script, c.0, *buffers, *i, *w, *h),
+        Call::SetImageSampleRegion { c, rect } => push_sample(page, c.0, *rect),
         Call::SetSolidFill {
             c,
             r,
@@ -147,32 +150,32 @@ fn push_longer(out: &mut Vec<u8>, script: &Script, call: &Call) -> Result<(), No
             a,
             w,
             h,
-        } => push_fill(out, c.0, *r, *g, *b, *a, *w, *h),
-        Call::SetHitRegions { t, regions } => push_hit_regions(out, t.0, regions.as_slice()),
+        } => push_fill(page, c.0, *r, *g, *b, *a, *w, *h),
+        Call::SetHitRegions { t, regions } => push_hit_regions(page, t.0, regions.as_slice()),
         _ => unreachable!(),
     }
 }
 
-fn push_translation(out: &mut Vec<u8>, t: u64, x: i32, y: i32) -> Result<(), NoMemory>
+fn push_translation(page: &mut Page, t: u64, x: i32, y: i32) -> Result<(), NoMemory>
     ensures { OnOk result (Writes (decimal t ∷ signed_decimal x ∷ signed_decimal y
-        ∷ []) out.old.items out.new.items) }
+        ∷ []) page.old page.new) }
 {
-    push_u64(out, t)?;
-    push_point(out, x, y)?;
+    page.count(t)?;
+    page.point(x, y)?;
     Ok(())
 }
 
-fn push_clip(out: &mut Vec<u8>, t: u64, rect: Option<IntRect>) -> Result<(), NoMemory>
-    ensures { OnOk result (Writes (decimal t ∷ option_map_or rect_words rect []) out.old.items
-        out.new.items) }
+fn push_clip(page: &mut Page, t: u64, rect: Option<IntRect>) -> Result<(), NoMemory>
+    ensures { OnOk result (Writes (decimal t ∷ option_map_or rect_words rect []) page.old
+        page.new) }
 {
-    push_u64(out, t)?;
-    push_rect_if_any(out, rect)?;
+    page.count(t)?;
+    push_rect_if_any(page, rect)?;
     Ok(())
 }
 
 fn push_viewport(
-    out: &mut Vec<u8>,
+    page: &mut Page,
     script: &Script,
     c: u64,
     pair: PairNo,
@@ -181,32 +184,32 @@ fn push_viewport(
     inset: Inset,
 ) -> Result<(), NoMemory>
     ensures { OnOk result (Writes (decimal c ∷ pair_word script.now pair ∷ numbers (w ∷ h ∷ [])
-        ++ inset_unless_none inset) out.old.items out.new.items) }
+        ++ inset_unless_none inset) page.old page.new) }
 {
-    push_u64(out, c)?;
-    push_word(out, name_at(&script.pairs, pair.0 as usize))?;
-    push_numbers(out, &[w as u64, h as u64])?;
-    push_inset_unless_none(out, inset)?;
+    page.count(c)?;
+    page.word(name_at(&script.pairs, pair.0 as usize))?;
+    push_numbers(page, &[w as u64, h as u64])?;
+    push_inset_unless_none(page, inset)?;
     Ok(())
 }
 
 fn push_properties(
-    out: &mut Vec<u8>,
+    page: &mut Page,
     c: u64,
     w: u32,
     h: u32,
     inset: Option<Inset>,
 ) -> Result<(), NoMemory>
     ensures { OnOk result (Writes (numbers (c ∷ w ∷ h ∷ []) ++ option_map_or inset_words inset [])
-        out.old.items out.new.items) }
+        page.old page.new) }
 {
-    push_numbers(out, &[c, w as u64, h as u64])?;
-    push_inset_if_any(out, inset)?;
+    push_numbers(page, &[c, w as u64, h as u64])?;
+    push_inset_if_any(page, inset)?;
     Ok(())
 }
 
 fn push_image(
-    out: &mut Vec<u8>,
+    page: &mut Page,
     script: &Script,
     c: u64,
     buffers: BufferNo,
@@ -215,24 +218,24 @@ fn push_image(
     h: u32,
 ) -> Result<(), NoMemory>
     ensures { OnOk result (Writes (decimal c ∷ buffers_word script.now buffers
-        ∷ numbers (i ∷ w ∷ h ∷ [])) out.old.items out.new.items) }
+        ∷ numbers (i ∷ w ∷ h ∷ [])) page.old page.new) }
 {
-    push_u64(out, c)?;
-    push_word(out, name_at(&script.buffers, buffers.0 as usize))?;
-    push_numbers(out, &[i as u64, w as u64, h as u64])?;
+    page.count(c)?;
+    page.word(name_at(&script.buffers, buffers.0 as usize))?;
+    push_numbers(page, &[i as u64, w as u64, h as u64])?;
     Ok(())
 }
 
-fn push_sample(out: &mut Vec<u8>, c: u64, rect: IntRect) -> Result<(), NoMemory>
-    ensures { OnOk result (Writes (decimal c ∷ rect_words rect) out.old.items out.new.items) }
+fn push_sample(page: &mut Page, c: u64, rect: IntRect) -> Result<(), NoMemory>
+    ensures { OnOk result (Writes (decimal c ∷ rect_words rect) page.old page.new) }
 {
-    push_u64(out, c)?;
-    push_rect(out, rect)?;
+    page.count(c)?;
+    push_rect(page, rect)?;
     Ok(())
 }
 
 fn push_fill(
-    out: &mut Vec<u8>,
+    page: &mut Page,
     c: u64,
     r: u8,
     g: u8,
@@ -241,31 +244,31 @@ fn push_fill(
     w: u32,
     h: u32,
 ) -> Result<(), NoMemory>
-    ensures { OnOk result (Writes (numbers (c ∷ r ∷ g ∷ b ∷ a ∷ w ∷ h ∷ [])) out.old.items
-        out.new.items) }
+    ensures { OnOk result (Writes (numbers (c ∷ r ∷ g ∷ b ∷ a ∷ w ∷ h ∷ [])) page.old
+        page.new) }
 {
     push_numbers(
-        out,
+        page,
         &[
             c, r as u64, g as u64, b as u64, a as u64, w as u64, h as u64,
         ],
     )
 }
 
-fn push_hit_regions(out: &mut Vec<u8>, t: u64, regions: &[HitRegion]) -> Result<(), NoMemory>
-    ensures { OnOk result (Writes (decimal t ∷ flat_map region_words regions.now) out.old.items
-        out.new.items) }
+fn push_hit_regions(page: &mut Page, t: u64, regions: &[HitRegion]) -> Result<(), NoMemory>
+    ensures { OnOk result (Writes (decimal t ∷ flat_map region_words regions.now) page.old
+        page.new) }
 {
-    push_u64(out, t)?;
-    push_regions(out, regions)?;
+    page.count(t)?;
+    push_regions(page, regions)?;
     Ok(())
 }
 
-fn push_children(out: &mut Vec<u8>, p: u64, children: &[TransformId]) -> Result<(), NoMemory>
-    ensures { OnOk result (Writes (decimal p ∷ map (λ k. decimal k.0) children.now) out.old.items
-        out.new.items) }
+fn push_children(page: &mut Page, p: u64, children: &[TransformId]) -> Result<(), NoMemory>
+    ensures { OnOk result (Writes (decimal p ∷ map (λ k. decimal k.0) children.now) page.old
+        page.new) }
 {
-    push_u64(out, p)?;
-    push_transforms(out, children)?;
+    page.count(p)?;
+    push_transforms(page, children)?;
     Ok(())
 }

@@ -1,178 +1,180 @@
 ghost use Rattle.std.specs.Prelude.{◌≡◌, ◌++◌, ◌∷◌, [], OnOk, codes};
 ghost use Rattle.std.specs.Fmt.{decimal, signed_decimal};
-ghost use Rattle.flat_print.specs.Print.{session_word, Writes, lists_words};
+ghost use Rattle.flat_page.specs.Pages.{Writes};
+ghost use Rattle.flat_print.specs.Print.{session_word, lists_words};
 ghost use Rattle.flat_print.specs.Print.{unsquashable_word, present_words, condition_words};
 ghost use Rattle.flat_print.specs.Print.{get_words, session_words};
 ghost use Rattle.flat_print.specs.Print.{display_words, probe_words, body_words};
 
 use crate::print_calls::push_call;
-use crate::print_words::{fence_word, push_list, push_point, push_u64, push_word, session_word};
+use crate::print_words::{fence_word, push_list, session_word};
 use flat_base::{ContentId, NoMemory, SessionNo};
+use flat_page::Page;
 use flat_places::Script;
 use flat_scene::{Body, Cond, DisplayLine, Line, PresentArgs, ProbeLine, Watch};
 
-fn push_present(out: &mut Vec<u8>, script: &Script, present: &PresentArgs) -> Result<(), NoMemory>
-    ensures { OnOk result (Writes (present_words script.now present.now) out.old.items
-        out.new.items) }
+fn push_present(page: &mut Page, script: &Script, present: &PresentArgs) -> Result<(), NoMemory>
+    ensures { OnOk result (Writes (present_words script.now present.now) page.old
+        page.new) }
 {
-    push_word(out, b"Present")?;
-    push_u64(out, present.time)?;
-    push_unsquashable(out, present.unsquashable)?;
-    push_lists(out, script, present)?;
+    page.word(b"Present")?;
+    page.count(present.time)?;
+    push_unsquashable(page, present.unsquashable)?;
+    push_lists(page, script, present)?;
     Ok(())
 }
 
-fn push_unsquashable(out: &mut Vec<u8>, unsquashable: bool) -> Result<(), NoMemory>
-    ensures { OnOk result (Writes (unsquashable_word unsquashable) out.old.items out.new.items) }
+fn push_unsquashable(page: &mut Page, unsquashable: bool) -> Result<(), NoMemory>
+    ensures { OnOk result (Writes (unsquashable_word unsquashable) page.old page.new) }
 {
     if unsquashable {
-        push_word(out, b"unsquashable")
+        page.word(b"unsquashable")
     } else {
         Ok(())
     }
 }
 
-fn push_lists(out: &mut Vec<u8>, script: &Script, present: &PresentArgs) -> Result<(), NoMemory>
-    ensures { OnOk result (Writes (lists_words script.now present.now) out.old.items
-        out.new.items) }
+fn push_lists(page: &mut Page, script: &Script, present: &PresentArgs) -> Result<(), NoMemory>
+    ensures { OnOk result (Writes (lists_words script.now present.now) page.old
+        page.new) }
 {
-    push_list(out, script, "acquire", present.acquire.as_slice())?;
-    push_list(out, script, "release", present.release.as_slice())?;
+    push_list(page, script, "acquire", present.acquire.as_slice())?;
+    push_list(page, script, "release", present.release.as_slice())?;
     Ok(())
 }
 
-fn push_condition(out: &mut Vec<u8>, script: &Script, condition: Cond) -> Result<(), NoMemory>
-    ensures { OnOk result (Writes (condition_words script.now condition) out.old.items
-        out.new.items) }
+fn push_condition(page: &mut Page, script: &Script, condition: Cond) -> Result<(), NoMemory>
+    ensures { OnOk result (Writes (condition_words script.now condition) page.old
+        page.new) }
 {
     match condition {
-        Cond::Frames(n) => push_count(out, "frames", n),
-        Cond::Credits(n) => push_count(out, "credits", n),
-        Cond::Taken(n) => push_count(out, "taken", n),
-        Cond::Answers(n) => push_count(out, "answers", n),
-        Cond::Fence(f) => push_named(out, "fence", fence_word(script, f)),
-        Cond::Presents(a, n) => push_presents(out, script, a, n),
+        Cond::Frames(n) => push_count(page, "frames", n),
+        Cond::Credits(n) => push_count(page, "credits", n),
+        Cond::Taken(n) => push_count(page, "taken", n),
+        Cond::Answers(n) => push_count(page, "answers", n),
+        Cond::Fence(f) => push_named(page, "fence", fence_word(script, f)),
+        Cond::Presents(a, n) => push_presents(page, script, a, n),
     }
 }
 
-fn push_count(out: &mut Vec<u8>, word: &str, n: u32) -> Result<(), NoMemory>
-    ensures { OnOk result (Writes (word.now ∷ decimal n ∷ []) out.old.items out.new.items) }
+fn push_count(page: &mut Page, word: &str, n: u32) -> Result<(), NoMemory>
+    ensures { OnOk result (Writes (word.now ∷ decimal n ∷ []) page.old page.new) }
 {
-    push_word(out, word.as_bytes())?;
-    push_u64(out, n as u64)?;
+    page.word(word.as_bytes())?;
+    page.count(n as u64)?;
     Ok(())
 }
 
-fn push_named(out: &mut Vec<u8>, word: &str, name: &[u8]) -> Result<(), NoMemory>
-    ensures { OnOk result (Writes (word.now ∷ name.now ∷ []) out.old.items out.new.items) }
+fn push_named(page: &mut Page, word: &str, name: &[u8]) -> Result<(), NoMemory>
+    ensures { OnOk result (Writes (word.now ∷ name.now ∷ []) page.old page.new) }
 {
-    push_word(out, word.as_bytes())?;
-    push_word(out, name)?;
+    page.word(word.as_bytes())?;
+    page.word(name)?;
     Ok(())
 }
 
 fn push_presents(
-    out: &mut Vec<u8>,
+    page: &mut Page,
     script: &Script,
     session: SessionNo,
     n: u32,
 ) -> Result<(), NoMemory>
     ensures { OnOk result (Writes (codes "presents" ∷ session_word script.now session ∷ decimal n
-        ∷ []) out.old.items out.new.items) }
+        ∷ []) page.old page.new) }
 {
-    push_named(out, "presents", session_word(script, session))?;
-    push_u64(out, n as u64)?;
+    push_named(page, "presents", session_word(script, session))?;
+    page.count(n as u64)?;
     Ok(())
 }
 
-fn push_get(out: &mut Vec<u8>, watch: Watch) -> Result<(), NoMemory>
-    ensures { OnOk result (Writes (get_words watch) out.old.items out.new.items) }
+fn push_get(page: &mut Page, watch: Watch) -> Result<(), NoMemory>
+    ensures { OnOk result (Writes (get_words watch) page.old page.new) }
 {
     match watch {
-        Watch::Layout => push_word(out, b"GetLayout"),
-        Watch::Status => push_word(out, b"GetStatus"),
-        Watch::Child(c) => push_child(out, c),
+        Watch::Layout => page.word(b"GetLayout"),
+        Watch::Status => page.word(b"GetStatus"),
+        Watch::Child(c) => push_child(page, c),
     }
 }
 
-fn push_child(out: &mut Vec<u8>, c: ContentId) -> Result<(), NoMemory>
-    ensures { OnOk result (Writes (codes "GetChildStatus" ∷ decimal c.0 ∷ []) out.old.items
-        out.new.items) }
+fn push_child(page: &mut Page, c: ContentId) -> Result<(), NoMemory>
+    ensures { OnOk result (Writes (codes "GetChildStatus" ∷ decimal c.0 ∷ []) page.old
+        page.new) }
 {
-    push_word(out, b"GetChildStatus")?;
-    push_u64(out, c.0)?;
+    page.word(b"GetChildStatus")?;
+    page.count(c.0)?;
     Ok(())
 }
 
-fn push_wait(out: &mut Vec<u8>, script: &Script, condition: Cond) -> Result<(), NoMemory>
+fn push_wait(page: &mut Page, script: &Script, condition: Cond) -> Result<(), NoMemory>
     ensures { OnOk result (Writes (codes "Wait" ∷ condition_words script.now condition)
-        out.old.items out.new.items) }
+        page.old page.new) }
 {
-    push_word(out, b"Wait")?;
-    push_condition(out, script, condition)?;
+    page.word(b"Wait")?;
+    push_condition(page, script, condition)?;
     Ok(())
 }
 
-fn push_hit(out: &mut Vec<u8>, x: i32, y: i32) -> Result<(), NoMemory>
+fn push_hit(page: &mut Page, x: i32, y: i32) -> Result<(), NoMemory>
     ensures { OnOk result (Writes (codes "hit" ∷ signed_decimal x ∷ signed_decimal y
-        ∷ []) out.old.items out.new.items) }
+        ∷ []) page.old page.new) }
 {
-    push_word(out, b"hit")?;
-    push_point(out, x, y)?;
+    page.word(b"hit")?;
+    page.point(x, y)?;
     Ok(())
 }
 
-fn push_time(out: &mut Vec<u8>, time: u64) -> Result<(), NoMemory>
-    ensures { OnOk result (Writes (codes "begin" ∷ decimal time ∷ []) out.old.items out.new.items) }
+fn push_time(page: &mut Page, time: u64) -> Result<(), NoMemory>
+    ensures { OnOk result (Writes (codes "begin" ∷ decimal time ∷ []) page.old page.new) }
 {
-    push_word(out, b"begin")?;
-    push_u64(out, time)?;
+    page.word(b"begin")?;
+    page.count(time)?;
     Ok(())
 }
 
-fn push_session_line(out: &mut Vec<u8>, script: &Script, line: &Line) -> Result<(), NoMemory>
-    ensures { OnOk result (Writes (session_words script.now line.now) out.old.items out.new.items) }
+fn push_session_line(page: &mut Page, script: &Script, line: &Line) -> Result<(), NoMemory>
+    ensures { OnOk result (Writes (session_words script.now line.now) page.old page.new) }
 {
     match line {
-        Line::Call(call) => push_call(out, script, call),
-        Line::Present(present) => push_present(out, script, present),
-        Line::Get(watch) => push_get(out, *watch),
-        Line::Signal(f) => push_named(out, "Signal", fence_word(script, *f)),
-        Line::Poll => push_word(out, b"Poll"),
-        Line::Wait(condition) => push_wait(out, script, *condition),
-        Line::Disconnect => push_word(out, b"Disconnect"),
+        Line::Call(call) => push_call(page, script, call),
+        Line::Present(present) => push_present(page, script, present),
+        Line::Get(watch) => push_get(page, *watch),
+        Line::Signal(f) => push_named(page, "Signal", fence_word(script, *f)),
+        Line::Poll => page.word(b"Poll"),
+        Line::Wait(condition) => push_wait(page, script, *condition),
+        Line::Disconnect => page.word(b"Disconnect"),
     }
 }
 
-fn push_display_line(out: &mut Vec<u8>, script: &Script, line: DisplayLine) -> Result<(), NoMemory>
-    ensures { OnOk result (Writes (display_words script.now line) out.old.items out.new.items) }
+fn push_display_line(page: &mut Page, script: &Script, line: DisplayLine) -> Result<(), NoMemory>
+    ensures { OnOk result (Writes (display_words script.now line) page.old page.new) }
 {
     match line {
-        DisplayLine::Begin(time) => push_time(out, time),
-        DisplayLine::Done => push_word(out, b"done"),
-        DisplayLine::Signal(f) => push_named(out, "Signal", fence_word(script, f)),
-        DisplayLine::Wait(condition) => push_wait(out, script, condition),
-        DisplayLine::Hit(x, y) => push_hit(out, x, y),
-        DisplayLine::Dpr(ratio) => push_count(out, "dpr", ratio),
+        DisplayLine::Begin(time) => push_time(page, time),
+        DisplayLine::Done => page.word(b"done"),
+        DisplayLine::Signal(f) => push_named(page, "Signal", fence_word(script, f)),
+        DisplayLine::Wait(condition) => push_wait(page, script, condition),
+        DisplayLine::Hit(x, y) => push_hit(page, x, y),
+        DisplayLine::Dpr(ratio) => push_count(page, "dpr", ratio),
     }
 }
 
-fn push_probe_line(out: &mut Vec<u8>, line: ProbeLine) -> Result<(), NoMemory>
-    ensures { OnOk result (Writes (probe_words line) out.old.items out.new.items) }
+fn push_probe_line(page: &mut Page, line: ProbeLine) -> Result<(), NoMemory>
+    ensures { OnOk result (Writes (probe_words line) page.old page.new) }
 {
     match line {
-        ProbeLine::Hit(x, y) => push_hit(out, x, y),
-        ProbeLine::Await(n) => push_count(out, "await", n),
+        ProbeLine::Hit(x, y) => push_hit(page, x, y),
+        ProbeLine::Await(n) => push_count(page, "await", n),
     }
 }
 
 /// What stands behind an actor.
-pub fn push_body(out: &mut Vec<u8>, script: &Script, body: &Body) -> Result<(), NoMemory>
-    ensures { OnOk result (Writes (body_words script.now body.now) out.old.items out.new.items) }
+pub fn push_body(page: &mut Page, script: &Script, body: &Body) -> Result<(), NoMemory>
+    ensures { OnOk result (Writes (body_words script.now body.now) page.old page.new) }
 {
     match body {
-        Body::Session(line) => push_session_line(out, script, line),
-        Body::Display(line) => push_display_line(out, script, *line),
-        Body::Probe(line) => push_probe_line(out, *line),
+        Body::Session(line) => push_session_line(page, script, line),
+        Body::Display(line) => push_display_line(page, script, *line),
+        Body::Probe(line) => push_probe_line(page, *line),
     }
 }

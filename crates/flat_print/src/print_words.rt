@@ -1,17 +1,17 @@
+ghost use Rattle.flat_page.specs.Pages.{Writes};
 ghost use Rattle.flat_page.specs.Words.{actor_name};
 ghost use Rattle.std.specs.Prelude.{◌≡◌, ◌++◌, ◌∷◌, [], OnOk, map, cond};
-ghost use Rattle.std.specs.Fmt.{decimal, signed_decimal};
+ghost use Rattle.std.specs.Fmt.{decimal};
 ghost use Rattle.std.specs.Option.{option_map_or};
 ghost use Rattle.std.specs.List.{flat_map};
-ghost use Rattle.flat_print.specs.Print.{Writes, numbers, session_word, fence_word, rect_words, inset_words};
+ghost use Rattle.flat_print.specs.Print.{numbers, session_word, fence_word, rect_words, inset_words};
 ghost use Rattle.flat_print.specs.Print.{inset_unless_none, region_words, list_words, orientation_number, blend_number};
 ghost use Rattle.flat_print.specs.Choices.{flip_number, interaction_number};
 
 use flat_base::{Actor, FenceNo, IntRect, NoMemory, Orientation, SessionNo, TransformId};
-use flat_page::{actor_name, name_at, session_name};
+use flat_page::{Page, actor_name, name_at, session_name};
 use flat_places::Script;
 use flat_scene::{BlendMode, HitRegion, ImageFlip, Inset, Interaction};
-use flat_text::push_number;
 
 pub fn session_word(script: &Script, session: SessionNo) -> &[u8]
     ensures { result.now ≡ session_word script.now session }
@@ -25,99 +25,36 @@ pub fn fence_word(script: &Script, fence: FenceNo) -> &[u8]
     name_at(&script.fences, fence.0 as usize)
 }
 
-pub fn push_bytes(out: &mut Vec<u8>, bytes: &[u8]) -> Result<(), NoMemory>
-    ensures { OnOk result (out.new.items ≡ out.old.items ++ bytes.now) }
-{
-    out.extend_from_slice(bytes)?;
-    Ok(())
-}
-
-/// A space and the word.
-pub fn push_word(out: &mut Vec<u8>, word: &[u8]) -> Result<(), NoMemory>
-    ensures { OnOk result (Writes (word.now ∷ []) out.old.items out.new.items) }
-{
-    push_bytes(out, b" ")?;
-    push_bytes(out, word)
-}
-
-/// A space and the number.
-fn push_integer(out: &mut Vec<u8>, value: i128) -> Result<(), NoMemory>
-    ensures { OnOk result (Writes (signed_decimal value ∷ []) out.old.items out.new.items) }
-{
-    push_bytes(out, b" ")?;
-    push_number(out, value)?;
-    Ok(())
-}
-
-pub fn push_i32(out: &mut Vec<u8>, value: i32) -> Result<(), NoMemory>
-    ensures { OnOk result (Writes (signed_decimal value ∷ []) out.old.items out.new.items) }
-{
-    push_integer(out, value as i128)
-}
-
-pub fn push_u64(out: &mut Vec<u8>, value: u64) -> Result<(), NoMemory>
-    ensures { OnOk result (Writes (decimal value ∷ []) out.old.items out.new.items) }
-{
-    push_integer(out, value as i128)
-}
-
-pub fn push_point(out: &mut Vec<u8>, x: i32, y: i32) -> Result<(), NoMemory>
-    ensures { OnOk result (Writes (signed_decimal x ∷ signed_decimal y ∷ []) out.old.items
-        out.new.items) }
-{
-    push_i32(out, x)?;
-    push_i32(out, y)?;
-    Ok(())
-}
-
 /// Each of the numbers behind a space.
-pub fn push_numbers(out: &mut Vec<u8>, values: &[u64]) -> Result<(), NoMemory>
-    ensures { OnOk result (Writes (numbers values.now) out.old.items out.new.items) }
+pub fn push_numbers(page: &mut Page, values: &[u64]) -> Result<(), NoMemory>
+    ensures { OnOk result (Writes (numbers values.now) page.old page.new) }
 {
     for value in values {
-        push_u64(out, *value)?;
+        page.count(*value)?;
     }
     Ok(())
 }
 
-fn push_two(out: &mut Vec<u8>, a: i32, b: i32) -> Result<(), NoMemory>
-    ensures { OnOk result (Writes (signed_decimal a ∷ signed_decimal b ∷ []) out.old.items
-        out.new.items) }
+pub fn push_rect(page: &mut Page, rect: IntRect) -> Result<(), NoMemory>
+    ensures { OnOk result (Writes (rect_words rect) page.old page.new) }
 {
-    push_i32(out, a)?;
-    push_i32(out, b)?;
-    Ok(())
+    page.units(rect.x, rect.y, rect.w, rect.h)
 }
 
-fn push_four(out: &mut Vec<u8>, a: i32, b: i32, c: i32, d: i32) -> Result<(), NoMemory>
-    ensures { OnOk result (Writes (signed_decimal a ∷ signed_decimal b ∷ signed_decimal c
-        ∷ signed_decimal d ∷ []) out.old.items out.new.items) }
-{
-    push_two(out, a, b)?;
-    push_two(out, c, d)?;
-    Ok(())
-}
-
-pub fn push_rect(out: &mut Vec<u8>, rect: IntRect) -> Result<(), NoMemory>
-    ensures { OnOk result (Writes (rect_words rect) out.old.items out.new.items) }
-{
-    push_four(out, rect.x, rect.y, rect.w, rect.h)
-}
-
-pub fn push_rect_if_any(out: &mut Vec<u8>, rect: Option<IntRect>) -> Result<(), NoMemory>
-    ensures { OnOk result (Writes (option_map_or rect_words rect []) out.old.items out.new.items) }
+pub fn push_rect_if_any(page: &mut Page, rect: Option<IntRect>) -> Result<(), NoMemory>
+    ensures { OnOk result (Writes (option_map_or rect_words rect []) page.old page.new) }
 {
     match rect {
-        Some(rect) => push_rect(out, rect),
+        Some(rect) => push_rect(page, rect),
         None => Ok(()),
     }
 }
 
-fn push_inset(out: &mut Vec<u8>, inset: Inset) -> Result<(), NoMemory>
-    ensures { OnOk result (Writes (inset_words inset) out.old.items out.new.items) }
+fn push_inset(page: &mut Page, inset: Inset) -> Result<(), NoMemory>
+    ensures { OnOk result (Writes (inset_words inset) page.old page.new) }
 {
     push_numbers(
-        out,
+        page,
         &[
             inset.top as u64,
             inset.right as u64,
@@ -127,24 +64,24 @@ fn push_inset(out: &mut Vec<u8>, inset: Inset) -> Result<(), NoMemory>
     )
 }
 
-pub fn push_inset_if_any(out: &mut Vec<u8>, inset: Option<Inset>) -> Result<(), NoMemory>
-    ensures { OnOk result (Writes (option_map_or inset_words inset []) out.old.items
-        out.new.items) }
+pub fn push_inset_if_any(page: &mut Page, inset: Option<Inset>) -> Result<(), NoMemory>
+    ensures { OnOk result (Writes (option_map_or inset_words inset []) page.old
+        page.new) }
 {
     match inset {
-        Some(inset) => push_inset(out, inset),
+        Some(inset) => push_inset(page, inset),
         None => Ok(()),
     }
 }
 
 /// Nothing for an inset of 0 on all sides.
-pub fn push_inset_unless_none(out: &mut Vec<u8>, inset: Inset) -> Result<(), NoMemory>
-    ensures { OnOk result (Writes (inset_unless_none inset) out.old.items out.new.items) }
+pub fn push_inset_unless_none(page: &mut Page, inset: Inset) -> Result<(), NoMemory>
+    ensures { OnOk result (Writes (inset_unless_none inset) page.old page.new) }
 {
     if inset.top == 0 && inset.right == 0 && inset.bottom == 0 && inset.left == 0 {
         return Ok(());
     }
-    push_inset(out, inset)
+    push_inset(page, inset)
 }
 
 pub fn orientation_number(orientation: Orientation) -> u64
@@ -188,67 +125,67 @@ pub fn interaction_number(interaction: Interaction) -> u64
     }
 }
 
-fn push_region(out: &mut Vec<u8>, region: &HitRegion) -> Result<(), NoMemory>
-    ensures { OnOk result (Writes (region_words region.now) out.old.items out.new.items) }
+fn push_region(page: &mut Page, region: &HitRegion) -> Result<(), NoMemory>
+    ensures { OnOk result (Writes (region_words region.now) page.old page.new) }
 {
-    push_rect_if_any(out, region.area)?;
-    push_numbers(out, &[interaction_number(region.interaction)])?;
+    push_rect_if_any(page, region.area)?;
+    push_numbers(page, &[interaction_number(region.interaction)])?;
     Ok(())
 }
 
-pub fn push_regions(out: &mut Vec<u8>, regions: &[HitRegion]) -> Result<(), NoMemory>
-    ensures { OnOk result (Writes (flat_map region_words regions.now) out.old.items out.new.items) }
+pub fn push_regions(page: &mut Page, regions: &[HitRegion]) -> Result<(), NoMemory>
+    ensures { OnOk result (Writes (flat_map region_words regions.now) page.old page.new) }
 {
     for region in regions {
-        push_region(out, region)?;
+        push_region(page, region)?;
     }
     Ok(())
 }
 
-pub fn push_transforms(out: &mut Vec<u8>, transforms: &[TransformId]) -> Result<(), NoMemory>
-    ensures { OnOk result (Writes (map (λ t. decimal t.0) transforms.now) out.old.items
-        out.new.items) }
+pub fn push_transforms(page: &mut Page, transforms: &[TransformId]) -> Result<(), NoMemory>
+    ensures { OnOk result (Writes (map (λ t. decimal t.0) transforms.now) page.old
+        page.new) }
 {
     for transform in transforms {
-        push_u64(out, transform.0)?;
+        page.count(transform.0)?;
     }
     Ok(())
 }
 
-fn push_fences(out: &mut Vec<u8>, script: &Script, fences: &[FenceNo]) -> Result<(), NoMemory>
-    ensures { OnOk result (Writes (map (fence_word script.now) fences.now) out.old.items
-        out.new.items) }
+fn push_fences(page: &mut Page, script: &Script, fences: &[FenceNo]) -> Result<(), NoMemory>
+    ensures { OnOk result (Writes (map (fence_word script.now) fences.now) page.old
+        page.new) }
 {
     for fence in fences {
-        push_word(out, fence_word(script, *fence))?;
+        page.word(fence_word(script, *fence))?;
     }
     Ok(())
 }
 
 /// A list of fences behind its keyword, or nothing for an empty one.
 pub fn push_list(
-    out: &mut Vec<u8>,
+    page: &mut Page,
     script: &Script,
     keyword: &str,
     fences: &[FenceNo],
 ) -> Result<(), NoMemory>
-    ensures { OnOk result (Writes (list_words script.now keyword.now fences.now) out.old.items
-        out.new.items) }
+    ensures { OnOk result (Writes (list_words script.now keyword.now fences.now) page.old
+        page.new) }
 {
     if fences.is_empty() {
         return Ok(());
     }
-    push_word(out, keyword.as_bytes())?;
-    push_fences(out, script, fences)?;
+    page.word(keyword.as_bytes())?;
+    push_fences(page, script, fences)?;
     Ok(())
 }
 
-pub fn push_owners(out: &mut Vec<u8>, script: &Script, owners: &[Actor]) -> Result<(), NoMemory>
-    ensures { OnOk result (Writes (map (actor_name script.now) owners.now) out.old.items
-        out.new.items) }
+pub fn push_owners(page: &mut Page, script: &Script, owners: &[Actor]) -> Result<(), NoMemory>
+    ensures { OnOk result (Writes (map (actor_name script.now) owners.now) page.old
+        page.new) }
 {
     for owner in owners {
-        push_word(out, actor_name(script, *owner))?;
+        page.word(actor_name(script, *owner))?;
     }
     Ok(())
 }

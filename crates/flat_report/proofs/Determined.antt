@@ -12,7 +12,7 @@ use Rattle.flat_places.specs.declared.script.Script.{Script}
 use Rattle.flat_lines.specs.EntryLines.{entry_line, event_line}
 use Rattle.flat_lines.specs.FrameLines.{frame_lines, lost_line, lost_at}
 use Rattle.flat_report.specs.Report.{frame_at, hits_at, shown_lines, entry_lines}
-use Rattle.flat_page.specs.Words.{Word}
+use Rattle.flat_places.specs.Forms.{Word}
 use Rattle.flat_report.proofs.lemmas.Losses.{AgreeTo, is_small, losses-told, all-at}
 use Rattle.flat_report.proofs.lemmas.Named.{IsNamed, Acts, acts, same-actor}
 use Rattle.flat_report.proofs.lemmas.Openings.{NoEntry, NoLoss, entry-no-loss, entry-actors, event-no-loss}

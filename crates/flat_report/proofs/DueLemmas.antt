@@ -10,7 +10,7 @@ use Rattle.flat_scene.specs.declared.journal.Kind.TheVariants.{Begin}
 use Rattle.flat_scene.specs.declared.setup.Setup.{Setup}
 use Rattle.flat_scene.specs.Frames.{is_ready, is_signalled, is_unsquashable, ready_prefix, taken, takes, up_to_first, waiting}
 use Rattle.flat_scene.specs.History.{◌▹◌, is_closed, Published}
-use Rattle.flat_report.specs.Due.{IsDue, TakesDue}
+use Rattle.flat_report.specs.Due.{IsDue}
 use Rattle.flat_report.specs.Laws.{DuePresentsAreTaken}
 
 neither : (a b : Bool) → (a || b) ≡ false → (a ≡ false) × (b ≡ false)

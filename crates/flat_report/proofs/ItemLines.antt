@@ -1,13 +1,13 @@
 -- The lines of stretches, one behind another.
-use Rattle.std.proofs.Common.{◌≡◌, ℕ, zero, suc, ◌+◌, ◌-◌, ◌≤◌, List, [], ◌∷◌, ◌++◌, length, map, take, drop, Some, None, refl, sym, ap, ◌∙◌, subst, arith, append-nil, take-add}
+use Rattle.std.proofs.Common.{◌≡◌, ℕ, zero, suc, ◌+◌, ◌-◌, ◌≤◌, List, [], ◌∷◌, ◌++◌, length, map, take, Some, None, sym, ap, ◌∙◌, subst, arith, append-nil, take-add}
 use Rattle.std.specs.Prelude.{slice_get}
 use Rattle.std.specs.Arc.{arc_value}
-use Rattle.std.specs.List.{flat_map}
 use Rattle.std.proofs.lemmas.List.{map-append, take_all}
 use Rattle.std.proofs.lemmas.Grind.{flat_map-append}
 use Rattle.flat_scene.specs.declared.frames.DrawItem.{DrawItem}
 use Rattle.flat_places.specs.declared.script.Script.{Script}
-use Rattle.flat_page.specs.Words.{Word, line_of, text_of}
+use Rattle.flat_page.specs.Words.{line_of, text_of}
+use Rattle.flat_places.specs.Forms.{Word}
 use Rattle.flat_report.specs.declared.item_lines.Stretch.{Stretch}
 use Rattle.flat_lines.specs.FrameLines.{item_line}
 use Rattle.flat_report.specs.ItemLines.{HaveLines, items_text, stretch_items, stretches_text}

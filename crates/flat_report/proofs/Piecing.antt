@@ -1,12 +1,8 @@
--- Pieces and pages, one behind another.
-use Rattle.std.proofs.Common.{◌≡◌, ◌+◌, ◌<◌, ℕ, false, List, [], ◌∷◌, ◌++◌, length, map, take, get_or, refl, sym, ap, ◌∙◌, append-nil, append_assoc, arith}
+-- Pieces, one behind another.
+use Rattle.std.proofs.Common.{◌≡◌, ◌+◌, ◌<◌, ℕ, List, [], ◌∷◌, ◌++◌, length, map, take, get_or, sym, ap, ◌∙◌, append-nil, append_assoc}
 use Rattle.std.specs.List.{concat}
 use Rattle.std.proofs.lemmas.List.{map-append, take_more}
 use Rattle.std.proofs.lemmas.List.Folds.{concat-append}
-use Rattle.flat_page.specs.declared.page.Page.{Page}
-use Rattle.flat_page.specs.Pages.{IsText, bytes_of, is_counting}
-use Rattle.flat_report.specs.Pieces.{text_on}
-use Rattle.flat_report.proofs.Paging.{long-on, own-text}
 
 -- one run more
 pub run-more : {A : Type 0} (text : A → List ℕ) (old new : List A) (run : A) → new ≡ old ++ run ∷ [] → concat (map text new) ≡ concat (map text old) ++ text run
@@ -20,11 +16,3 @@ one-run-more text runs i d start was now within so_far put =
     let one = get_or runs i d in
     put ∙ ap (λ t. t ++ text one) so_far ∙ append_assoc start (concat (map text (take i runs))) (text one)
     ∙ ap (λ t. start ++ t) (sym (run-more text (take i runs) (take (i + 1) runs) one (take_more runs i d within)))
-
--- a page without bytes has no text
-pub no-text : (page : Page) → is_counting page ≡ false → bytes_of page ≡ 0 → text_on page ≡ []
-no-text page has none = by_length (text_on page) (sym (long-on page has) ∙ none)
-  where
-    by_length : (text : List ℕ) → length text ≡ 0 → text ≡ []
-    by_length [] is = refl
-    by_length (x ∷ text) is = absurd (omega (arith, is))

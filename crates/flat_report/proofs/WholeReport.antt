@@ -10,7 +10,8 @@ use Rattle.flat_places.specs.declared.script.Script.{Script}
 use Rattle.flat_report.specs.Laws.{ReportsDetermineHistories}
 use Rattle.flat_report.specs.Runs.{IsRun}
 use Rattle.flat_report.specs.Report.{entry_lines, history_lines, never_falls, probe_lines, report, report_lines, seen_line}
-use Rattle.flat_page.specs.Words.{Word, number}
+use Rattle.flat_page.specs.Words.{number}
+use Rattle.flat_places.specs.Forms.{Word}
 use Rattle.flat_report.proofs.Determined.{Tells, later-told}
 use Rattle.flat_report.proofs.FewFrames.{few-frames}
 use Rattle.flat_report.proofs.lemmas.Losses.{losses-same}

@@ -19,7 +19,8 @@ use Rattle.flat_lines.specs.Ends.{end_line, title_line}
 use Rattle.flat_report.specs.Laws.{HandedIsReport}
 use Rattle.flat_report.specs.Probes.{frames_seen}
 use Rattle.flat_report.specs.Report.{finished, history_lines, entry_lines, seen_line, probe_lines}
-use Rattle.flat_page.specs.Words.{Word, text_of}
+use Rattle.flat_page.specs.Words.{text_of}
+use Rattle.flat_places.specs.Forms.{Word}
 use Rattle.flat_report.proofs.Answered.{probes-text}
 use Rattle.flat_report.proofs.lemmas.Tails.{onto, tail, post_step, frame_step, answer_step, onto-reverse, grows, next_posts, next_text, later_texts, later_answers, finished_one, text-append}
 

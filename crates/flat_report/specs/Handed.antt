@@ -24,7 +24,8 @@ use Rattle.flat_lines.specs.Ends.{end_line, title_line}
 use Rattle.flat_lines.specs.FrameLines.{lost_at, lost_line}
 use Rattle.flat_report.specs.Probes.{frame_seen}
 use Rattle.flat_report.specs.Report.{hits_at}
-use Rattle.flat_page.specs.Words.{Word, number, text_of, actor_name}
+use Rattle.flat_page.specs.Words.{number, text_of, actor_name}
+use Rattle.flat_places.specs.Forms.{Word}
 
 -- the answer to an entry that asks for a point, where the last finished frame has this number and these hits
 abbrev pub answer_to : Entry → ℕ → (ℤ → ℤ → List Hit) → Kind → List HitAnswer

@@ -3,7 +3,6 @@ pub mod FrameTexts
 pub mod Handed
 pub mod ItemLines
 pub mod Laws
-pub mod Pieces
 pub mod Probes
 pub mod Report
 pub mod Runs

@@ -27,7 +27,8 @@ use Rattle.flat_topology.specs.Views.{view_tree}
 use Rattle.flat_lines.specs.Ends.{end_line, title_line}
 use Rattle.flat_lines.specs.EntryLines.{event_line, entry_line, point_words}
 use Rattle.flat_lines.specs.FrameLines.{frame_lines, lost_at, lost_line}
-use Rattle.flat_page.specs.Words.{Word, number, text_of, actor_name}
+use Rattle.flat_page.specs.Words.{number, text_of, actor_name}
+use Rattle.flat_places.specs.Forms.{Word}
 
 -- ---- frames
 

@@ -36,7 +36,7 @@ fn push_stretches(text: &mut Pieces, stretches: &[Stretch]) -> Result<(), NoMemo
 fn tree_run(alloc: Global, script: &Script, tree: &ViewTree) -> Result<Run, NoMemory>
     ensures { IfOk result (λ run. arc_value run ≡ tree_text script.now tree.now) }
 {
-    let mut page = Page::Text(Vec::new(alloc));
+    let mut page = Page::new(alloc);
     push_tree(&mut page, script, tree)?;
     run_of(alloc, page)
 }

@@ -3,7 +3,7 @@
 ghost use Rattle.std.specs.Prelude.{◌≡◌, ◌<◌, ◌≤◌, ◌-◌, ◌∷◌, [], ℕ, List, length, map, take, drop};
 ghost use Rattle.std.specs.Prelude.{false, None, IfOk, IfSome, IsTrue, OnOk};
 ghost use Rattle.std.specs.Arc.{arc_value};
-ghost use Rattle.flat_page.specs.Pages.{IsText, is_counting, WritesLines};
+ghost use Rattle.flat_page.specs.Pages.{WritesLines};
 ghost use Rattle.flat_lines.specs.FrameLines.{item_line};
 ghost use Rattle.flat_report.specs.ItemLines.{AreLines, HaveLines, items_of, items_text};
 ghost use Rattle.flat_report.specs.ItemLines.{stretch_items};
@@ -93,11 +93,9 @@ fn push_items(page: &mut Page, script: &Script, items: &[DrawItem]) -> Result<()
 
 /// What stands on a page, as a run that takes no more room than it has bytes.
 pub(crate) fn run_of(alloc: Global, page: Page) -> Result<Run, NoMemory>
-    requires { is_counting page ≡ false }
-    ensures { (text : List ℕ) → IsText page text → IfOk result (λ run. arc_value run ≡ text) }
+    ensures { IfOk result (λ run. arc_value run ≡ page) }
 {
-    let text = page.into_text();
-    let own = Vec::from_slice(alloc, text.as_slice())?;
+    let own = Vec::from_slice(alloc, page.as_slice())?;
     Ok(Arc::new(alloc, Items::from_vec(own))?)
 }
 
@@ -105,7 +103,7 @@ pub(crate) fn run_of(alloc: Global, page: Page) -> Result<Run, NoMemory>
 fn written(alloc: Global, script: &Script, items: &[DrawItem]) -> Result<Run, NoMemory>
     ensures { IfOk result (λ run. arc_value run ≡ items_text script.now items.now) }
 {
-    let mut page = Page::Text(Vec::with_capacity(alloc, STRETCH_BYTES)?);
+    let mut page = Page::with_capacity(alloc, STRETCH_BYTES)?;
     push_items(&mut page, script, items)?;
     run_of(alloc, page)
 }

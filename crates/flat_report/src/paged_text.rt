@@ -1,16 +1,14 @@
-//! The text of a report while it is written, once and not twice as other texts are: what
-//! stands between long runs of frames fills pages of one size, so that the number of
-//! writes is small where frames are small, and no room for the whole is taken.
-ghost use Rattle.std.specs.Prelude.{◌≡◌, ◌<◌, ◌^◌, ◌-◌, ◌∷◌, ◌++◌, [], map, false, IfOk, OnOk};
+//! The text of a report while it is written: what stands between long runs of frames
+//! fills pages of one size, so that the number of writes is small where frames are
+//! small, and no room for the whole is taken.
+ghost use Rattle.std.specs.Prelude.{◌≡◌, ◌<◌, ◌^◌, ◌-◌, ◌∷◌, ◌++◌, [], map, IfOk, OnOk};
 ghost use Rattle.std.specs.Arc.{arc_value};
-ghost use Rattle.flat_page.specs.Pages.{Puts, is_counting};
 ghost use Rattle.flat_page.specs.Words.{text_of};
 ghost use Rattle.flat_lines.specs.Ends.{end_line, title_line};
 ghost use Rattle.flat_lines.specs.EntryLines.{entry_line};
 ghost use Rattle.flat_lines.specs.PostLines.{post_line};
 ghost use Rattle.flat_lines.specs.FrameLines.{lost_at, lost_line};
 ghost use Rattle.flat_report.specs.Handed.{answer_line};
-ghost use Rattle.flat_report.specs.Pieces.{text_on};
 
 use crate::pieces::{Pieces, Run};
 use crate::probe_lines::push_probe_line;
@@ -41,21 +39,16 @@ pub(crate) struct PagedText {
 }
 
 impl Model for PagedText {
-    ghost use Rattle.std.specs.Prelude.{◌≡◌, List, ℕ, ◌++◌, false};
-    ghost use Rattle.flat_page.specs.Pages.{is_counting};
-    ghost use Rattle.flat_report.specs.Pieces.{text_on};
+    ghost use Rattle.std.specs.Prelude.{List, ℕ, ◌++◌};
 
     ghost Value = { List ℕ };
 
-    ghost view = { λ s. s.full ++ text_on s.page };
-
-    ghost invariant = { λ s. is_counting s.page ≡ false };
+    ghost view = { λ s. s.full ++ s.page };
 }
 
 /// What stands on a page, as a run.
 fn run_on(alloc: Global, page: Page) -> Result<Run, NoMemory>
-    requires { is_counting page ≡ false }
-    ensures { IfOk result (λ run. arc_value run ≡ text_on page) }
+    ensures { IfOk result (λ run. arc_value run ≡ page) }
 {
     let text = Items::from_vec(page.into_text());
     Ok(Arc::new(alloc, text)?)
@@ -64,12 +57,10 @@ fn run_on(alloc: Global, page: Page) -> Result<Run, NoMemory>
 /// Puts the text of a page behind full pieces, and leaves an empty page with so much
 /// room.
 fn end_page(alloc: Global, full: &mut Pieces, page: &mut Page, room: usize) -> Result<(), NoMemory>
-    requires { is_counting page.old ≡ false }
-    ensures full { OnOk result (full.new ≡ full.old ++ text_on page.old) }
-    ensures page { OnOk result (text_on page.new ≡ []) }
-    ensures sort { is_counting page.new ≡ false }
+    ensures full { OnOk result (full.new ≡ full.old ++ page.old) }
+    ensures page { OnOk result (page.new ≡ []) }
 {
-    let next = Page::Text(Vec::with_capacity(alloc, room)?);
+    let next = Page::with_capacity(alloc, room)?;
     let ended = mem::replace(page, next);
     full.push(run_on(alloc, ended)?)?;
     Ok(())
@@ -77,10 +68,8 @@ fn end_page(alloc: Global, full: &mut Pieces, page: &mut Page, room: usize) -> R
 
 /// The same where the page has any text.
 fn end_started(alloc: Global, full: &mut Pieces, page: &mut Page) -> Result<(), NoMemory>
-    requires { is_counting page.old ≡ false }
-    ensures full { OnOk result (full.new ≡ full.old ++ text_on page.old) }
-    ensures page { OnOk result (text_on page.new ≡ []) }
-    ensures sort { is_counting page.new ≡ false }
+    ensures full { OnOk result (full.new ≡ full.old ++ page.old) }
+    ensures page { OnOk result (page.new ≡ []) }
 {
     if page.len() == 0 {
         return Ok(());
@@ -96,7 +85,7 @@ impl PagedText {
         PagedText {
             alloc,
             full: Pieces::new(alloc),
-            page: Page::Text(Vec::new(alloc)),
+            page: Page::new(alloc),
         }
     }
 
@@ -136,19 +125,14 @@ impl PagedText {
     fn copy(&mut self, text: &[u8]) -> Result<(), NoMemory>
         ensures { OnOk result (self.new ≡ self.old ++ text.now) }
     {
-        let mut page = mem::replace(&mut self.page, Page::Text(Vec::new(self.alloc)));
-        page.put(text)?;
-        self.page = page;
-        Ok(())
+        self.page.put(text)
     }
 
     /// Puts the first line, of a script of that version.
     pub(crate) fn title(&mut self, version: u32) -> Result<(), NoMemory>
         ensures { OnOk result (self.new ≡ self.old ++ text_of (title_line version ∷ [])) }
     {
-        let mut page = mem::replace(&mut self.page, Page::Text(Vec::new(self.alloc)));
-        push_title(&mut page, version)?;
-        self.page = page;
+        push_title(&mut self.page, version)?;
         Ok(())
     }
 
@@ -164,9 +148,7 @@ impl PagedText {
         ensures { OnOk result (self.new ≡ self.old
             ++ text_of (entry_line script.now finished (λ x y. hits.now) entry.now ∷ [])) }
     {
-        let mut page = mem::replace(&mut self.page, Page::Text(Vec::new(self.alloc)));
-        push_entry(&mut page, script, finished, hits, entry)?;
-        self.page = page;
+        push_entry(&mut self.page, script, finished, hits, entry)?;
         Ok(())
     }
 
@@ -175,9 +157,7 @@ impl PagedText {
         ensures { OnOk result
             (self.new ≡ self.old ++ text_of (map lost_line (lost_at number lost.now))) }
     {
-        let mut page = mem::replace(&mut self.page, Page::Text(Vec::new(self.alloc)));
-        push_losses(&mut page, number, lost)?;
-        self.page = page;
+        push_losses(&mut self.page, number, lost)?;
         Ok(())
     }
 
@@ -186,9 +166,7 @@ impl PagedText {
         ensures { OnOk result
             (self.new ≡ self.old ++ text_of (map (post_line script.now) posts.now)) }
     {
-        let mut page = mem::replace(&mut self.page, Page::Text(Vec::new(self.alloc)));
-        push_posts(&mut page, script, posts)?;
-        self.page = page;
+        push_posts(&mut self.page, script, posts)?;
         Ok(())
     }
 
@@ -197,9 +175,7 @@ impl PagedText {
         ensures { OnOk result
             (self.new ≡ self.old ++ text_of (answer_line script.now answer.now ∷ [])) }
     {
-        let mut page = mem::replace(&mut self.page, Page::Text(Vec::new(self.alloc)));
-        push_probe_line(&mut page, script, answer)?;
-        self.page = page;
+        push_probe_line(&mut self.page, script, answer)?;
         Ok(())
     }
 
@@ -207,9 +183,7 @@ impl PagedText {
     pub(crate) fn end(&mut self, entries: usize, finished: u64) -> Result<(), NoMemory>
         ensures { OnOk result (self.new ≡ self.old ++ text_of (end_line entries finished ∷ [])) }
     {
-        let mut page = mem::replace(&mut self.page, Page::Text(Vec::new(self.alloc)));
-        push_end(&mut page, entries, finished)?;
-        self.page = page;
+        push_end(&mut self.page, entries, finished)?;
         Ok(())
     }
 

@@ -15,15 +15,14 @@ use Rattle.flat_scene.specs.declared.script.Line.{Line}
 use Rattle.flat_scene.specs.declared.script.ScriptLine.{ScriptLine}
 use Rattle.flat_text.proofs.lemmas.NumberLemmas.{natural-decimal}
 use Rattle.flat_forms.specs.declared.lines.Part.TheVariants as part
-use Rattle.flat_places.specs.Forms.{mapped}
+use Rattle.flat_places.specs.Forms.{mapped, Word}
 use Rattle.flat_places.specs.Names.{actor_named, is_actor}
 use Rattle.flat_forms.specs.Body.{time_begun, ends_frame, begin_times, dones, greatest, is_open, lines_of_actor, display_line, actor_line}
 use Rattle.flat_forms.specs.Lines.{Sofar, words_read}
 use Rattle.flat_script.specs.Grammar.{lines_read}
-use Rattle.flat_print.specs.Print.{spelled}
 use Rattle.flat_print.proofs.lemmas.TextLemmas.{IsLine, AllLines, AllLines-append}
 use Rattle.flat_print.proofs.lemmas.AgainLemmas.{with_lines}
-use Rattle.flat_page.specs.Words.{number, Word}
+use Rattle.flat_page.specs.Words.{number, line_of}
 use Rattle.flat_stress.specs.Load.{frame, later}
 use Rattle.flat_stress.proofs.LineLemmas.{line_good, tested, number_solid}
 use Rattle.flat_stress.proofs.PlaceLemmas.{start}
@@ -32,7 +31,7 @@ use Rattle.flat_stress.proofs.SaidLemmas.{AllSaid, moves, moves_said}
 -- a line that is read
 
 pub line_goes_on : (k : ℕ) (sofar next : Sofar) (ws : List Word) (rest : List (List ℕ)) → IsLine ws → words_read k sofar ws ≡ Ok next
-    → lines_read k sofar (spelled ws ∷ rest) ≡ lines_read (k + 1) next rest
+    → lines_read k sofar (line_of ws ∷ rest) ≡ lines_read (k + 1) next rest
 line_goes_on k sofar next ws rest good is = rw (good.plain, good.short, good.kept, good.words, is) refl
 
 -- the lines so far, and one more
@@ -46,7 +45,7 @@ few_lines us a few = let most = count_by-le-length (λ (l : ScriptLine). is_acto
     below n fits = grind (arith, nat_tests)
 
 body_goes_on : (us : List ScriptLine) (k : ℕ) (a : Actor) (b : Body) (w : Word) (ws : List Word) (rest : List (List ℕ)) → IsLine (w ∷ ws) → length us < 65536 → actor_named start w ≡ Some a
-    → actor_line (with_lines start us) a ws ≡ Ok b → lines_read k (part.Body, with_lines start us) (spelled (w ∷ ws) ∷ rest) ≡ lines_read (k + 1) (part.Body, with_lines start (more us k a b)) rest
+    → actor_line (with_lines start us) a ws ≡ Ok b → lines_read k (part.Body, with_lines start us) (line_of (w ∷ ws) ∷ rest) ≡ lines_read (k + 1) (part.Body, with_lines start (more us k a b)) rest
 body_goes_on us k a b w ws rest good few named is =
     line_goes_on k (part.Body, with_lines start us) (part.Body, with_lines start (more us k a b)) (w ∷ ws) rest good (let fits = few_lines us a few in rw (named, fits, is) refl)
 
@@ -126,7 +125,7 @@ pub record After (us : List ScriptLine) (k : ℕ) (wss : List (List Word)) (f : 
   pub behind : List ScriptLine
   pub frames : Frames behind f f
   pub many : length behind ≡ length us + length wss
-  pub read : (rest : List (List ℕ)) → lines_read k (part.Body, with_lines start us) (map spelled wss ++ rest) ≡ lines_read (k + length wss) (part.Body, with_lines start behind) rest
+  pub read : (rest : List (List ℕ)) → lines_read k (part.Body, with_lines start us) (map line_of wss ++ rest) ≡ lines_read (k + length wss) (part.Body, with_lines start behind) rest
 
 -- no line
 pub none_after : (us : List ScriptLine) (k f : ℕ) → Frames us f f → After us k [] f
@@ -140,9 +139,9 @@ then_after us k xs ys f g x y = record {
   frames = y.frames;
   many = omega (arith, y.many, x.many, length-append xs ys);
   read = λ rest.
-      ap (λ t. lines_read k (part.Body, with_lines start us) (t ++ rest)) (map-append spelled xs ys)
-      ∙ ap (lines_read k (part.Body, with_lines start us)) (append_assoc (map spelled xs) (map spelled ys) rest)
-      ∙ x.read (map spelled ys ++ rest) ∙ y.read rest
+      ap (λ t. lines_read k (part.Body, with_lines start us) (t ++ rest)) (map-append line_of xs ys)
+      ∙ ap (lines_read k (part.Body, with_lines start us)) (append_assoc (map line_of xs) (map line_of ys) rest)
+      ∙ x.read (map line_of ys ++ rest) ∙ y.read rest
       ∙ ap (λ i. lines_read i (part.Body, with_lines start y.behind) rest) (omega (arith, length-append xs ys));
 }
 
@@ -155,7 +154,7 @@ line_after us k a b w ws wss f good few named is x = record {
   frames = x.frames;
   many = omega (arith, x.many, length-append us (record { number = k; actor = a; body = b } ∷ []));
   read = λ rest.
-      body_goes_on us k a b w ws (map spelled wss ++ rest) good few named is ∙ x.read rest
+      body_goes_on us k a b w ws (map line_of wss ++ rest) good few named is ∙ x.read rest
       ∙ ap (λ i. lines_read i (part.Body, with_lines start x.behind) rest) (omega arith);
 }
 

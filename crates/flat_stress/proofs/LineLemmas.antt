@@ -14,20 +14,16 @@ use Rattle.std.proofs.lemmas.List.Sums.{AllPass-from_list_all}
 use Rattle.std.proofs.lemmas.Str.Parse.{tells_all_ascii_digits, numerals_by_value}
 use Rattle.flat_text.specs.Pieces.{is_feed, is_space, words_of, lines_of, without_empty_end}
 use Rattle.flat_script.specs.Grammar.{is_plain, is_skipped}
-use Rattle.flat_print.specs.Print.{spelled, spaced}
 use Rattle.flat_print.proofs.lemmas.TextLemmas.{IsLine, AllLines}
 use Rattle.flat_stress.specs.Words.{line_text}
-use Rattle.flat_page.specs.Words.{text_of, Word, spaced as all_spaced}
+use Rattle.flat_page.specs.Words.{text_of, line_of, spaced}
+use Rattle.flat_places.specs.Forms.{Word}
 
 -- lines that are each ended by a line feed
 
-spaced_same : (ws : List Word) → all_spaced ws ≡ spaced ws
-spaced_same [] = refl
-spaced_same (w ∷ ws) = ap (λ t. 32 ∷ (w ++ t)) (spaced_same ws)
-
-line_ended : (ws : List Word) (t : List ℕ) → line_text ws ++ t ≡ spelled ws ++ 10 ∷ t
+line_ended : (ws : List Word) (t : List ℕ) → line_text ws ++ t ≡ line_of ws ++ 10 ∷ t
 line_ended [] t = refl
-line_ended (w ∷ ws) t = append_assoc (w ++ all_spaced ws) (10 ∷ []) t ∙ ap (λ x. (w ++ x) ++ 10 ∷ t) (spaced_same ws)
+line_ended (w ∷ ws) t = append_assoc (w ++ spaced ws) (10 ∷ []) t
 
 no_feed : (b : ℕ) → is_plain b ≡ true → is_feed b ≡ false
 no_feed b h = let low = (and_parts (nat_le 32 b) (nat_le b 126) h).0 in grind (arith, nat_tests)
@@ -35,11 +31,11 @@ no_feed b h = let low = (and_parts (nat_le 32 b) (nat_le b 126) h).0 in grind (a
 no_feeds : (l : List ℕ) → list_all is_plain l ≡ true → All (λ b. is_feed b ≡ false) l
 no_feeds l plain = λ k d within. no_feed (get_or l k d) (AllPass-from_list_all is_plain l plain k d within)
 
-split_lines : (wss : List (List Word)) → AllLines wss → slice_split is_feed (text_of wss) ≡ map spelled wss ++ [] ∷ []
+split_lines : (wss : List (List Word)) → AllLines wss → slice_split is_feed (text_of wss) ≡ map line_of wss ++ [] ∷ []
 split_lines [] good = refl
 split_lines (ws ∷ wss) good =
-    ap (slice_split is_feed) (line_ended ws (text_of wss)) ∙ slice_split_at is_feed (spelled ws) 10 (text_of wss) (no_feeds (spelled ws) good.0.plain) refl
-    ∙ ap (λ t. spelled ws ∷ t) (split_lines wss good.1)
+    ap (slice_split is_feed) (line_ended ws (text_of wss)) ∙ slice_split_at is_feed (line_of ws) 10 (text_of wss) (no_feeds (line_of ws) good.0.plain) refl
+    ∙ ap (λ t. line_of ws ∷ t) (split_lines wss good.1)
 
 full_lines : (ls : List (List ℕ)) → without_empty_end (ls ++ [] ∷ []) ≡ ls
 full_lines [] = refl
@@ -47,8 +43,8 @@ full_lines (x ∷ []) = refl
 full_lines (x ∷ y ∷ ls) = ap (λ t. x ∷ t) (full_lines (y ∷ ls))
 
 -- the lines of such a text are those that it was made of
-pub lines_of_text : (wss : List (List Word)) → AllLines wss → lines_of (text_of wss) ≡ map spelled wss
-lines_of_text wss good = ap without_empty_end (split_lines wss good) ∙ full_lines (map spelled wss)
+pub lines_of_text : (wss : List (List Word)) → AllLines wss → lines_of (text_of wss) ≡ map line_of wss
+lines_of_text wss good = ap without_empty_end (split_lines wss good) ∙ full_lines (map line_of wss)
 
 not_long : (l : List ℕ) → nat_lt 1024 (length l) ≡ false → length l ≤ 1024
 not_long l short = grind (arith, nat_tests)
@@ -58,7 +54,7 @@ pub text_fits : (wss : List (List Word)) → AllLines wss → length (text_of ws
 text_fits [] good = omega arith
 text_fits (ws ∷ wss) good =
     let long = ap length (line_ended ws (text_of wss)) in
-    omega (arith, long, length-append (spelled ws) (10 ∷ text_of wss), not_long (spelled ws) good.0.short, text_fits wss good.1)
+    omega (arith, long, length-append (line_of ws) (10 ∷ text_of wss), not_long (line_of ws) good.0.short, text_fits wss good.1)
 
 -- words
 
@@ -81,9 +77,9 @@ no_space b h = let low = (and_parts (nat_le 33 b) (nat_le b 126) h).0 in grind (
 no_spaces : (w : Word) → list_all is_solid w ≡ true → All (λ b. is_space b ≡ false) w
 no_spaces w solid = λ k d within. no_space (get_or w k d) (AllPass-from_list_all is_solid w solid k d within)
 
-words_are : (w : Word) (ws : List Word) → IsSolid w → AllSolid ws → words_of (spelled (w ∷ ws)) ≡ w ∷ ws
+words_are : (w : Word) (ws : List Word) → IsSolid w → AllSolid ws → words_of (line_of (w ∷ ws)) ≡ w ∷ ws
 words_are w [] first rest = ap words_of (append-nil w) ∙ slice_split_none is_space w (no_spaces w first.solid)
-words_are w (v ∷ ws) first rest = slice_split_at is_space w 32 (spelled (v ∷ ws)) (no_spaces w first.solid) refl ∙ ap (λ t. w ∷ t) (words_are v ws rest.0 rest.1)
+words_are w (v ∷ ws) first rest = slice_split_at is_space w 32 (line_of (v ∷ ws)) (no_spaces w first.solid) refl ∙ ap (λ t. w ∷ t) (words_are v ws rest.0 rest.1)
 
 plain_byte : (b : ℕ) → is_solid b ≡ true → is_plain b ≡ true
 plain_byte b h = let parts = and_parts (nat_le 33 b) (nat_le b 126) h in and_from (nat_le 32 b) (nat_le b 126) (lower b parts.0) parts.1
@@ -115,7 +111,7 @@ line_good c cs ws other first rest few =
     let w : Word = c ∷ cs in
     record {
       plain = list_all-append is_plain w (spaced ws) ∙ and_from (list_all is_plain w) (list_all is_plain (spaced ws)) (plain_word w first.solid) (plain_words ws rest);
-      short = below (length (spelled (w ∷ ws))) (omega (arith, length-append w (spaced ws), first.short, short_words ws rest));
+      short = below (length (line_of (w ∷ ws))) (omega (arith, length-append w (spaced ws), first.short, short_words ws rest));
       kept = not_skipped c (cs ++ spaced ws) other;
       words = words_are w ws first rest;
     }

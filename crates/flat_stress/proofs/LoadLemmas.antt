@@ -10,11 +10,11 @@ use Rattle.flat_script.specs.declared.script.ScriptFault.{ScriptFault}
 use Rattle.flat_forms.specs.Head.{empty}
 use Rattle.flat_forms.specs.Body.{dones}
 use Rattle.flat_script.specs.Grammar.{lines_read, text_read, IsScript}
-use Rattle.flat_print.specs.Print.{spelled}
 use Rattle.flat_print.proofs.lemmas.TextLemmas.{AllLines, AllLines-append}
 use Rattle.flat_print.proofs.lemmas.AgainLemmas.{with_lines}
 use Rattle.flat_stress.specs.Words.{session, pair, from_to}
-use Rattle.flat_page.specs.Words.{number, text_of, Word}
+use Rattle.flat_page.specs.Words.{number, text_of, line_of}
+use Rattle.flat_places.specs.Forms.{Word}
 use Rattle.flat_stress.specs.Load.{head, host, guest, frame, later, load_text}
 use Rattle.flat_stress.specs.Laws.{LoadsAreScripts, LoadsHaveTheirFrames}
 use Rattle.flat_stress.proofs.LineLemmas.{line_good, lines_of_text, text_fits, tested, number_solid, named_solid}
@@ -45,7 +45,7 @@ head_good =
     let fifth : AllLines five = (line_good 114 _ _ refl (tested (codes "run") refl refl) tt (omega arith), tt) in
     AllLines-append (one ++ two ++ three ++ four) five (AllLines-append (one ++ two ++ three) four (AllLines-append (one ++ two) three (AllLines-append one two first second) third) fourth) fifth
 
-head_read : (rest : List (List ℕ)) → lines_read 1 (part.Start, empty) (map spelled head ++ rest) ≡ lines_read 20 (part.Body, with_lines start []) rest
+head_read : (rest : List (List ℕ)) → lines_read 1 (part.Start, empty) (map line_of head ++ rest) ≡ lines_read 20 (part.Body, with_lines start []) rest
 unfolding start digits
 head_read rest = refl
 
@@ -93,7 +93,7 @@ acts_many n some few =
 
 -- the whole
 
-text_is : (wss : List (List Word)) → AllLines wss → length wss ≤ 16000 → text_read (text_of wss) ≡ lines_read 1 (part.Start, empty) (map spelled wss)
+text_is : (wss : List (List Word)) → AllLines wss → length wss ≤ 16000 → text_read (text_of wss) ≡ lines_read 1 (part.Start, empty) (map line_of wss)
 text_is wss good few =
     let fits : length (text_of wss) ≤ 16777216 = omega (arith, text_fits wss good) in
     let test : nat_lt 16777216 (length (text_of wss)) ≡ false = grind (arith, nat_tests) in
@@ -115,12 +115,12 @@ made wss n x few =
     let made : Script = record (with_lines start x.behind) { count = 20 + length wss - 1 } in
     let shut = closed x.behind n x.frames in
     let ended : lines_read (20 + length wss) (part.Body, with_lines start x.behind) [] ≡ Ok made = rw shut refl in
-    let lines : map spelled (head ++ wss) ≡ map spelled head ++ (map spelled wss ++ []) = map-append spelled head wss ∙ ap (λ t. map spelled head ++ t) (sym (append-nil (map spelled wss))) in
+    let lines : map line_of (head ++ wss) ≡ map line_of head ++ (map line_of wss ++ []) = map-append line_of head wss ∙ ap (λ t. map line_of head ++ t) (sym (append-nil (map line_of wss))) in
     record {
       script = made;
       is =
           text_is (head ++ wss) (AllLines-append head wss head_good x.good) (omega (arith, length-append head wss, head_many))
-          ∙ ap (lines_read 1 (part.Start, empty)) lines ∙ head_read (map spelled wss ++ []) ∙ x.read [] ∙ ended;
+          ∙ ap (lines_read 1 (part.Start, empty)) lines ∙ head_read (map line_of wss ++ []) ∙ x.read [] ∙ ended;
       sessions = start_sessions;
       frames = x.frames.ends;
     }

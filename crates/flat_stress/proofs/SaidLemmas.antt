@@ -8,7 +8,8 @@ use Rattle.flat_places.specs.Names.{actor_named}
 use Rattle.flat_forms.specs.Body.{session_line}
 use Rattle.flat_print.proofs.lemmas.TextLemmas.{IsLine, AllLines}
 use Rattle.flat_stress.specs.Words.{session, pair, from_to}
-use Rattle.flat_page.specs.Words.{number, Word}
+use Rattle.flat_page.specs.Words.{number}
+use Rattle.flat_places.specs.Forms.{Word}
 use Rattle.flat_stress.specs.Load.{says, opening, node, move, fill, viewport, present, host, guest}
 use Rattle.flat_stress.proofs.LineLemmas.{IsSolid, AllSolid, line_good, tested, number_solid, named_solid}
 use Rattle.flat_stress.proofs.PlaceLemmas.{start, no, session_named, view_read, viewport_read, transform_read, root_read, child_read, content_read, move_read, rect_read, fill_read, present_read}

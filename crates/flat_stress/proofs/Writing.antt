@@ -5,7 +5,8 @@ use Rattle.std.proofs.lemmas.Grind.{flat_map-append}
 use Rattle.std.proofs.lemmas.List.{map-append, append-nil, take_all}
 use Rattle.std.proofs.lemmas.List.Folds.{flat_map-map}
 use Rattle.flat_stress.specs.Words.{line_text, between}
-use Rattle.flat_page.specs.Words.{text_of, Word}
+use Rattle.flat_page.specs.Words.{text_of}
+use Rattle.flat_places.specs.Forms.{Word}
 
 -- one text after another
 pub two : (a b : List (List Word)) (old mid new : List ℕ) → mid ≡ old ++ text_of a → new ≡ mid ++ text_of b → new ≡ old ++ text_of (a ++ b)

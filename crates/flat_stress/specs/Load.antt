@@ -3,7 +3,8 @@
 use Rattle.std.specs.Prelude.{ℕ, ◌+◌, ◌*◌, ◌%◌, List, [], ◌∷◌, ◌++◌, map, codes}
 use Rattle.std.specs.List.{flat_map}
 use Rattle.flat_stress.specs.Words.{session, pair, from_to}
-use Rattle.flat_page.specs.Words.{number, text_of, Word}
+use Rattle.flat_page.specs.Words.{number, text_of}
+use Rattle.flat_places.specs.Forms.{Word}
 
 abbrev pub Line : Type 0
 Line = List Word

@@ -1,8 +1,9 @@
 -- how the words of the code are spelled
-use Rattle.flat_stress.specs.declared.page.Word as word
-use Rattle.flat_stress.specs.declared.page.Word.TheVariants.{Text, Number, Count, Session, Pair}
+use Rattle.flat_stress.specs.declared.words.Word as word
+use Rattle.flat_stress.specs.declared.words.Word.TheVariants.{Text, Number, Count, Session, Pair}
 use Rattle.flat_stress.specs.Words.{session, pair}
-use Rattle.flat_page.specs.Words.{number, Word}
+use Rattle.flat_page.specs.Words.{number}
+use Rattle.flat_places.specs.Forms.{Word}
 
 abbrev pub spelling : word.Word → Word
 spelling (Text text) = text.now

@@ -2,7 +2,8 @@
 use Rattle.std.specs.Prelude.{ℕ, ◌+◌, ◌-◌, List, [], ◌∷◌, ◌++◌, codes}
 use Rattle.std.specs.List.{range_with_len}
 use Rattle.std.specs.Fmt.{decimal}
-use Rattle.flat_page.specs.Words.{Word, line_of}
+use Rattle.flat_page.specs.Words.{line_of}
+use Rattle.flat_places.specs.Forms.{Word}
 
 -- the name of a session
 abbrev pub session : ℕ → Word

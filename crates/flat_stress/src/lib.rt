@@ -9,8 +9,8 @@
 
 mod laws;
 mod load;
-mod page;
 mod totals;
+mod words;
 
 pub use laws::{loads_are_scripts, loads_have_their_frames};
 pub use load::script;

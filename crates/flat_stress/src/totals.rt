@@ -1,9 +1,10 @@
 ghost use Rattle.std.specs.Prelude.{◌≡◌, IfOk};
 ghost use Rattle.flat_stress.specs.Summary.{summary_line};
 
-use crate::page::{Word, push_line};
+use crate::words::{Word, push_line};
 use Word::{Count, Number, Text};
 use flat_base::NoMemory;
+use flat_page::Page;
 use std::alloc::Global;
 
 /// What a run of the load comes to.
@@ -31,7 +32,7 @@ const LINE_BYTES: usize = 128;
 pub fn summary(alloc: Global, totals: Totals) -> Result<Vec<u8>, NoMemory>
     ensures { IfOk result (λ line. line.items ≡ summary_line totals) }
 {
-    let mut line = Vec::with_capacity(alloc, LINE_BYTES)?;
+    let mut page = Page::with_capacity(alloc, LINE_BYTES)?;
     let words = [
         Text("stress"),
         Number(totals.load),
@@ -46,6 +47,6 @@ pub fn summary(alloc: Global, totals: Totals) -> Result<Vec<u8>, NoMemory>
         Text("items"),
         Count(totals.items),
     ];
-    push_line(&mut line, &words)?;
-    Ok(line)
+    push_line(&mut page, &words)?;
+    Ok(page.into_text())
 }

@@ -6,7 +6,8 @@ use Rattle.flat_base.specs.declared.shapes.Rect.{Rect}
 use Rattle.flat_scene.specs.declared.frames.DrawItem.{DrawItem}
 use Rattle.flat_scene.specs.declared.frames.FrameOut.{FrameOut}
 use Rattle.flat_damage.specs.Damage.{IsDamage}
-use Rattle.flat_page.specs.Words.{Word, number, numbers, text_of}
+use Rattle.flat_page.specs.Words.{number, numbers, text_of}
+use Rattle.flat_places.specs.Forms.{Word}
 use Rattle.flat_texts.specs.declared.damage.Damaged.{Damaged}
 use Rattle.flat_texts.specs.declared.damage.FrameDamages.{FrameDamages}
 

@@ -185,13 +185,11 @@ fn push_text(page: &mut Page, damaged: &[Damaged]) -> Result<(), NoMemory>
     Ok(())
 }
 
-/// The text of what changed, in memory of its own, for which room is taken once.
+/// The text of what changed, in memory of its own.
 fn print_damages(alloc: Global, damaged: &[Damaged]) -> Result<Vec<u8>, NoMemory>
     ensures { IfOk result (λ text. text.items ≡ damaged_text damaged.now) }
 {
-    let mut count = Page::Count(0);
-    push_text(&mut count, damaged)?;
-    let mut page = Page::with_room(alloc, count)?;
+    let mut page = Page::new(alloc);
     push_text(&mut page, damaged)?;
     Ok(page.into_text())
 }

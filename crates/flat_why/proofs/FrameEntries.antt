@@ -12,8 +12,7 @@ use Rattle.flat_base.specs.declared.ids.Actor.{Actor}
 use Rattle.flat_base.specs.declared.ids.Actor.TheVariants.{Display, Session, Probe}
 use Rattle.flat_base.specs.declared.ids.PairNo.{PairNo}
 use Rattle.flat_base.specs.declared.ids.SessionNo.{SessionNo}
-use Rattle.flat_page.specs.declared.page.Page.{Page}
-use Rattle.flat_page.specs.Pages.{IsText, WritesLines, is_counting}
+use Rattle.flat_page.specs.Pages.{WritesLines}
 use Rattle.flat_page.specs.Words.{line_of, text_of}
 use Rattle.flat_page.proofs.lemmas.LastItems.{last-more}
 use Rattle.flat_page.proofs.lemmas.PageLemmas.{same_lines, then_lines}
@@ -122,8 +121,7 @@ begin-noted script old history entry time shown was now is kind legal shows stan
   waits = λ now-open. waits_are ∙ ap (map (waiting_of script.setup history)) left ∙ ap (λ h. waits_at script.setup h) (sym begun);
   tells = record {
     frames = frames_are ∙ stands.tells.frames ∙ sym finishes;
-    sort = ap is_counting page ∙ stands.tells.sort;
-    text = subst (λ p. IsText p (text_of (why_lines script history))) (sym page) (subst (λ ls. IsText was.page (text_of ls)) (sym lines) stands.tells.text);
+    text = page ∙ stands.tells.text ∙ ap text_of (sym lines);
   };
 }
   where
@@ -173,7 +171,7 @@ begin-noted script old history entry time shown was now is kind legal shows stan
 
 -- ---- the end of a frame
 
-pub finish-noted : (script : Script) (old history : List Entry) (entry : Entry) (at : ℕ) (shown : Shown) (frame : FrameOut) (was now : Whys) (mid : Page) → history ≡ (old ▹ entry) → entry.kind ≡ Finish → LegalEntry script.setup old entry
+pub finish-noted : (script : Script) (old history : List Entry) (entry : Entry) (at : ℕ) (shown : Shown) (frame : FrameOut) (was now : Whys) (mid : List ℕ) → history ≡ (old ▹ entry) → entry.kind ≡ Finish → LegalEntry script.setup old entry
     → owners_declared script.setup ≡ true → Some frame ≡ last_item (finished script.setup history) → shown ≡ shown_states script.setup (to_begin history) → at ≡ ratio script.setup (to_begin history) → WhysStand script old was
     → WritesLines (map (session_line script at shown frame was.standings.items) (sessions_to script.setup.sessions)) was.page mid
     → WritesLines (map (wait_line script frame.frame.0) was.waits.items) mid now.page
@@ -191,8 +189,9 @@ finish-noted script old history entry at shown frame was now mid is kind legal o
   waits = λ now-open. absurd (let wrong : true ≡ false = sym now-open ∙ shut in cc);
   tells = record {
     frames = number ∙ ap (λ (f : FrameOut). f.frame.0) frame-is ∙ sym counted;
-    sort = second.puts.sort ∙ stands.tells.sort;
-    text = subst (λ t. IsText now.page t) (sym (flat_map-append (λ words. line_of words ++ 10 ∷ []) (why_lines script old) (whys_at script (suc (frames old)) (to_begin old))) ∙ ap text_of (sym lines)) (second.puts.stands (text_of (why_lines script old)) stands.tells.text);
+    text =
+        second.text ∙ ap (λ t. t ++ text_of (whys_at script (suc (frames old)) (to_begin old))) stands.tells.text
+        ∙ sym (flat_map-append (λ words. line_of words ++ 10 ∷ []) (why_lines script old) (whys_at script (suc (frames old)) (to_begin old))) ∙ ap text_of (sym lines);
   };
 }
   where

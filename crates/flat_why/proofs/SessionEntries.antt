@@ -11,7 +11,6 @@ use Rattle.flat_base.specs.declared.ids.FenceNo.{FenceNo}
 use Rattle.flat_base.specs.declared.ids.PairNo.{PairNo}
 use Rattle.flat_base.specs.declared.ids.SessionNo.{SessionNo}
 use Rattle.std.proofs.lemmas.List.{length-set}
-use Rattle.flat_page.specs.Pages.{IsText, is_counting}
 use Rattle.flat_page.specs.Words.{text_of}
 use Rattle.flat_places.specs.declared.script.Script.{Script}
 use Rattle.flat_scene.specs.declared.calls.PresentArgs.{PresentArgs}
@@ -151,8 +150,7 @@ session-noted script old history entry s was now is legal mine stands closings u
       waits = λ now-open. ap (λ v. v.items) waits ∙ stands.waits (sym opened ∙ now-open) ∙ ap (waits_at script.setup) (sym begin);
       tells = record {
         frames = frames_are ∙ stands.tells.frames ∙ sym (frames-same script.setup old entry s legal mine);
-        sort = ap is_counting page ∙ stands.tells.sort;
-        text = subst (λ p. IsText p (text_of (why_lines script (old ▹ entry)))) (sym page) (subst (λ ls. IsText was.page (text_of ls)) (sym (lines-same script.setup old entry s legal mine script)) stands.tells.text);
+        text = page ∙ stands.tells.text ∙ ap text_of (sym (lines-same script.setup old entry s legal mine script));
       };
     })
   where

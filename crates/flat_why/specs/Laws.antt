@@ -4,7 +4,8 @@ use Rattle.std.specs.Prelude.{nat_lt, slice_get, Option, Some, is_some}
 use Rattle.std.specs.List.{list_any}
 use Rattle.flat_base.specs.declared.ids.PairNo.{PairNo}
 use Rattle.flat_base.specs.declared.ids.SessionNo.{SessionNo}
-use Rattle.flat_page.specs.Words.{Word, number}
+use Rattle.flat_page.specs.Words.{number}
+use Rattle.flat_places.specs.Forms.{Word}
 use Rattle.flat_places.specs.declared.script.Script.{Script}
 use Rattle.flat_report.specs.Report.{frame_at}
 use Rattle.flat_rules.specs.Ends.{to_begin}

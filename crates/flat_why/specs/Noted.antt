@@ -4,8 +4,8 @@ use Rattle.std.specs.Prelude.{map, filter, slice_index_or, slice_set, Option, So
 use Rattle.std.specs.List.{All}
 use Rattle.flat_base.specs.declared.ids.PairNo.{PairNo}
 use Rattle.flat_base.specs.declared.ids.SessionNo.{SessionNo}
-use Rattle.flat_page.specs.Pages.{IsText, is_counting}
-use Rattle.flat_page.specs.Words.{Word, text_of}
+use Rattle.flat_page.specs.Words.{text_of}
+use Rattle.flat_places.specs.Forms.{Word}
 use Rattle.flat_places.specs.declared.script.Script.{Script}
 use Rattle.flat_rules.specs.Ends.{to_begin}
 use Rattle.flat_rules.specs.Legal.{frames, is_frame_open}
@@ -89,8 +89,7 @@ pub record IsKnown (setup : Setup) (due : Due) : Type 0 where
 -- The lines of all frames that are finished are written.
 pub record WhysTell (script : Script) (history : List Entry) (whys : Whys) : Type 0 where
   pub frames : whys.frames ≡ frames history
-  pub sort : is_counting whys.page ≡ false
-  pub text : IsText whys.page (text_of (why_lines script history))
+  pub text : whys.page ≡ text_of (why_lines script history)
 
 -- What is kept is what the rules say of the history: how sessions were closed, the last uses of viewport
 -- ends, and the presents that may still wait; and of the frame begun last, while it is open, where sessions

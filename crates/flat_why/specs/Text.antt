@@ -5,7 +5,8 @@ use Rattle.flat_base.specs.declared.ids.SessionNo.{SessionNo}
 use Rattle.flat_lines.specs.EntryLines.{closing_words}
 use Rattle.flat_lines.specs.FrameLines.{rect_words}
 use Rattle.flat_lines.specs.Names.{pair_name}
-use Rattle.flat_page.specs.Words.{Word, name_at, number, session_name, text_of}
+use Rattle.flat_page.specs.Words.{name_at, number, session_name, text_of}
+use Rattle.flat_places.specs.Forms.{Word}
 use Rattle.flat_places.specs.declared.script.Script.{Script}
 use Rattle.flat_report.specs.Report.{frame_at}
 use Rattle.flat_rules.specs.Ends.{to_begin}

@@ -12,7 +12,6 @@ ghost use Rattle.flat_base.specs.declared.ids.PairNo.{PairNo};
 ghost use Rattle.flat_base.specs.declared.ids.SessionNo.{SessionNo};
 ghost use Rattle.flat_scene.specs.declared.journal.Entry.{Entry};
 ghost use Rattle.flat_scene.specs.declared.journal.Kind.TheVariants.{Begin, Finish};
-ghost use Rattle.flat_page.specs.Pages.{is_counting};
 ghost use Rattle.flat_scene.specs.Frames.{is_signalled, ratio, sessions_to, taken};
 ghost use Rattle.flat_scene.specs.History.{◌▹◌, is_begin, is_closed, is_finish, presents};
 ghost use Rattle.flat_scene.specs.Setups.{is_declared};
@@ -79,7 +78,7 @@ impl Whys {
         let last_uses = no_uses(alloc, setup.pairs.len())?;
         let standings = no_standings(alloc, setup.sessions)?;
         Ok(Whys {
-            page: Page::Text(Vec::new(alloc)),
+            page: Page::new(alloc),
             frames: 0,
             closings,
             last_uses,
@@ -323,7 +322,6 @@ impl Whys {
 
     /// The whole text.
     pub fn into_text(self) -> Result<Vec<u8>, NoMemory>
-        requires { is_counting self.page ≡ false }
         ensures { (script : Script) (history : List Entry) → WhysTell script history self →
             IfOk result (λ text. text.items ≡ why_text script history) }
     {

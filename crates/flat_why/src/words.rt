@@ -18,7 +18,7 @@ fn push_reason(page: &mut Page, reason: Option<Reason>) -> Result<(), NoMemory>
     ensures { OnOk result (Writes (reason_words reason) page.old page.new) }
 {
     match reason {
-        Some(reason) => page.numbered(b" B", reason.number()),
+        Some(reason) => page.numbered(b" B", u64::from(reason.number())),
         None => Ok(()),
     }
 }

@@ -5,11 +5,10 @@ use Rattle.std.proofs.lemmas.List.{take_more, map-append, take-append-drop}
 use Rattle.std.proofs.lemmas.List.Folds.{list_all-append, list_all-map}
 use Rattle.flat_base.proofs.lemmas.Tests.{and-left, and-right, and-true}
 use Rattle.flat_scene.specs.declared.frames.FrameOut.{FrameOut}
-use Rattle.flat_page.specs.declared.page.Page.{Page}
 use Rattle.flat_page.specs.Happenings.{Happening, finished, said, count_before, merged, all_lines}
 use Rattle.flat_page.specs.Steps.{after_all}
 use Rattle.flat_page.specs.Pages.{WritesLines}
-use Rattle.flat_page.specs.Words.{Word}
+use Rattle.flat_places.specs.Forms.{Word}
 use Rattle.flat_page.proofs.lemmas.PageLemmas.{then_lines, same_lines}
 
 -- one line more
@@ -44,18 +43,18 @@ module _ {A S : Type 0} (lines : S → Happening A → List (List Word)) (after 
       ∙ sym (append_assoc (lines now one) (all_lines lines after (after one now) xs) (all_lines lines after (after_all after xs (after one now)) ys))
 
   -- what comes later stands behind
-  pub then_later : (start late : S) (early later : List (Happening A)) {old told new : Page} → late ≡ after_all after early start
+  pub then_later : (start late : S) (early later : List (Happening A)) {old told new : List ℕ} → late ≡ after_all after early start
       → WritesLines (all_lines lines after start early) old told → WritesLines (all_lines lines after late later) told new → WritesLines (all_lines lines after start (early ++ later)) old new
   then_later start late early later is first second =
       same_lines (ap (λ (s : S). all_lines lines after start early ++ all_lines lines after s later) is ∙ sym (lines-append early later start)) (then_lines first second)
 
   -- one thing more
-  pub then_one : (start now : S) (xs : List (Happening A)) (one : Happening A) {old mid new : Page} → now ≡ after_all after xs start
+  pub then_one : (start now : S) (xs : List (Happening A)) (one : Happening A) {old mid new : List ℕ} → now ≡ after_all after xs start
       → WritesLines (all_lines lines after start xs) old mid → WritesLines (lines now one) mid new → WritesLines (all_lines lines after start (xs ++ one ∷ [])) old new
   then_one start now xs one is first second = then_later start now xs (one ∷ []) is first (same_lines (sym (append-nil (lines now one))) second)
 
   -- a loop over lines
-  pub then_said : (start now : S) (items : List A) (i : ℕ) (d one : A) {old mid new : Page} → i < length items → one ≡ get_or items i d → now ≡ after_all after (map said (take i items)) start
+  pub then_said : (start now : S) (items : List A) (i : ℕ) (d one : A) {old mid new : List ℕ} → i < length items → one ≡ get_or items i d → now ≡ after_all after (map said (take i items)) start
       → WritesLines (all_lines lines after start (map said (take i items))) old mid → WritesLines (lines now (said one)) mid new
       → WritesLines (all_lines lines after start (map said (take (i + 1) items))) old new
   then_said start now items i d one within at is first second =

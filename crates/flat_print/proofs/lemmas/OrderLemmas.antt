@@ -26,8 +26,8 @@ use Rattle.flat_print.specs.Print.{name_words, numbered, buffers_line_words, pai
 use Rattle.flat_forms.proofs.lemmas.FormLemmas.{Gives, both_ok, or_kind_ok, whole_ok, apply_ok, map_ok, place_ok}
 use Rattle.flat_print.proofs.CallLemmas.{name_at-place_of, test_ok}
 use Rattle.flat_print.proofs.lemmas.TextLemmas.{IsLine, line_front, front_fits, AllLines, AllLines-append, room_of, room_of-append}
-use Rattle.flat_print.specs.Print.{spelled}
-use Rattle.flat_print.proofs.WordLemmas.{numbered-append}
+use Rattle.flat_page.specs.Words.{line_of}
+use Rattle.flat_print.proofs.LineLemmas.{numbered-append}
 use Rattle.flat_forms.proofs.lemmas.StepLemmas.{SizeStep, SessionStep, ProbeStep, BuffersStep, PairStep, FenceStep, Step, size_step, session_step, probe_step, buffers_step, pair_step, fence_step, sort}
 use Rattle.flat_print.proofs.SwapLemmas.{swap}
 use Rattle.std.proofs.lemmas.Bool.{and_parts}
@@ -305,17 +305,17 @@ fence_line u xs zs ys x many =
     let owners = owners_words u xs zs x.rest x.decl.owners x.owners in
     rw (name, owners) (sym x.begins)
 
-pub insert_size : {version : ℕ} (u : Script) (ws : List Word) (t : Script) (k : ℕ) → IsLine ws → Ordered version u k → SizeStep u ws t → Ordered version t (k + 1 + length (spelled ws))
+pub insert_size : {version : ℕ} (u : Script) (ws : List Word) (t : Script) (k : ℕ) → IsLine ws → Ordered version u k → SizeStep u ws t → Ordered version t (k + 1 + length (line_of ws))
 insert_size {version = version} u ws t k good o x =
-    let P : Script → Type 0 = λ v. Ordered version v (k + 1 + length (spelled ws)) in
+    let P : Script → Type 0 = λ v. Ordered version v (k + 1 + length (line_of ws)) in
     let t1 = with_display u x.w x.h x.q in
     let taken = size_taken u.version x.rest x.w x.h x.q x.read in
     let line : List Word = codes "display" ∷ decimal x.w ∷ decimal x.h ∷ ratio_words x.q in
     let written : ws ≡ line ++ taken.extra = x.begins ∙ ap (λ r. codes "display" ∷ r) taken.words in
     let fine : IsLine line = line_front (codes "display") (decimal x.w) (decimal x.h ∷ ratio_words x.q) taken.extra (subst IsLine written good) in
-    let shorter : length (spelled line) ≤ length (spelled ws) =
+    let shorter : length (line_of line) ≤ length (line_of ws) =
     let front = front_fits (codes "display") (decimal x.w ∷ decimal x.h ∷ ratio_words x.q) taken.extra in
-    let same = ap (λ v. length (spelled v)) written in omega (arith, front, same) in
+    let same = ap (λ v. length (line_of v)) written in omega (arith, front, same) in
     let y : Step u line t1 = size_step (record { rest = decimal x.w ∷ decimal x.h ∷ ratio_words x.q; w = x.w; h = x.h; q = x.q; begins = refl; first = x.first; read = taken.again; made = refl }) in
     let b5 = bubble 5 o.u4 u t1 o.f line o.fences y (lit< tt) in
     let b4 = bubble 4 o.u3 o.u4 b5.mid o.p line o.pairs b5.first (let e = b5.first_sort in omega arith) in
@@ -362,9 +362,9 @@ insert_size {version = version} u ws t k good o x =
       fits = (let e = room_of-append o.d (line ∷ []) in let h = o.fits in omega (arith, shorter));
     })
 
-pub insert_session : {version : ℕ} (u : Script) (ws : List Word) (t : Script) (k : ℕ) → IsLine ws → Ordered version u k → SessionStep u ws t → Ordered version t (k + 1 + length (spelled ws))
+pub insert_session : {version : ℕ} (u : Script) (ws : List Word) (t : Script) (k : ℕ) → IsLine ws → Ordered version u k → SessionStep u ws t → Ordered version t (k + 1 + length (line_of ws))
 insert_session {version = version} u ws t k good o x =
-    let P : Script → Type 0 = λ v. Ordered version v (k + 1 + length (spelled ws)) in
+    let P : Script → Type 0 = λ v. Ordered version v (k + 1 + length (line_of ws)) in
     let t1 = with_session u x.name in
     let y : Step u ws t1 = session_step (record { name = x.name; begins = x.begins; room = x.room; fresh = x.fresh; made = refl }) in
     let b5 = bubble 5 o.u4 u t1 o.f ws o.fences y (lit< tt) in
@@ -408,9 +408,9 @@ insert_session {version = version} u ws t k good o x =
       fits = (let e = room_of-append o.s (ws ∷ []) in let h = o.fits in omega arith);
     })
 
-pub insert_probe : {version : ℕ} (u : Script) (ws : List Word) (t : Script) (k : ℕ) → IsLine ws → Ordered version u k → ProbeStep u ws t → Ordered version t (k + 1 + length (spelled ws))
+pub insert_probe : {version : ℕ} (u : Script) (ws : List Word) (t : Script) (k : ℕ) → IsLine ws → Ordered version u k → ProbeStep u ws t → Ordered version t (k + 1 + length (line_of ws))
 insert_probe {version = version} u ws t k good o x =
-    let P : Script → Type 0 = λ v. Ordered version v (k + 1 + length (spelled ws)) in
+    let P : Script → Type 0 = λ v. Ordered version v (k + 1 + length (line_of ws)) in
     let t1 = with_probe u x.name in
     let y : Step u ws t1 = probe_step (record { name = x.name; begins = x.begins; room = x.room; fresh = x.fresh; made = refl }) in
     let b5 = bubble 5 o.u4 u t1 o.f ws o.fences y (lit< tt) in
@@ -453,9 +453,9 @@ insert_probe {version = version} u ws t k good o x =
       fits = (let e = room_of-append o.q (ws ∷ []) in let h = o.fits in omega arith);
     })
 
-pub insert_buffers : {version : ℕ} (u : Script) (ws : List Word) (t : Script) (k : ℕ) → IsLine ws → Ordered version u k → BuffersStep u ws t → Ordered version t (k + 1 + length (spelled ws))
+pub insert_buffers : {version : ℕ} (u : Script) (ws : List Word) (t : Script) (k : ℕ) → IsLine ws → Ordered version u k → BuffersStep u ws t → Ordered version t (k + 1 + length (line_of ws))
 insert_buffers {version = version} u ws t k good o x =
-    let P : Script → Type 0 = λ v. Ordered version v (k + 1 + length (spelled ws)) in
+    let P : Script → Type 0 = λ v. Ordered version v (k + 1 + length (line_of ws)) in
     let t1 = with_buffers u x.name x.decl in
     let y : Step u ws t1 = buffers_step (record { name = x.name; owner = x.owner; a = x.a; b = x.b; c = x.c; decl = x.decl; begins = x.begins; room = x.room; fresh = x.fresh; owned = x.owned; count = x.count; width = x.width; height = x.height; made = refl }) in
     let b5 = bubble 5 o.u4 u t1 o.f ws o.fences y (lit< tt) in
@@ -498,9 +498,9 @@ insert_buffers {version = version} u ws t k good o x =
       fits = (let e = room_of-append o.b (ws ∷ []) in let h = o.fits in omega arith);
     })
 
-pub insert_pair : {version : ℕ} (u : Script) (ws : List Word) (t : Script) (k : ℕ) → IsLine ws → Ordered version u k → PairStep u ws t → Ordered version t (k + 1 + length (spelled ws))
+pub insert_pair : {version : ℕ} (u : Script) (ws : List Word) (t : Script) (k : ℕ) → IsLine ws → Ordered version u k → PairStep u ws t → Ordered version t (k + 1 + length (line_of ws))
 insert_pair {version = version} u ws t k good o x =
-    let P : Script → Type 0 = λ v. Ordered version v (k + 1 + length (spelled ws)) in
+    let P : Script → Type 0 = λ v. Ordered version v (k + 1 + length (line_of ws)) in
     let t1 = with_pair u x.name x.decl in
     let y : Step u ws t1 = pair_step (record { name = x.name; x = x.x; y = x.y; decl = x.decl; begins = x.begins; room = x.room; fresh = x.fresh; single = x.single; viewport = x.viewport; view = x.view; made = refl }) in
     let b5 = bubble 5 o.u4 u t1 o.f ws o.fences y (lit< tt) in
@@ -542,9 +542,9 @@ insert_pair {version = version} u ws t k good o x =
       fits = (let e = room_of-append o.p (ws ∷ []) in let h = o.fits in omega arith);
     })
 
-pub insert_fence : {version : ℕ} (u : Script) (ws : List Word) (t : Script) (k : ℕ) → IsLine ws → Ordered version u k → FenceStep u ws t → Ordered version t (k + 1 + length (spelled ws))
+pub insert_fence : {version : ℕ} (u : Script) (ws : List Word) (t : Script) (k : ℕ) → IsLine ws → Ordered version u k → FenceStep u ws t → Ordered version t (k + 1 + length (line_of ws))
 insert_fence {version = version} u ws t k good o x =
-    let P : Script → Type 0 = λ v. Ordered version v (k + 1 + length (spelled ws)) in
+    let P : Script → Type 0 = λ v. Ordered version v (k + 1 + length (line_of ws)) in
     let t1 = with_fence u x.name x.decl in
     let y : Step u ws t1 = fence_step (record { name = x.name; rest = x.rest; decl = x.decl; begins = x.begins; room = x.room; fresh = x.fresh; owners = x.owners; made = refl }) in
     let chain = chain_more 5 o.u4 u t1 o.f ws o.fences y (lit≤ tt) in
@@ -585,7 +585,7 @@ insert_fence {version = version} u ws t k good o x =
       fits = (let e = room_of-append o.f (ws ∷ []) in let h = o.fits in omega arith);
     })
 
-pub insert : {version : ℕ} (u : Script) (ws : List Word) (t : Script) (k : ℕ) → IsLine ws → Ordered version u k → Step u ws t → Ordered version t (k + 1 + length (spelled ws))
+pub insert : {version : ℕ} (u : Script) (ws : List Word) (t : Script) (k : ℕ) → IsLine ws → Ordered version u k → Step u ws t → Ordered version t (k + 1 + length (line_of ws))
 insert u ws t k good o (size_step x) = insert_size u ws t k good o x
 insert u ws t k good o (session_step x) = insert_session u ws t k good o x
 insert u ws t k good o (probe_step x) = insert_probe u ws t k good o x

@@ -1,5 +1,5 @@
 -- The text that is printed of a script is read as that script, up to the numbers of its lines.
-use Rattle.flat_page.specs.Words.{actor_name}
+use Rattle.flat_page.specs.Words.{actor_name, line_of}
 use Rattle.std.proofs.Common.{◌≡◌, ℕ, ◌+◌, ◌*◌, ◌-◌, ◌^◌, ◌≤◌, ◌⊎◌, inl, inr, Bool, true, false, cond, not, ◌&&◌, nat_lt, List, [], ◌∷◌, ◌++◌, length, map, Result, Ok, Err, refl, sym, ◌∙◌, ap, codes, arith, subst, append_assoc, append-nil, length-append}
 use Rattle.std.proofs.lemmas.List.{map-append}
 use Rattle.std.proofs.lemmas.Bool.Decides.{nat_tests}
@@ -21,7 +21,7 @@ use Rattle.flat_places.specs.Places.{number_below, known_version, version}
 use Rattle.flat_forms.specs.Body.{actor_line, body_line, is_open, with_line}
 use Rattle.flat_forms.specs.Lines.{Sofar, words_read}
 use Rattle.flat_script.specs.Grammar.{is_plain, is_skipped, line_read, lines_read, IsScript}
-use Rattle.flat_print.specs.Print.{numbered, name_words, display_line_words, buffers_line_words, pair_line_words, fence_line_words, spelled, fed, line_words, body_words, without_number, text_of, script_words, head_words, unnumbered, IsReadBack}
+use Rattle.flat_print.specs.Print.{numbered, name_words, display_line_words, buffers_line_words, pair_line_words, fence_line_words, fed, line_words, body_words, without_number, text_of, script_words, head_words, unnumbered, IsReadBack}
 use Rattle.flat_forms.proofs.lemmas.FormLemmas.{mapped_ok, whole_ok, unless_ok, place_ok}
 use Rattle.flat_print.proofs.lemmas.TextLemmas.{IsLine, AllLines, line_words_of, line_front, front_fits, spelled-words_of, lines_of_fed, AllLines-append, room_of, length-fed, room_of-append, lines_room, lines_room-lines_of, skipped_none}
 use Rattle.flat_print.proofs.lemmas.AgainLemmas.{with_lines, SameLines, times_same, dones_same, Again, body_again}
@@ -65,7 +65,7 @@ line_by n sofar next l true false false a b c is = inr (record { line = line_wor
 pub line_ok : (n : ℕ) (sofar next : Sofar) (l : List ℕ) → line_read n sofar l ≡ Ok next → (sofar ≡ next) ⊎ Read n sofar next l
 line_ok n sofar next l is = line_by n sofar next l (list_all is_plain l) (nat_lt 1024 (length l)) (is_skipped l) refl refl refl is
 
-spelled_read : (n : ℕ) (sofar : Sofar) (ws : List Word) → IsLine ws → line_read n sofar (spelled ws) ≡ words_read n sofar ws
+spelled_read : (n : ℕ) (sofar : Sofar) (ws : List Word) → IsLine ws → line_read n sofar (line_of ws) ≡ words_read n sofar ws
 spelled_read n sofar ws good = let plain = good.plain in let short = good.short in let kept = good.kept in let words = good.words in rw (plain, short, kept, words) refl
 
 -- the body
@@ -81,7 +81,7 @@ pub record BodyRun (h : Script) (us ms : List ScriptLine) (m : ℕ) (ls : List (
   pub from : ℕ
   pub made : s ≡ record (with_lines h us') { count = from }
   pub words : map (line_words h) us' ≡ map (line_words h) us ++ more
-  pub read : lines_read m (part.Body, with_lines h ms) (map spelled more) ≡ Ok (record (with_lines h ms') { count = count })
+  pub read : lines_read m (part.Body, with_lines h ms) (map line_of more) ≡ Ok (record (with_lines h ms') { count = count })
 
 open_same : (h : Script) (us ms : List ScriptLine) → SameLines us ms → is_open (with_lines h ms) ≡ is_open (with_lines h us)
 open_same h us ms same = let times = times_same us ms same in let ended = dones_same us ms same in rw (times, ended) refl
@@ -113,7 +113,7 @@ lines_more us ms x y same e =
 -- the canonical words of a line that was read: they are read alike, and stand at its front
 record Canonical (h : Script) (us ms : List ScriptLine) (n m : ℕ) (ws : List Word) (actor : Actor) (body : Body) : Type 0 where
   pub good : IsLine (line_words h (record { number = n; actor = actor; body = body }))
-  pub fits : length (spelled (line_words h (record { number = n; actor = actor; body = body }))) ≤ length (spelled ws)
+  pub fits : length (line_of (line_words h (record { number = n; actor = actor; body = body }))) ≤ length (line_of ws)
   pub read : body_line (with_lines h ms) m (line_words h (record { number = n; actor = actor; body = body })) ≡ Ok (with_line (with_lines h ms) m actor body)
 
 some_words : (s : Script) (a : Actor) (ws : List Word) (b : Body) → actor_line s a ws ≡ Ok b → (v : Word) × (more : List Word) × (ws ≡ v ∷ more)
@@ -133,7 +133,7 @@ canonical h us ms n m ws u good a =
     let P : List Word → Type 0 = IsLine in
     record {
       good = subst P (sym same) (line_front a.first some.0 some.1 shown.behind (subst P line good));
-      fits = (let short = front_fits a.first (some.0 ∷ some.1) shown.behind in let e = ap (λ t. length (spelled t)) line in let f = ap (λ t. length (spelled t)) same in omega arith);
+      fits = (let short = front_fits a.first (some.0 ∷ some.1) shown.behind in let e = ap (λ t. length (line_of t)) line in let f = ap (λ t. length (line_of t)) same in omega arith);
       read = ap (λ w. body_line (with_lines h ms) m (w ∷ spelt)) name ∙ a.again spelt shown.again;
     }
 
@@ -143,7 +143,7 @@ one_line h us ms n m ls l s u good a run =
     let x : ScriptLine = record { number = n; actor = a.actor; body = a.body } in
     let ws = line_words h x in
     let c = canonical h us ms n m (words_of l) u good a in
-    let here : line_read m (part.Body, with_lines h ms) (spelled ws) ≡ Ok (part.Body, with_line (with_lines h ms) m a.actor a.body) =
+    let here : line_read m (part.Body, with_lines h ms) (line_of ws) ≡ Ok (part.Body, with_line (with_lines h ms) m a.actor a.body) =
     spelled_read m (part.Body, with_lines h ms) ws c.good ∙ ap (mapped (λ t. (part.Body, t))) c.read in
     let size = spelled-words_of l in
     record {
@@ -152,12 +152,12 @@ one_line h us ms n m ls l s u good a run =
       ms' = run.ms';
       count = run.count;
       all = (c.good, run.all);
-      room = (let r = run.room in let f = c.fits in let e : length (spelled (words_of l)) ≡ length l = ap length size in omega arith);
+      room = (let r = run.room in let f = c.fits in let e : length (line_of (words_of l)) ≡ length l = ap length size in omega arith);
       same = run.same;
       from = run.from;
       made = run.made;
       words = run.words ∙ ap (λ t. t ++ run.more) (map-append (line_words h) us (x ∷ [])) ∙ append_assoc (map (line_words h) us) (ws ∷ []) run.more;
-      read = goes_on m (part.Body, with_lines h ms) (part.Body, with_line (with_lines h ms) m a.actor a.body) (spelled ws) (map spelled run.more) here ∙ run.read;
+      read = goes_on m (part.Body, with_lines h ms) (part.Body, with_line (with_lines h ms) m a.actor a.body) (line_of ws) (map line_of run.more) here ∙ run.read;
     }
 
 skipped_line : (h : Script) (us ms : List ScriptLine) (m : ℕ) (l : List ℕ) (ls : List (List ℕ)) (s : Script) → BodyRun h us ms m ls s → BodyRun h us ms m (l ∷ ls) s
@@ -217,7 +217,7 @@ HeadRuns version ls s most = (u : Script) (k n : ℕ) → Ordered version u k �
 run_length : (l : List ℕ) (w : Word) (words : List Word) → words_of l ≡ w ∷ words → bytes_eq w (codes "run") ≡ true → words ≡ [] → length l ≡ 3
 run_length l w words is same none =
     let e : w ≡ codes "run" = (bytes_eq-Decides w (codes "run")).0 same in
-    ap length (sym (spelled-words_of l) ∙ ap spelled is ∙ ap (λ v. spelled (v ∷ words)) e ∙ ap (λ v. spelled (codes "run" ∷ v)) none)
+    ap length (sym (spelled-words_of l) ∙ ap line_of is ∙ ap (λ v. line_of (v ∷ words)) e ∙ ap (λ v. line_of (codes "run" ∷ v)) none)
 
 head_by : {version : ℕ} (u : Script) (k n most : ℕ) (s : Script) (l : List ℕ) (ls : List (List ℕ)) (next : Sofar) (w : Word) (words : List Word) (b : Bool) → words_of l ≡ w ∷ words → IsLine (words_of l) → bytes_eq w (codes "run") ≡ b
     → Ordered version u k → u.lines ≡ [] → k + lines_room (l ∷ ls) ≤ most → lines_read (n + 1) next ls ≡ Ok s
@@ -232,8 +232,8 @@ head_by u k n most s l ls next w words false is good at o none fits rest read ru
     let m = mapped_ok (λ t. (part.Head, t)) (head_line u (w ∷ words)) next read in
     let step = step_found u (w ∷ words) m.a m.given in
     let line : IsLine (w ∷ words) = let P : List Word → Type 0 = λ v. IsLine v in subst P is good in
-    let long : length (spelled (w ∷ words)) ≡ length l = ap length (ap spelled (sym is) ∙ spelled-words_of l) in
-    runs m.a (k + 1 + length (spelled (w ∷ words))) (n + 1) (insert u (w ∷ words) m.a k line o step) (lines_kept u (w ∷ words) m.a step ∙ none) (omega arith) (read_at (n + 1) (part.Head, m.a) next ls s m.value rest)
+    let long : length (line_of (w ∷ words)) ≡ length l = ap length (ap line_of (sym is) ∙ spelled-words_of l) in
+    runs m.a (k + 1 + length (line_of (w ∷ words))) (n + 1) (insert u (w ∷ words) m.a k line o step) (lines_kept u (w ∷ words) m.a step ∙ none) (omega arith) (read_at (n + 1) (part.Head, m.a) next ls s m.value rest)
 
 head_words_by : {version : ℕ} (u : Script) (k n most : ℕ) (s : Script) (l : List ℕ) (ls : List (List ℕ)) (next : Sofar) (ws : List Word) → words_of l ≡ ws → IsLine (words_of l)
     → Ordered version u k → u.lines ≡ [] → k + lines_room (l ∷ ls) ≤ most → lines_read (n + 1) next ls ≡ Ok s → words_read n (part.Head, u) ws ≡ Ok next → HeadRuns version ls s most → HeadRun version s most
@@ -285,7 +285,7 @@ pub record StartRun (s : Script) (most : ℕ) : Type 0 where
   pub n : ℕ
   pub rest : List (List ℕ)
   pub read : lines_read n (part.Head, with_version empty v) rest ≡ Ok s
-  pub fits : 1 + length (spelled (codes "flatland" ∷ decimal v ∷ [])) + lines_room rest ≤ most
+  pub fits : 1 + length (line_of (codes "flatland" ∷ decimal v ∷ [])) + lines_room rest ≤ most
 
 abbrev StartRuns : List (List ℕ) → Script → ℕ → Type 0
 StartRuns ls s most = (n : ℕ) → lines_room ls ≤ most → lines_read n (part.Start, empty) ls ≡ Ok s → StartRun s most
@@ -295,7 +295,7 @@ start_by : (n most : ℕ) (s : Script) (l : List ℕ) (ls : List (List ℕ)) (ne
 start_by n most s l ls next line fits rest read =
     let m = mapped_ok (λ v. (part.Head, with_version empty v)) (first_line (words_of l)) next read in
     let says = (first_ok (words_of l) m.a m.given).0 in
-    let long : length (spelled (codes "flatland" ∷ decimal m.a ∷ [])) ≡ length l = ap (λ ws. length (spelled ws)) (sym says) ∙ ap length (spelled-words_of l) in
+    let long : length (line_of (codes "flatland" ∷ decimal m.a ∷ [])) ≡ length l = ap (λ ws. length (line_of ws)) (sym says) ∙ ap length (spelled-words_of l) in
     let P : List Word → Type 0 = IsLine in
     record {
       v = m.a;
@@ -333,13 +333,13 @@ head_again n u t ws (buffers_step x) = again_at n u t ws _ x.begins (λ r. ap (m
 head_again n u t ws (pair_step x) = again_at n u t ws _ x.begins (λ r. ap (mapped (λ v. (part.Head, v))) r)
 head_again n u t ws (fence_step x) = again_at n u t ws _ x.begins (λ r. ap (mapped (λ v. (part.Head, v))) r)
 
-one_step : (n : ℕ) (u t : Script) (ws : List Word) (tail : List (List ℕ)) → IsLine ws → Step u ws t → lines_read n (part.Head, u) (spelled ws ∷ tail) ≡ lines_read (n + 1) (part.Head, t) tail
-one_step n u t ws tail good step = goes_on n (part.Head, u) (part.Head, t) (spelled ws) tail (spelled_read n (part.Head, u) ws good ∙ head_again n u t ws step (step_read u ws t step))
+one_step : (n : ℕ) (u t : Script) (ws : List Word) (tail : List (List ℕ)) → IsLine ws → Step u ws t → lines_read n (part.Head, u) (line_of ws ∷ tail) ≡ lines_read (n + 1) (part.Head, t) tail
+one_step n u t ws tail good step = goes_on n (part.Head, u) (part.Head, t) (line_of ws) tail (spelled_read n (part.Head, u) ws good ∙ head_again n u t ws step (step_read u ws t step))
 
-chain_read : (k n : ℕ) (u t : Script) (wss : List (List Word)) (tail : List (List ℕ)) → AllLines wss → Chain k u wss t → lines_read n (part.Head, u) (map spelled wss ++ tail) ≡ lines_read (n + length wss) (part.Head, t) tail
+chain_read : (k n : ℕ) (u t : Script) (wss : List (List Word)) (tail : List (List ℕ)) → AllLines wss → Chain k u wss t → lines_read n (part.Head, u) (map line_of wss ++ tail) ≡ lines_read (n + length wss) (part.Head, t) tail
 chain_read k n u t [] tail good chain = ap (λ v. lines_read n (part.Head, v) tail) chain ∙ ap (λ i. lines_read i (part.Head, t) tail) (omega arith)
 chain_read k n u t (ws ∷ wss) tail good chain =
-    one_step n u chain.mid ws (map spelled wss ++ tail) good.0 chain.step ∙ chain_read k (n + 1) chain.mid t wss tail good.1 chain.behind ∙ ap (λ i. lines_read i (part.Head, t) tail) (omega arith)
+    one_step n u chain.mid ws (map line_of wss ++ tail) good.0 chain.step ∙ chain_read k (n + 1) chain.mid t wss tail good.1 chain.behind ∙ ap (λ i. lines_read i (part.Head, t) tail) (omega arith)
 
 abbrev declared : {version : ℕ} {u : Script} {k : ℕ} → Ordered version u k → List (List Word)
 declared o = o.d ++ (o.s ++ (o.q ++ (o.b ++ (o.p ++ o.f))))
@@ -351,24 +351,24 @@ declared_room : {version : ℕ} (u : Script) (k : ℕ) (o : Ordered version u k)
 declared_room u k o =
     omega (arith, room_of-append o.d (o.s ++ (o.q ++ (o.b ++ (o.p ++ o.f)))), room_of-append o.s (o.q ++ (o.b ++ (o.p ++ o.f))), room_of-append o.q (o.b ++ (o.p ++ o.f)), room_of-append o.b (o.p ++ o.f), room_of-append o.p o.f, o.fits)
 
-map_more : (xs ys : List (List Word)) (tail : List (List ℕ)) → map spelled (xs ++ ys) ++ tail ≡ map spelled xs ++ (map spelled ys ++ tail)
-map_more xs ys tail = ap (λ t. t ++ tail) (map-append spelled xs ys) ∙ append_assoc (map spelled xs) (map spelled ys) tail
+map_more : (xs ys : List (List Word)) (tail : List (List ℕ)) → map line_of (xs ++ ys) ++ tail ≡ map line_of xs ++ (map line_of ys ++ tail)
+map_more xs ys tail = ap (λ t. t ++ tail) (map-append line_of xs ys) ∙ append_assoc (map line_of xs) (map line_of ys) tail
 
 abbrev behind_head : {version : ℕ} {u : Script} {k : ℕ} → ℕ → Ordered version u k → ℕ
 behind_head n o = n + length o.d + length o.s + length o.q + length o.b + length o.p + length o.f
 
-declared_cut : {version : ℕ} (u : Script) (k : ℕ) (o : Ordered version u k) (tail : List (List ℕ)) → map spelled (declared o) ++ tail ≡ map spelled o.d ++ (map spelled o.s ++ (map spelled o.q ++ (map spelled o.b ++ (map spelled o.p ++ (map spelled o.f ++ tail)))))
+declared_cut : {version : ℕ} (u : Script) (k : ℕ) (o : Ordered version u k) (tail : List (List ℕ)) → map line_of (declared o) ++ tail ≡ map line_of o.d ++ (map line_of o.s ++ (map line_of o.q ++ (map line_of o.b ++ (map line_of o.p ++ (map line_of o.f ++ tail)))))
 declared_cut u k o tail =
-    map_more o.d (o.s ++ (o.q ++ (o.b ++ (o.p ++ o.f)))) tail ∙ ap (λ t. map spelled o.d ++ t) (map_more o.s (o.q ++ (o.b ++ (o.p ++ o.f))) tail ∙ ap (λ t. map spelled o.s ++ t) (map_more o.q (o.b ++ (o.p ++ o.f)) tail
-    ∙ ap (λ t. map spelled o.q ++ t) (map_more o.b (o.p ++ o.f) tail ∙ ap (λ t. map spelled o.b ++ t) (map_more o.p o.f tail))))
+    map_more o.d (o.s ++ (o.q ++ (o.b ++ (o.p ++ o.f)))) tail ∙ ap (λ t. map line_of o.d ++ t) (map_more o.s (o.q ++ (o.b ++ (o.p ++ o.f))) tail ∙ ap (λ t. map line_of o.s ++ t) (map_more o.q (o.b ++ (o.p ++ o.f)) tail
+    ∙ ap (λ t. map line_of o.q ++ t) (map_more o.b (o.p ++ o.f) tail ∙ ap (λ t. map line_of o.b ++ t) (map_more o.p o.f tail))))
 
-declared_read : {version : ℕ} (u : Script) (k n : ℕ) (o : Ordered version u k) (tail : List (List ℕ)) → lines_read n (part.Head, with_version empty version) (map spelled (declared o) ++ tail) ≡ lines_read (behind_head n o) (part.Head, u) tail
+declared_read : {version : ℕ} (u : Script) (k n : ℕ) (o : Ordered version u k) (tail : List (List ℕ)) → lines_read n (part.Head, with_version empty version) (map line_of (declared o) ++ tail) ≡ lines_read (behind_head n o) (part.Head, u) tail
 declared_read {version = version} u k n o tail =
-    let t5 = map spelled o.f ++ tail in
-    let t4 = map spelled o.p ++ t5 in
-    let t3 = map spelled o.b ++ t4 in
-    let t2 = map spelled o.q ++ t3 in
-    let t1 = map spelled o.s ++ t2 in
+    let t5 = map line_of o.f ++ tail in
+    let t4 = map line_of o.p ++ t5 in
+    let t3 = map line_of o.b ++ t4 in
+    let t2 = map line_of o.q ++ t3 in
+    let t1 = map line_of o.s ++ t2 in
     ap (lines_read n (part.Head, with_version empty version)) (declared_cut u k o tail) ∙ chain_read 0 n (with_version empty version) o.u0 o.d t1 o.all_d o.sizes ∙ chain_read 1 _ o.u0 o.u1 o.s t2 o.all_s o.sessions
     ∙ chain_read 2 _ o.u1 o.u2 o.q t3 o.all_q o.probes ∙ chain_read 3 _ o.u2 o.u3 o.b t4 o.all_b o.buffers ∙ chain_read 4 _ o.u3 o.u4 o.p t5 o.all_p o.pairs ∙ chain_read 5 _ o.u4 u o.f tail o.all_f o.fences
 
@@ -444,21 +444,21 @@ printed_by bytes s few is =
     let words : script_words s ≡ (declared o ++ r) ++ bd.more =
     ap script_words bd.made ∙ ap (λ t. t ++ map (line_words h) bd.us') (head_is h hd.k o bd.us' bd.from hd.ready) ∙ ap (λ t. (declared o ++ r) ++ t) bd.words in
     let good : AllLines ((declared o ++ r) ++ bd.more) = AllLines-append (declared o ++ r) bd.more (AllLines-append (declared o) r (all_declared h hd.k o) (run_good, tt)) bd.all in
-    let first : List ℕ = spelled (codes "flatland" ∷ decimal st.v ∷ []) in
+    let first : List ℕ = line_of (codes "flatland" ∷ decimal st.v ∷ []) in
     let text : text_of s ≡ first ++ fed ((declared o ++ r) ++ bd.more) =
-    ap (λ v. spelled (codes "flatland" ∷ decimal v ∷ []) ++ fed (script_words s)) (ap (λ (t : Script). t.version) bd.made ∙ ordered_version h hd.k o) ∙ ap (λ w. first ++ fed w) words in
-    let cut : lines_of (text_of s) ≡ first ∷ map spelled ((declared o ++ r) ++ bd.more) =
+    ap (λ v. line_of (codes "flatland" ∷ decimal v ∷ []) ++ fed (script_words s)) (ap (λ (t : Script). t.version) bd.made ∙ ordered_version h hd.k o) ∙ ap (λ w. first ++ fed w) words in
+    let cut : lines_of (text_of s) ≡ first ∷ map line_of ((declared o ++ r) ++ bd.more) =
     ap lines_of text ∙ lines_of_fed first ((declared o ++ r) ++ bd.more) st.line.plain (skipped_none first st.line.kept) good in
-    let pieces : map spelled ((declared o ++ r) ++ bd.more) ≡ map spelled (declared o) ++ (codes "run" ∷ map spelled bd.more) =
-    map-append spelled (declared o ++ r) bd.more ∙ map_more (declared o) r (map spelled bd.more) in
+    let pieces : map line_of ((declared o ++ r) ++ bd.more) ≡ map line_of (declared o) ++ (codes "run" ∷ map line_of bd.more) =
+    map-append line_of (declared o ++ r) bd.more ∙ map_more (declared o) r (map line_of bd.more) in
     let again : Script = last_lines h bd.ms' bd.count in
     let reading : lines_read 1 (part.Start, empty) (lines_of (text_of s)) ≡ Ok again =
     ap (lines_read 1 (part.Start, empty)) (cut ∙ ap (λ t. first ∷ t) pieces)
-    ∙ goes_on 1 (part.Start, empty) (part.Head, with_version empty st.v) first (map spelled (declared o) ++ (codes "run" ∷ map spelled bd.more))
+    ∙ goes_on 1 (part.Start, empty) (part.Head, with_version empty st.v) first (map line_of (declared o) ++ (codes "run" ∷ map line_of bd.more))
     (spelled_read 1 (part.Start, empty) (codes "flatland" ∷ decimal st.v ∷ []) st.line ∙ ap (mapped (λ v. (part.Head, with_version empty v))) st.first)
-    ∙ declared_read h hd.k 2 o (codes "run" ∷ map spelled bd.more)
-    ∙ run_read (behind_head 2 o) h (map spelled bd.more) hd.ready
-    ∙ ap (λ v. lines_read m (part.Body, v) (map spelled bd.more)) bare ∙ bd.read in
+    ∙ declared_read h hd.k 2 o (codes "run" ∷ map line_of bd.more)
+    ∙ run_read (behind_head 2 o) h (map line_of bd.more) hd.ready
+    ∙ ap (λ v. lines_read m (part.Body, v) (map line_of bd.more)) bare ∙ bd.read in
     let long : length (text_of s) ≡ length first + room_of ((declared o ++ r) ++ bd.more) = ap length text ∙ text_long first ((declared o ++ r) ++ bd.more) in
     let fits : length (text_of s) ≤ 16777216 =
     omega (arith, long, room_of-append (declared o ++ r) bd.more, room_of-append (declared o) r, declared_room h hd.k o, bd.room, hd.fits, st.fits, lines_room-lines_of bytes, few) in

@@ -8,24 +8,25 @@ use Rattle.std.proofs.lemmas.Bool.Decides.{nat_tests}
 use Rattle.flat_text.specs.Pieces.{is_feed, is_space, words_of, lines_of, without_empty_end}
 use Rattle.flat_places.specs.Forms.{Word}
 use Rattle.flat_script.specs.Grammar.{is_plain, is_skipped}
-use Rattle.flat_print.specs.Print.{spelled, spaced, fed}
+use Rattle.flat_print.specs.Print.{fed}
+use Rattle.flat_page.specs.Words.{line_of, spaced}
 use Rattle.std.proofs.lemmas.Bool.{and_parts}
-use Rattle.flat_print.proofs.WordLemmas.{spaced-append}
+use Rattle.flat_page.proofs.lemmas.PageLemmas.{spaced-append}
 
-spelled-join : (ws : List Word) → spelled ws ≡ join_with_byte 32 ws
+spelled-join : (ws : List Word) → line_of ws ≡ join_with_byte 32 ws
 spelled-join [] = refl
 spelled-join (w ∷ []) = append-nil w
 spelled-join (w ∷ v ∷ ws) = ap (λ t. w ++ (32 ∷ t)) (spelled-join (v ∷ ws))
 
-pub spelled-words_of : (line : List ℕ) → spelled (words_of line) ≡ line
+pub spelled-words_of : (line : List ℕ) → line_of (words_of line) ≡ line
 spelled-words_of line = spelled-join (words_of line) ∙ join_with_byte-slice_split 32 line
 
 -- words that are read as a line's words, where a line is read
 pub record IsLine (ws : List Word) : Type 0 where
-  pub plain : list_all is_plain (spelled ws) ≡ true
-  pub short : nat_lt 1024 (length (spelled ws)) ≡ false
-  pub kept : is_skipped (spelled ws) ≡ false
-  pub words : words_of (spelled ws) ≡ ws
+  pub plain : list_all is_plain (line_of ws) ≡ true
+  pub short : nat_lt 1024 (length (line_of ws)) ≡ false
+  pub kept : is_skipped (line_of ws) ≡ false
+  pub words : words_of (line_of ws) ≡ ws
 
 pub line_words_of : (line : List ℕ) → list_all is_plain line ≡ true → nat_lt 1024 (length line) ≡ false → is_skipped line ≡ false → IsLine (words_of line)
 line_words_of line plain short kept =
@@ -63,14 +64,14 @@ words_join (x ∷ w) t = by_test (is_space x) (words_join w t)
     by_test true rest = ap (λ ps. [] ∷ ps) rest
     by_test false rest = ap (onto_first x) rest ∙ onto_append x (words_of w) (words_of t) (omega (arith, length-slice_split is_space w))
 
-front_words_of : (w : Word) (more behind : List Word) → words_of (spelled (w ∷ more ++ behind)) ≡ w ∷ more ++ behind → words_of (spelled (w ∷ more)) ≡ w ∷ more
+front_words_of : (w : Word) (more behind : List Word) → words_of (line_of (w ∷ more ++ behind)) ≡ w ∷ more ++ behind → words_of (line_of (w ∷ more)) ≡ w ∷ more
 front_words_of w [] [] is = is
-front_words_of w [] (b ∷ bs) is = ap words_of (append-nil w) ∙ (cut w (spelled (b ∷ bs)) (b ∷ bs) is).0
+front_words_of w [] (b ∷ bs) is = ap words_of (append-nil w) ∙ (cut w (line_of (b ∷ bs)) (b ∷ bs) is).0
 front_words_of w (v ∷ more) behind is =
-    let both = cut w (spelled (v ∷ more ++ behind)) (v ∷ more ++ behind) is in
-    words_join w (spelled (v ∷ more)) ∙ ap (λ ps. ps ++ words_of (spelled (v ∷ more))) both.0 ∙ ap (λ ps. w ∷ ps) (front_words_of v more behind both.1)
+    let both = cut w (line_of (v ∷ more ++ behind)) (v ∷ more ++ behind) is in
+    words_join w (line_of (v ∷ more)) ∙ ap (λ ps. ps ++ words_of (line_of (v ∷ more))) both.0 ∙ ap (λ ps. w ∷ ps) (front_words_of v more behind both.1)
 
-spelled-append : (w : Word) (more behind : List Word) → spelled (w ∷ more ++ behind) ≡ spelled (w ∷ more) ++ spaced behind
+spelled-append : (w : Word) (more behind : List Word) → line_of (w ∷ more ++ behind) ≡ line_of (w ∷ more) ++ spaced behind
 spelled-append w more behind = ap (λ t. w ++ t) (spaced-append more behind) ∙ sym (append_assoc w (spaced more) (spaced behind))
 
 plain_front : (xs ys : List ℕ) → list_all is_plain (xs ++ ys) ≡ true → list_all is_plain xs ≡ true
@@ -93,7 +94,7 @@ kept_front (x ∷ xs) ys some kept = skipped_first x xs ∙ sym (skipped_first x
 pub line_front : (w v : Word) (more behind : List Word) → IsLine (w ∷ v ∷ more ++ behind) → IsLine (w ∷ v ∷ more)
 line_front w v more behind line =
     let same = spelled-append w (v ∷ more) behind in
-    let xs = spelled (w ∷ v ∷ more) in
+    let xs = line_of (w ∷ v ∷ more) in
     record {
       plain = plain_front xs (spaced behind) (ap (list_all is_plain) (sym same) ∙ line.plain);
       short = short_front xs (spaced behind) (ap (λ t. nat_lt 1024 (length t)) (sym same) ∙ line.short);
@@ -101,8 +102,8 @@ line_front w v more behind line =
       words = front_words_of w (v ∷ more) behind line.words;
     }
 
-pub front_fits : (w : Word) (more behind : List Word) → length (spelled (w ∷ more)) ≤ length (spelled (w ∷ more ++ behind))
-front_fits w more behind = let same = ap length (spelled-append w more behind) in omega (arith, length-append (spelled (w ∷ more)) (spaced behind))
+pub front_fits : (w : Word) (more behind : List Word) → length (line_of (w ∷ more)) ≤ length (line_of (w ∷ more ++ behind))
+front_fits w more behind = let same = ap length (spelled-append w more behind) in omega (arith, length-append (line_of (w ∷ more)) (spaced behind))
 
 -- lines
 
@@ -125,31 +126,31 @@ no_feed_at (x ∷ xs) h (suc k) d within = no_feed_at xs (and_parts (is_plain x)
 no_feeds : (xs : List ℕ) → list_all is_plain xs ≡ true → All (λ x. is_feed x ≡ false) xs
 no_feeds xs h = λ k d within. no_feed_at xs h k d (omega arith)
 
-split_fed : (l : List ℕ) (wss : List (List Word)) → list_all is_plain l ≡ true → AllLines wss → slice_split is_feed (l ++ fed wss) ≡ l ∷ map spelled wss
+split_fed : (l : List ℕ) (wss : List (List Word)) → list_all is_plain l ≡ true → AllLines wss → slice_split is_feed (l ++ fed wss) ≡ l ∷ map line_of wss
 split_fed l [] plain good = ap (slice_split is_feed) (append-nil l) ∙ slice_split_none is_feed l (no_feeds l plain)
-split_fed l (ws ∷ wss) plain good = slice_split_at is_feed l 10 (spelled ws ++ fed wss) (no_feeds l plain) refl ∙ ap (λ t. l ∷ t) (split_fed (spelled ws) wss good.0.plain good.1)
+split_fed l (ws ∷ wss) plain good = slice_split_at is_feed l 10 (line_of ws ++ fed wss) (no_feeds l plain) refl ∙ ap (λ t. l ∷ t) (split_fed (line_of ws) wss good.0.plain good.1)
 
 pub skipped_none : (l : List ℕ) → is_skipped l ≡ false → (length l == 0) ≡ false
 skipped_none [] h = absurd (cc)
 skipped_none (x ∷ xs) h = grind (arith, nat_tests)
 
-full_end : (l : List ℕ) (wss : List (List Word)) → (length l == 0) ≡ false → AllLines wss → without_empty_end (l ∷ map spelled wss) ≡ l ∷ map spelled wss
+full_end : (l : List ℕ) (wss : List (List Word)) → (length l == 0) ≡ false → AllLines wss → without_empty_end (l ∷ map line_of wss) ≡ l ∷ map line_of wss
 full_end l [] some good = rw some refl
-full_end l (ws ∷ wss) some good = ap (λ t. l ∷ t) (full_end (spelled ws) wss (skipped_none (spelled ws) good.0.kept) good.1)
+full_end l (ws ∷ wss) some good = ap (λ t. l ∷ t) (full_end (line_of ws) wss (skipped_none (line_of ws) good.0.kept) good.1)
 
 -- the lines of a text that was written line by line
-pub lines_of_fed : (l : List ℕ) (wss : List (List Word)) → list_all is_plain l ≡ true → (length l == 0) ≡ false → AllLines wss → lines_of (l ++ fed wss) ≡ l ∷ map spelled wss
+pub lines_of_fed : (l : List ℕ) (wss : List (List Word)) → list_all is_plain l ≡ true → (length l == 0) ≡ false → AllLines wss → lines_of (l ++ fed wss) ≡ l ∷ map line_of wss
 lines_of_fed l wss plain some good = ap without_empty_end (split_fed l wss plain good) ∙ full_end l wss some good
 
 -- how long lines are, each with a line feed
 
 abbrev pub room_of : List (List Word) → ℕ
 room_of [] = 0
-room_of (ws ∷ wss) = 1 + length (spelled ws) + room_of wss
+room_of (ws ∷ wss) = 1 + length (line_of ws) + room_of wss
 
 pub length-fed : (wss : List (List Word)) → length (fed wss) ≡ room_of wss
 length-fed [] = refl
-length-fed (ws ∷ wss) = omega (arith, length-append (spelled ws) (fed wss), length-fed wss)
+length-fed (ws ∷ wss) = omega (arith, length-append (line_of ws) (fed wss), length-fed wss)
 
 pub room_of-append : (xs ys : List (List Word)) → room_of (xs ++ ys) ≡ room_of xs + room_of ys
 room_of-append [] ys = omega arith

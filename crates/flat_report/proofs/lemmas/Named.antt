@@ -11,7 +11,8 @@ use Rattle.flat_scene.specs.Setups.{is_declared}
 use Rattle.flat_rules.specs.Legal.{may_act, session_may}
 use Rattle.flat_places.specs.declared.script.Script.{Script}
 use Rattle.flat_places.specs.Names.{is_name, is_name_byte, is_reserved, place_of}
-use Rattle.flat_page.specs.Words.{Word, name_at, session_name, actor_name}
+use Rattle.flat_page.specs.Words.{name_at, session_name, actor_name}
+use Rattle.flat_places.specs.Forms.{Word}
 use Rattle.flat_report.proofs.lemmas.Sheets.{is_word}
 use Rattle.std.proofs.lemmas.Bool.{and_parts}
 

@@ -19,7 +19,8 @@ use Rattle.flat_rules.specs.Legal.{LegalEntry, may_act, display_may, reply_to, a
 use Rattle.flat_places.specs.declared.script.Script.{Script}
 use Rattle.flat_lines.specs.EntryLines.{entry_line, event_line, said_words, answer_words}
 use Rattle.flat_lines.specs.FrameLines.{lost_line}
-use Rattle.flat_page.specs.Words.{Word, number, session_name, actor_name}
+use Rattle.flat_page.specs.Words.{number, session_name, actor_name}
+use Rattle.flat_places.specs.Forms.{Word}
 use Rattle.flat_report.proofs.lemmas.Named.{IsNamed, Acts, acts, actor-word, not-display, session-proper}
 use Rattle.flat_report.proofs.lemmas.Sheets.{laid, line_on, told, told-next, is_word, number-word, number-digits, is_digit}
 

@@ -16,7 +16,8 @@ use Rattle.flat_scene.specs.declared.script.ScriptLine.{ScriptLine}
 use Rattle.flat_places.specs.declared.script.Script.{Script}
 use Rattle.flat_lines.specs.EntryLines.{hit_words, said_words}
 use Rattle.flat_report.specs.Report.{begin_of, hits_at, is_probe, probe_lines_of, probe_lines, seen_words, seen_line}
-use Rattle.flat_page.specs.Words.{Word, number, name_at, actor_name}
+use Rattle.flat_page.specs.Words.{number, name_at, actor_name}
+use Rattle.flat_places.specs.Forms.{Word}
 use Rattle.flat_report.specs.Probes.{is_asking}
 use Rattle.flat_report.proofs.lemmas.Named.{IsNamed, name-word, not-display, no-probe-name, actor-word}
 use Rattle.flat_report.proofs.lemmas.Openings.{NoEntry, NoLoss, lost_words}

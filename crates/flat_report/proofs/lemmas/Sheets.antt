@@ -4,7 +4,8 @@ use Rattle.std.specs.List.{list_all}
 use Rattle.std.specs.Fmt.{digits, digits_onto, digit_glyph}
 use Rattle.std.proofs.lemmas.Bool.Decides.{nat_tests}
 use Rattle.std.proofs.lemmas.List.{append_cancel_left}
-use Rattle.flat_page.specs.Words.{Word, spaced, line_of, text_of, number}
+use Rattle.flat_page.specs.Words.{spaced, line_of, text_of, number}
+use Rattle.flat_places.specs.Forms.{Word}
 use Rattle.std.proofs.lemmas.Bool.{and_parts, and_from}
 
 -- ---- texts from the front

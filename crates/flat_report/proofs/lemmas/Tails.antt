@@ -25,7 +25,8 @@ use Rattle.flat_lines.specs.FrameLines.{frame_lines, lost_line, lost_at}
 use Rattle.flat_report.specs.FrameTexts.{frame_text}
 use Rattle.flat_report.specs.Handed.{answer_to, first_hits, texts_after, answers_after, shown_text, handed_text}
 use Rattle.flat_report.specs.Report.{frame_at, hits_at, shown_lines, entry_lines}
-use Rattle.flat_page.specs.Words.{Word, line_of, number, text_of, actor_name}
+use Rattle.flat_page.specs.Words.{line_of, number, text_of, actor_name}
+use Rattle.flat_places.specs.Forms.{Word}
 
 -- ---- histories, from the oldest entry on
 

@@ -1,5 +1,6 @@
-use Rattle.std.proofs.Common.{[]}
+use Rattle.std.proofs.Common.{◌∙◌}
+use Rattle.flat_page.proofs.lemmas.PageLemmas.{all-put}
 use Rattle.flat_judge.proofs.entry_texts.posts_text.Goals as goal
 
 pub returns : goal.returns
-returns c = c.into_text.ensures _ (c.in_ok-push_posts.ensures.puts.stands [] c.new.ensures.items)
+returns c = c.into_text.ensures ∙ all-put _ _ _ c.new-page.ensures c.in_ok-push_posts.ensures.text

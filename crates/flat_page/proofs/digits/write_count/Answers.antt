@@ -1,4 +1,4 @@
-use Rattle.std.proofs.Common.{arith, rules, ap}
+use Rattle.std.proofs.Common.{arith, rules}
 use Rattle.flat_page.proofs.NumberBytes.{byte_before, few}
 use Rattle.flat_page.proofs.digits.write_count.Goals as goal
 

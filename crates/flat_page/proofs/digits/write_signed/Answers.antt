@@ -1,4 +1,4 @@
-use Rattle.std.proofs.Common.{◌≡◌, ◌++◌, ◌+◌, ◌-◌, arith, rules, append-nil, to_z-of_z, ap, sym, ◌∙◌}
+use Rattle.std.proofs.Common.{◌++◌, arith, rules, append-nil, to_z-of_z, ap, ◌∙◌}
 use Rattle.std.specs.Fmt.{decimal}
 use Rattle.std.proofs.lemmas.List.{drop_all}
 use Rattle.itoa.proofs.Decimal.{minus_first}

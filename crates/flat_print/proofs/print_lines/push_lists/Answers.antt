@@ -1,5 +1,5 @@
 use Rattle.std.proofs.Common.{rules}
-use Rattle.flat_print.proofs.WordLemmas.{then}
+use Rattle.flat_page.proofs.lemmas.PageLemmas.{then}
 use Rattle.flat_print.proofs.print_lines.push_lists.Goals as goal
 
 pub returns : goal.returns

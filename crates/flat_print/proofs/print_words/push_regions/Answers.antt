@@ -1,5 +1,5 @@
 use Rattle.flat_print.specs.Print.{region_words}
-use Rattle.flat_print.proofs.WordLemmas.{more_words}
+use Rattle.flat_page.proofs.lemmas.PageLemmas.{more_words}
 use Rattle.flat_print.proofs.print_words.push_regions.Goals as goal
 
 pub loop-region-preserved : goal.loop-region-preserved

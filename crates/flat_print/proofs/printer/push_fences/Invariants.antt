@@ -1,6 +1,6 @@
 use Rattle.std.proofs.Common.{take}
-use Rattle.flat_print.specs.Print.{WritesLines, numbered, fence_line_words}
+use Rattle.flat_print.specs.Print.{Feeds, numbered, fence_line_words}
 use Rattle.flat_print.proofs.printer.push_fences.Given as goal
 
 abbrev pub invariant-loop-number : goal.invariant-loop-number
-invariant-loop-number l = WritesLines (numbered (fence_line_words l.script) 0 (take l.number l.decls)) l.fn.out.items l.out.items
+invariant-loop-number l = Feeds (numbered (fence_line_words l.script) 0 (take l.number l.decls)) l.fn.page l.page

@@ -1,6 +1,6 @@
 use Rattle.std.proofs.Common.{ap, map, codes}
 use Rattle.flat_print.specs.Print.{numbered, name_words, buffers_line_words, pair_line_words, fence_line_words}
-use Rattle.flat_print.proofs.WordLemmas.{then_lines, same_lines}
+use Rattle.flat_print.proofs.LineLemmas.{then_lines, same_lines}
 use Rattle.flat_print.proofs.printer.push_head.Goals as goal
 
 pub returns : goal.returns

@@ -1,6 +1,6 @@
 use Rattle.std.proofs.Common.{ap}
 use Rattle.flat_print.specs.Print.{line_words}
-use Rattle.flat_print.proofs.WordLemmas.{more_lines}
+use Rattle.flat_print.proofs.LineLemmas.{more_lines}
 use Rattle.flat_print.proofs.printer.push_lines.Goals as goal
 
 pub loop-line-preserved : goal.loop-line-preserved

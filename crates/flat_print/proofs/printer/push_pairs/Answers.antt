@@ -1,6 +1,6 @@
 use Rattle.std.proofs.Common.{refl}
 use Rattle.flat_print.specs.Print.{pair_line_words}
-use Rattle.flat_print.proofs.WordLemmas.{more_numbered}
+use Rattle.flat_print.proofs.LineLemmas.{more_numbered}
 use Rattle.flat_print.proofs.printer.push_pairs.Goals as goal
 
 pub loop-number-preserved : goal.loop-number-preserved

@@ -6,4 +6,4 @@ use Rattle.flat_stress.specs.Load.{later}
 use Rattle.flat_stress.proofs.load.push_later_frames.Given as goal
 
 abbrev pub invariant-loop-k : goal.invariant-loop-k
-invariant-loop-k l = l.out.items ≡ l.initial.out.items ++ text_of (flat_map (later) (between 2 l.k))
+invariant-loop-k l = l.page ≡ l.initial.page ++ text_of (flat_map (later) (between 2 l.k))

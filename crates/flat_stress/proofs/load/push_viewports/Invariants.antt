@@ -6,4 +6,4 @@ use Rattle.flat_stress.specs.Load.{node, viewport}
 use Rattle.flat_stress.proofs.load.push_viewports.Given as goal
 
 abbrev pub invariant-loop-i : goal.invariant-loop-i
-invariant-loop-i l = l.out.items ≡ l.initial.out.items ++ text_of (flat_map (λ i. node 1 i ++ viewport i) (between 2 l.i))
+invariant-loop-i l = l.page ≡ l.initial.page ++ text_of (flat_map (λ i. node 1 i ++ viewport i) (between 2 l.i))

@@ -1,5 +1,6 @@
-use Rattle.std.proofs.Common.{[]}
+use Rattle.std.proofs.Common.{◌∙◌}
+use Rattle.flat_page.proofs.lemmas.PageLemmas.{all-put}
 use Rattle.flat_texts.proofs.damage.print_damages.Goals as goal
 
 pub returns : goal.returns
-returns c = c.into_text.ensures _ (c.in_ok-push_text-2.ensures.puts.stands [] c.in_ok-page.ensures.empty)
+returns c = c.into_text.ensures ∙ all-put _ _ _ c.new-page.ensures c.in_ok-push_text.ensures.text

@@ -3,7 +3,8 @@ use Rattle.std.specs.Prelude.{codes}
 use Rattle.flat_base.specs.declared.shapes.Rect.{Rect}
 use Rattle.flat_page.proofs.lemmas.PageLemmas.{then_lines}
 use Rattle.flat_page.specs.Pages.{WritesLines}
-use Rattle.flat_page.specs.Words.{Word, number}
+use Rattle.flat_page.specs.Words.{number}
+use Rattle.flat_places.specs.Forms.{Word}
 use Rattle.flat_texts.specs.Damages.{rect_line}
 use Rattle.flat_texts.proofs.damage.push_damaged.Goals as goal
 

@@ -2,4 +2,4 @@ use Rattle.flat_report.proofs.Paging.{put-behind}
 use Rattle.flat_report.proofs.paged_text.PagedText.entry.Goals as goal
 
 pub returns : goal.returns
-returns c = put-behind c.self.inside.full c.args.self.now c.self.inside.page c.replace-page.result c.push_entry.new.page c.replace-page.ensures.value c.self.invariant c.in_ok-push_entry.ensures.puts c.self.view_is
+returns c = put-behind c.self.inside.full c.args.self.now c.self.inside.page _ _ c.in_ok-push_entry.ensures.text c.self.view_is

@@ -1,6 +1,0 @@
-use Rattle.std.proofs.Common.{arith}
-use Rattle.flat_page.proofs.NumberBytes.{few}
-use Rattle.flat_page.proofs.page.Page.numbered.Goals as goal
-
-pub write_digits-start-requires : goal.write_digits-start-requires
-write_digits-start-requires c = (let most = few c.from.result (omega arith) in omega (arith, most), omega arith)
