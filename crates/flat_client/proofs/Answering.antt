@@ -1,5 +1,6 @@
 -- The replies of the rules to a client's lines.
-use Rattle.std.proofs.Common.{◌≡◌, ℕ, ◌+◌, Bool, true, false, cond, ◌⊎◌, List, [], ◌∷◌, ◌++◌, length, refl, sym, ap, ◌∙◌, subst, inl, inr, Option, Some, None, is_some, nat_le, nat_lt, ◌==◌}
+use Rattle.std.proofs.Common.{◌≡◌, ℕ, ◌+◌, Bool, true, false, cond, ◌⊎◌, List, [], ◌∷◌, ◌++◌, length, refl, sym, ap}
+use Rattle.std.proofs.Common.{◌∙◌, subst, inl, inr, Option, Some, None, is_some, nat_le, nat_lt, ◌==◌}
 use Rattle.std.proofs.lemmas.List.{reverse-append}
 use Rattle.flat_base.specs.declared.errors.Reason.{Reason}
 use Rattle.flat_base.specs.declared.errors.FlatlandError.TheVariants.{NoPresentsRemaining}
@@ -30,13 +31,15 @@ use Rattle.flat_stage.specs.Readings.{entry_by}
 use Rattle.flat_client.specs.Clients.{ClientView, MakesEntry, is_answer, is_close, makes_entry, setup_for}
 
 -- the newest entry of a legal history has the reply of the rules
-legal_last : (setup : Setup) (before : List Entry) (entry : Entry) → Legal setup (history_of (before ++ entry ∷ [])) → entry.reply ≡ reply_to setup (history_of before) entry.actor entry.calls entry.kind
+legal_last : (setup : Setup) (before : List Entry) (entry : Entry) → Legal setup (history_of (before ++ entry ∷ [])) → entry.reply
+    ≡ reply_to setup (history_of before) entry.actor entry.calls entry.kind
 legal_last setup before entry legal =
     let L : List Entry → Type 0 = Legal setup in
     let last : L (entry ∷ history_of before) = subst L (reverse-append before (entry ∷ [])) legal in
     last.1.reply
 
-pub made_reply : (text : Line) (answer : Reply) (old new : ClientView) (makes : MakesEntry text answer old new) → (before : List Entry) × (answer ≡ reply_to (setup_for old) before (Session old.seat.session) (old.seat.pending ++ calls_of_line text) makes.kind)
+pub made_reply : (text : Line) (answer : Reply) (old new : ClientView) (makes : MakesEntry text answer old new) → (before : List Entry)
+    × (answer ≡ reply_to (setup_for old) before (Session old.seat.session) (old.seat.pending ++ calls_of_line text) makes.kind)
 made_reply text answer old new makes =
     let one = makes.entry.one in
     let L : List Entry → Type 0 = λ seen. Legal (setup_for old) (history_of seen) in
@@ -61,7 +64,8 @@ fits_got get false (Some told) = λ opened. refl
 fits_got get false None = λ opened. refl
 
 -- an entry is that of a line, or a close for a reason
-either : (why : Option Reason) (meant kind : Kind) → or_close why (Some meant) ≡ Some kind → (kind ≡ meant) ⊎ ((reason : Reason) × (kind ≡ kinds.Close (Some reason)))
+either : (why : Option Reason) (meant kind : Kind) → or_close why (Some meant) ≡ Some kind
+    → (kind ≡ meant) ⊎ ((reason : Reason) × (kind ≡ kinds.Close (Some reason)))
 either None meant kind is = inl (cc)
 either (Some reason) meant kind is = inr (reason, cc)
 
@@ -73,7 +77,8 @@ module _ (setup : Setup) (before : List Entry) (s : SessionNo) (carries : List C
   fits_get get None = λ opened. refl
   fits_get get (Some watcher) = fits_got get _ _
 
-  fits_either : (text : Line) (why : Option Reason) (meant kind : Kind) → Fits text (answer_to meant) → or_close why (Some meant) ≡ Some kind → Fits text (answer_to kind)
+  fits_either : (text : Line) (why : Option Reason) (meant kind : Kind) → Fits text (answer_to meant) → or_close why (Some meant) ≡ Some kind
+      → Fits text (answer_to kind)
   fits_either text why meant kind fits is =
       let P : Kind → Type 0 = λ k. Fits text (answer_to k) in
       elim (either why meant kind is) [
@@ -87,20 +92,25 @@ module _ (setup : Setup) (before : List Entry) (s : SessionNo) (carries : List C
       let same : meant ≡ kind = cc in
       subst P same fits
 
-  fits_call : (draft : Draft) (call : Call) (kind : Kind) → makes_entry (line.Call call) ≡ true → entry_of_line setup draft (line.Call call) ≡ Some kind → Fits (line.Call call) (answer_to kind)
+  fits_call : (draft : Draft) (call : Call) (kind : Kind) → makes_entry (line.Call call) ≡ true → entry_of_line setup draft (line.Call call) ≡ Some kind
+      → Fits (line.Call call) (answer_to kind)
   fits_call draft (CreateView pair) kind makes is =
       fits_either (line.Call (CreateView pair)) (misuse setup draft (CreateView pair)) (kinds.View pair) kind
       (fits_cond (line.Call (CreateView pair)) _ Done refused_token (λ opened. refl) (fits_closed (line.Call (CreateView pair)) refused_token refl)) is
   fits_call draft (CreateViewport c pair w h inset) kind makes is =
-      fits_either (line.Call (CreateViewport c pair w h inset)) (misuse setup draft (CreateViewport c pair w h inset)) (kinds.Viewport pair (record { w = w; h = h; inset = inset })) kind
-      (fits_cond (line.Call (CreateViewport c pair w h inset)) _ Done refused_token (λ opened. refl) (fits_closed (line.Call (CreateViewport c pair w h inset)) refused_token refl)) is
+      fits_either (line.Call (CreateViewport c pair w h inset)) (misuse setup draft (CreateViewport c pair w h inset))
+      (kinds.Viewport pair (record { w = w; h = h; inset = inset })) kind
+      (fits_cond (line.Call (CreateViewport c pair w h inset)) _ Done refused_token (λ opened. refl)
+      (fits_closed (line.Call (CreateViewport c pair w h inset)) refused_token refl)) is
   fits_call draft _ kind makes is = absurd (let wrong : false ≡ true = makes in cc)
 
-  pub fits_line : (draft : Draft) (text : Line) (kind : Kind) → makes_entry text ≡ true → entry_of_line setup draft text ≡ Some kind → Fits text (answer_to kind)
+  pub fits_line : (draft : Draft) (text : Line) (kind : Kind) → makes_entry text ≡ true → entry_of_line setup draft text ≡ Some kind
+      → Fits text (answer_to kind)
   fits_line draft (line.Call call) kind makes is = fits_call draft call kind makes is
   fits_line draft (line.Present args) kind makes is =
       fits_either (line.Present args) (first_reason (present_tests draft args)) (kinds.Present args) kind
-      (fits_cond (line.Present args) _ (Presented _ _) (Closed (Some NoPresentsRemaining) None) (λ opened. refl) (fits_closed (line.Present args) (Closed (Some NoPresentsRemaining) None) refl)) is
+      (fits_cond (line.Present args) _ (Presented _ _) (Closed (Some NoPresentsRemaining) None) (λ opened. refl)
+      (fits_closed (line.Present args) (Closed (Some NoPresentsRemaining) None) refl)) is
   fits_line draft (line.Get get) kind makes is =
       fits_either (line.Get get) (first_reason (get_tests draft get)) (kinds.Get get) kind (fits_get get _) is
   fits_line draft (line.Signal f) kind makes is = fits_alone (line.Signal f) (kinds.Signal f) kind (λ opened. refl) is
@@ -123,7 +133,9 @@ fits_made text answer old new makes made =
     subst P (sym replied.1) (fits_line (setup_for old) replied.0 old.seat.session (old.seat.pending ++ calls_of_line text) _ text made.kind makes made.of_line)
 
 -- a close closes
-pub closing : (text : Line) (answer : Reply) (old new : ClientView) → is_close (entry_by old.seat text) ≡ true → MakesEntry text answer old new → closes answer ≡ true
+pub closing : (text : Line) (answer : Reply) (old new : ClientView) → is_close (entry_by old.seat text) ≡ true → MakesEntry text answer old new
+    → closes answer ≡ true
 closing text answer old new close made =
     let replied = made_reply text answer old new made in
-    ap closes replied.1 ∙ closing_kind (setup_for old) replied.0 old.seat.session (old.seat.pending ++ calls_of_line text) made.kind (sym (ap is_close made.of_line) ∙ close)
+    ap closes replied.1 ∙ closing_kind (setup_for old) replied.0 old.seat.session (old.seat.pending ++ calls_of_line text) made.kind
+    (sym (ap is_close made.of_line) ∙ close)

@@ -1,3 +1,5 @@
 mod Answering
+mod Examples
+mod Misusing
 mod Settling
 mod Standing

@@ -1,5 +1,7 @@
 -- What came of what is owed, and of a line behind it.
-use Rattle.std.proofs.Common.{◌≡◌, ℕ, ◌+◌, ◌-◌, ◌<◌, ◌≤◌, Bool, true, false, cond, not, ◌&&◌, ◌||◌, List, [], ◌∷◌, ◌++◌, length, refl, sym, ap, ◌∙◌, subst, Option, Some, None, is_some, arith, Result, Ok, Err, option_map, IsTrue, zero, suc}
+use Rattle.std.proofs.Common.{◌≡◌, ℕ, ◌+◌, ◌-◌, ◌<◌, ◌≤◌, Bool, true, false, cond, not, ◌&&◌, ◌||◌, List, [], ◌∷◌}
+use Rattle.std.proofs.Common.{◌++◌, length, refl, sym, ap, ◌∙◌, subst, Option, Some, None, is_some, arith, Result, Ok}
+use Rattle.std.proofs.Common.{Err, option_map, IsTrue, zero, suc}
 use Rattle.std.proofs.lemmas.List.{append_assoc}
 use Rattle.flat_base.specs.declared.ids.Actor.TheVariants.{Session}
 use Rattle.flat_base.specs.declared.ids.SessionNo.{SessionNo}
@@ -22,16 +24,27 @@ use Rattle.flat_stage.specs.Readings.{entry_by}
 use Rattle.flat_stage.specs.Seats.{SeesMore, SessionView}
 use Rattle.flat_client.specs.declared.error.CallError.{CallError}
 use Rattle.flat_client.specs.declared.error.CallError.TheVariants as error
-use Rattle.flat_client.specs.Clients.{Cause, ClientView, Enters, HasLooked, HasRoomFor, IsClosedBy, IsFree, IsSettledBy, LooksOn, MakesEntry, Owes, Settles, Stays, Waits, due, is_answer, is_close, is_farewell, kept_back, may_say, misuse_now, room_of, setup_for, share_of}
+use Rattle.flat_client.specs.Clients.{Cause, ClientView, Enters, HasLooked, HasRoomFor, IsClosedBy, IsFree}
+use Rattle.flat_client.specs.Clients.{IsSettledBy, LooksOn, MakesEntry, Owes, Settles, Stays, Waits, due, is_answer}
+use Rattle.flat_client.specs.Clients.{is_close, is_farewell, kept_back, may_say, misuse_now, room_of, setup_for}
+use Rattle.flat_client.specs.Clients.{share_of}
 use Rattle.flat_client.proofs.Standing.{owed_enters}
 
 -- ---- the stage and the session stay
 
 pub stays_made : (text : Line) (answer : Reply) (old new : ClientView) → MakesEntry text answer old new → Stays old new
-stays_made text answer old new makes = record { stage = ap (λ (v : SessionView). v.stage) makes.entry.rest; session = ap (λ (v : SessionView). v.session) makes.entry.rest }
+stays_made text answer old new makes = record {
+  stage = ap (λ (v : SessionView). v.stage) makes.entry.rest;
+  session =
+      ap (λ (v : SessionView). v.session) makes.entry.rest;
+}
 
 pub stays_looking : (old new : ClientView) → LooksOn old new → Stays old new
-stays_looking old new looks = record { stage = ap (λ (v : SessionView). v.stage) looks.sees.rest; session = ap (λ (v : SessionView). v.session) looks.sees.rest }
+stays_looking old new looks = record {
+  stage = ap (λ (v : SessionView). v.stage) looks.sees.rest;
+  session =
+      ap (λ (v : SessionView). v.session) looks.sees.rest;
+}
 
 pub stays_same : (old new : ClientView) → new ≡ old → Stays old new
 stays_same old new same = record { stage = ap (λ (v : ClientView). v.seat.stage) same; session = ap (λ (v : ClientView). v.seat.session) same }
@@ -53,7 +66,8 @@ room_to_close : (close : Bool) (made share : ℕ) → close ≡ true → made + 
 room_to_close true made share is room = room
 room_to_close false made share is room = absurd (let wrong : false ≡ true = is in cc)
 
-pub sayable : (text : Line) (client : ClientView) → Some text ≡ option_map line.Call client.owed → Owes client client.owed → length client.seat.mine + 2 ≤ share_of client.seat → Sayable text client
+pub sayable : (text : Line) (client : ClientView) → Some text ≡ option_map line.Call client.owed → Owes client client.owed
+    → length client.seat.mine + 2 ≤ share_of client.seat → Sayable text client
 sayable text client is owes room =
     let found = owed_line text client.owed is in
     let O : Option Call → Type 0 = Owes client in
@@ -68,7 +82,8 @@ sayable text client is owes room =
     } in
     subst L (sym found.2) this
 
-pub settled_by : (text : Line) (cause : Cause) (old new : ClientView) → Some text ≡ option_map line.Call old.owed → old.seat.closed ≡ false → MakesEntry text (Closed cause.0 cause.1) old new → IsSettledBy cause old new old.seat.closed
+pub settled_by : (text : Line) (cause : Cause) (old new : ClientView) → Some text ≡ option_map line.Call old.owed → old.seat.closed ≡ false
+    → MakesEntry text (Closed cause.0 cause.1) old new → IsSettledBy cause old new old.seat.closed
 settled_by text cause old new is opened makes =
     let found = owed_line text old.owed is in
     let S : Bool → Type 0 = IsSettledBy cause old new in
@@ -108,7 +123,7 @@ stays_settled_by cause old new false settled = stays_made (line.Call settled.0) 
 
 pub stays_settled : (old new : ClientView) (answer : Result Unit CallError) → Settles old new answer → Stays old new
 stays_settled old new (Ok done) settles = stays_same old new settles.1
-stays_settled old new (Err error.NoMemory) settles = stays_looking old new settles
+stays_settled old new (Err error.NoMemory) settles = stays_looking old new settles.1
 stays_settled old new (Err error.NotOwned) settles = absurd settles
 stays_settled old new (Err error.Full) settles = absurd settles
 stays_settled old new (Err error.Misused) settles = absurd settles
@@ -117,7 +132,8 @@ stays_settled old new (Err (error.Closed why reason)) settles = stays_settled_by
 
 -- ---- a line, once nothing is owed
 
-pub closed_by : (text : Line) (cause : Cause) (old new : ClientView) → IsFree old → MakesEntry text (Closed cause.0 cause.1) old new → IsClosedBy text cause old new old.seat.closed
+pub closed_by : (text : Line) (cause : Cause) (old new : ClientView) → IsFree old → MakesEntry text (Closed cause.0 cause.1) old new
+    → IsClosedBy text cause old new old.seat.closed
 closed_by text cause old new free makes =
     let C : Bool → Type 0 = IsClosedBy text cause old new in
     let M : Option Call → Type 0 = λ o. MakesEntry (due text o) (Closed cause.0 cause.1) old new in
@@ -150,7 +166,8 @@ module _ (c : Cond) (a b d : ClientView) where
   looks_more one other first then =
       let more : List Entry = first.looks.sees.longer.0 ++ then.looks.sees.longer.0 in
       let longer : d.seat.seen ≡ a.seat.seen ++ more =
-      then.looks.sees.longer.1 ∙ ap (λ (es : List Entry). es ++ then.looks.sees.longer.0) first.looks.sees.longer.1 ∙ append_assoc a.seat.seen first.looks.sees.longer.0 then.looks.sees.longer.0 in
+      then.looks.sees.longer.1 ∙ ap (λ (es : List Entry). es ++ then.looks.sees.longer.0) first.looks.sees.longer.1
+      ∙ append_assoc a.seat.seen first.looks.sees.longer.0 then.looks.sees.longer.0 in
       let same_seat : d.seat ≡ record a.seat { seen = d.seat.seen } =
       then.looks.sees.rest ∙ ap (λ (v : SessionView). let seen_then : SessionView = record v { seen = d.seat.seen } in seen_then) first.looks.sees.rest in
       let same : d ≡ record a { seat = d.seat } =

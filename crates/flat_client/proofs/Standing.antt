@@ -1,5 +1,7 @@
 -- How a client stands after a line.
-use Rattle.std.proofs.Common.{◌≡◌, ℕ, ◌+◌, ◌-◌, ◌<◌, ◌≤◌, ◌^◌, Bool, true, false, cond, ◌⊎◌, List, [], ◌∷◌, ◌++◌, length, refl, sym, ap, ◌∙◌, subst, Option, Some, None, is_some, arith, length-append, IfOk, OnErr, Result, Ok, Err}
+use Rattle.std.proofs.Common.{◌≡◌, ℕ, ◌+◌, ◌-◌, ◌<◌, ◌≤◌, ◌^◌, Bool, true, false, cond, ◌⊎◌, List, [], ◌∷◌, ◌++◌}
+use Rattle.std.proofs.Common.{length, refl, sym, ap, ◌∙◌, subst, Option, Some, None, is_some, arith, length-append}
+use Rattle.std.proofs.Common.{IfOk, OnErr, Result, Ok, Err}
 use Rattle.flat_base.specs.declared.errors.Reason.{Reason}
 use Rattle.flat_scene.specs.declared.calls.Call.{Call}
 use Rattle.flat_scene.specs.declared.journal.Entry.{Entry}
@@ -14,7 +16,9 @@ use Rattle.flat_scene.specs.History.{closes}
 use Rattle.flat_scene.specs.Interleave.{entry_of_call, or_close, calls_of_line}
 use Rattle.flat_stage.specs.Readings.{IsReadAlone, IsUnread, entry_by}
 use Rattle.flat_stage.specs.Seats.{SessionEnters, SessionMakes, SessionReads, SessionView, StageView, is_ended, session_entry, setup_of}
-use Rattle.flat_client.specs.Clients.{Cause, ClientView, HasRoomFor, IsClient, IsFree, IsMisused, IsWaiting, MakesEntry, Owes, call_of, cause_then, is_close, kept_back, may_say, misuse_now, setup_for, share_of}
+use Rattle.flat_client.specs.Clients.{Cause, ClientView, HasRoomFor, IsClient, IsFree, IsMisused, IsWaiting}
+use Rattle.flat_client.specs.Clients.{MakesEntry, Owes, call_of, cause_then, is_close, kept_back, may_say, misuse_now}
+use Rattle.flat_client.specs.Clients.{setup_for, share_of}
 use Rattle.flat_client.proofs.Answering.{closing}
 
 -- ---- an entry
@@ -24,19 +28,23 @@ pub record Entered (number : ℕ) (text : Line) (answer : Reply) (old new : Sess
   pub of_line : entry_by old text ≡ Some kind
   pub entry : SessionEnters number (old.pending ++ calls_of_line text) kind answer old new
 
-entered_by : (number : ℕ) (text : Line) (answer : Reply) (old new : SessionView) (made : Option Kind) → entry_by old text ≡ made → is_some made ≡ true → SessionMakes number text answer old new made → Entered number text answer old new
+entered_by : (number : ℕ) (text : Line) (answer : Reply) (old new : SessionView) (made : Option Kind) → entry_by old text ≡ made → is_some made ≡ true
+    → SessionMakes number text answer old new made → Entered number text answer old new
 entered_by number text answer old new None is some makes = absurd (let wrong : false ≡ true = some in cc)
 entered_by number text answer old new (Some kind) is some makes = record { kind = kind; of_line = is; entry = makes }
 
 -- a line of an opened session that makes an entry was read: it made one
-pub entered : (number : ℕ) (text : Line) (answer : Reply) (old new : SessionView) → old.closed ≡ false → is_some (entry_by old text) ≡ true → SessionReads number text answer old new old.closed → Entered number text answer old new
+pub entered : (number : ℕ) (text : Line) (answer : Reply) (old new : SessionView) → old.closed ≡ false → is_some (entry_by old text) ≡ true
+    → SessionReads number text answer old new old.closed → Entered number text answer old new
 entered number text answer old new opened some reads =
     let R : Bool → Type 0 = SessionReads number text answer old new in
     entered_by number text answer old new (entry_by old text) refl some (subst R opened reads)
 
 -- the client made it
-pub makes_entered : (number : ℕ) (text : Line) (answer : Reply) (old : ClientView) (seat : SessionView) (cause : Cause) → number ≡ length old.seat.mine + 1 → old.seat.closed ≡ false → may_say old text ≡ true
-    → Entered number text answer old.seat seat → cause ≡ cause_then answer old.cause → MakesEntry text answer old (record { seat = seat; owed = None; cause = cause })
+pub makes_entered : (number : ℕ) (text : Line) (answer : Reply) (old : ClientView) (seat : SessionView) (cause : Cause) → number ≡ length old.seat.mine + 1
+    → old.seat.closed ≡ false → may_say old text ≡ true
+    → Entered number text answer old.seat seat → cause ≡ cause_then answer old.cause
+    → MakesEntry text answer old (record { seat = seat; owed = None; cause = cause })
 makes_entered number text answer old seat cause is opened own entered because =
     let E : ℕ → Type 0 = λ n. SessionEnters n (old.seat.pending ++ calls_of_line text) entered.kind answer old.seat seat in
     record {
@@ -66,7 +74,8 @@ has_room text client room = room_now (is_close (entry_by client.seat text)) (len
 -- it stands again
 module _ (stage : StageView) (setup : Setup) (share made : ℕ) (old : ClientView) (stands : IsClient stage setup share made old) where
   pub stands_entered : (text : Line) (answer : Reply) (seat : SessionView) (cause : Cause) → HasRoomFor text old → is_ended seat.mine ≡ is_ended old.seat.mine
-      → MakesEntry text answer old (record { seat = seat; owed = None; cause = cause }) → IsClient stage setup share (made + 1) (record { seat = seat; owed = None; cause = cause })
+      → MakesEntry text answer old (record { seat = seat; owed = None; cause = cause })
+      → IsClient stage setup share (made + 1) (record { seat = seat; owed = None; cause = cause })
   stands_entered text answer seat cause room ended makes =
       let rest = makes.entry.rest in
       let closed : seat.closed ≡ closes answer = ap (λ (v : SessionView). v.closed) rest in
@@ -101,12 +110,14 @@ module _ (stage : StageView) (setup : Setup) (share made : ℕ) (old : ClientVie
       } in
       subst C (sym rest) kept
     where
-      owes_seeing : (client : ClientView) (seen : List Entry) (owed : Option Call) → Owes client owed → Owes (record client { seat = record client.seat { seen = seen } }) owed
+      owes_seeing : (client : ClientView) (seen : List Entry) (owed : Option Call) → Owes client owed
+          → Owes (record client { seat = record client.seat { seen = seen } }) owed
       owes_seeing client seen None owes = owes
       owes_seeing client seen (Some call) owes = owes
 
   -- a call waits
-  pub stands_waiting : (seat : SessionView) (calls : List Call) → old.owed ≡ None → seat ≡ record old.seat { pending = calls } → IsClient stage setup share made (record old { seat = seat })
+  pub stands_waiting : (seat : SessionView) (calls : List Call) → old.owed ≡ None → seat ≡ record old.seat { pending = calls }
+      → IsClient stage setup share made (record old { seat = seat })
   stands_waiting seat calls none rest =
       let C : SessionView → Type 0 = λ s. IsClient stage setup share made (record old { seat = s }) in
       let O : Option Call → Type 0 = Owes (record old { seat = record old.seat { pending = calls } }) in
@@ -123,7 +134,8 @@ module _ (stage : StageView) (setup : Setup) (share made : ℕ) (old : ClientVie
       subst C (sym rest) kept
 
   -- a misuse is owed
-  pub stands_owing : (seat : SessionView) (call : Call) → seat ≡ old.seat → old.seat.closed ≡ false → may_say old (line.Call call) ≡ true → is_some (misuse_now old call) ≡ true
+  pub stands_owing : (seat : SessionView) (call : Call) → seat ≡ old.seat → old.seat.closed ≡ false → may_say old (line.Call call) ≡ true
+      → is_some (misuse_now old call) ≡ true
       → IsClient stage setup share made (record old { seat = seat; owed = Some call })
   stands_owing seat call same opened own wrong =
       let C : SessionView → Type 0 = λ s. IsClient stage setup share made (record old { seat = s; owed = Some call }) in
@@ -154,27 +166,32 @@ owed_call None entry some = absurd (let wrong : false ≡ true = some in cc)
 owed_call (Some reason) entry some = (refl, refl)
 
 -- a call that was read alone is no misuse
-pub no_misuse : (call : Call) (answer : Reply) (client : ClientView) (seat : SessionView) → client.seat.closed ≡ false → IsReadAlone (line.Call call) answer client.seat seat → misuse_now client call ≡ None
+pub no_misuse : (call : Call) (answer : Reply) (client : ClientView) (seat : SessionView) → client.seat.closed ≡ false
+    → IsReadAlone (line.Call call) answer client.seat seat → misuse_now client call ≡ None
 no_misuse call answer client seat opened alone = right_call (misuse_now client call) (entry_of_call call) (alone.alone opened)
 
 -- and it waits
-pub waits_now : (call : Call) (answer : Reply) (old new : SessionView) → old.closed ≡ false → IsReadAlone (line.Call call) answer old new → new ≡ record old { pending = old.pending ++ call ∷ [] }
+pub waits_now : (call : Call) (answer : Reply) (old new : SessionView) → old.closed ≡ false → IsReadAlone (line.Call call) answer old new → new
+    ≡ record old { pending = old.pending ++ call ∷ [] }
 waits_now call answer old new opened alone =
     let R : Bool → Type 0 = SessionReads 0 (line.Call call) answer old new in
     let M : Option Kind → Type 0 = SessionMakes 0 (line.Call call) answer old new in
     (subst M (alone.alone opened) (subst R opened (alone.reads 0))).1
 
 -- a private call that came back is a misuse
-pub is_misuse : (call : Call) (back : Line) (client : ClientView) (seat : SessionView) → entry_of_call call ≡ None → IsUnread (line.Call call) back client.seat seat → is_some (misuse_now client call) ≡ true
+pub is_misuse : (call : Call) (back : Line) (client : ClientView) (seat : SessionView) → entry_of_call call ≡ None
+    → IsUnread (line.Call call) back client.seat seat → is_some (misuse_now client call) ≡ true
 is_misuse call back client seat private unread = wrong_call (misuse_now client call) (entry_of_call call) private unread.enters
 
 -- a misuse that is owed makes an entry, which closes
-pub owed_enters : (client : ClientView) (call : Call) → is_some (misuse_now client call) ≡ true → (is_some (entry_by client.seat (line.Call call)) ≡ true) × (is_close (entry_by client.seat (line.Call call)) ≡ true)
+pub owed_enters : (client : ClientView) (call : Call) → is_some (misuse_now client call) ≡ true → (is_some (entry_by client.seat (line.Call call)) ≡ true)
+    × (is_close (entry_by client.seat (line.Call call)) ≡ true)
 owed_enters client call wrong = owed_call (misuse_now client call) (entry_of_call call) wrong
 
 -- ---- what came of a private call
 
-pub answers_waiting : (call : Call) (answer : Reply) (old : ClientView) (seat : SessionView) → IsFree old → may_say old (line.Call call) ≡ true → IsReadAlone (line.Call call) answer old.seat seat → IsWaiting call old (record old { seat = seat })
+pub answers_waiting : (call : Call) (answer : Reply) (old : ClientView) (seat : SessionView) → IsFree old → may_say old (line.Call call) ≡ true
+    → IsReadAlone (line.Call call) answer old.seat seat → IsWaiting call old (record old { seat = seat })
 answers_waiting call answer old seat free own alone =
     record {
       free = free;
@@ -183,19 +200,22 @@ answers_waiting call answer old seat free own alone =
       waits = ap (λ (v : SessionView). let then : ClientView = record old { seat = v } in then) (waits_now call answer old.seat seat free.opened alone);
     }
 
-pub answers_owed : (call : Call) (back : Line) (old : ClientView) (seat : SessionView) (owed : Option Call) → IsFree old → may_say old (line.Call call) ≡ true → entry_of_call call ≡ None → IsUnread (line.Call call) back old.seat seat
+pub answers_owed : (call : Call) (back : Line) (old : ClientView) (seat : SessionView) (owed : Option Call) → IsFree old → may_say old (line.Call call) ≡ true
+    → entry_of_call call ≡ None → IsUnread (line.Call call) back old.seat seat
     → owed ≡ call_of back → IsMisused call old (record old { seat = seat; owed = owed }) old.owed
 answers_owed call back old seat owed free own private unread is =
     let new : ClientView = record old { seat = seat; owed = owed } in
     let M : Option Call → Type 0 = IsMisused call old new in
     let one : owed ≡ Some call = is ∙ ap call_of unread.same_line in
     let same : new ≡ record old { owed = Some call } =
-    ap (λ (v : SessionView). let then : ClientView = record old { seat = v; owed = owed } in then) unread.same_seat ∙ ap (λ (o : Option Call). let then : ClientView = record old { owed = o } in then) one in
+    ap (λ (v : SessionView). let then : ClientView = record old { seat = v; owed = owed } in then) unread.same_seat
+    ∙ ap (λ (o : Option Call). let then : ClientView = record old { owed = o } in then) one in
     let this : M None = (free.opened, own, is_misuse call back old seat private unread, same) in
     subst M (sym free.nothing_owed) this
 
 pub stands_owed : (stage : StageView) (setup : Setup) (share made : ℕ) (old : ClientView) → IsClient stage setup share made old
-    → (call : Call) (back : Line) (seat : SessionView) (owed : Option Call) → IsFree old → may_say old (line.Call call) ≡ true → entry_of_call call ≡ None → IsUnread (line.Call call) back old.seat seat → owed ≡ call_of back
+    → (call : Call) (back : Line) (seat : SessionView) (owed : Option Call) → IsFree old → may_say old (line.Call call) ≡ true → entry_of_call call ≡ None
+    → IsUnread (line.Call call) back old.seat seat → owed ≡ call_of back
     → IsClient stage setup share made (record old { seat = seat; owed = owed })
 stands_owed stage setup share made old stands call back seat owed free own private unread is =
     let one : Some call ≡ owed = sym (is ∙ ap call_of unread.same_line) in
@@ -205,16 +225,20 @@ stands_owed stage setup share made old stands call back seat owed free own priva
 -- ---- a line of an opened client was read
 
 module _ (stage : StageView) (setup : Setup) (share made : ℕ) (old view : ClientView) (stands : IsClient stage setup share made old) (is : old ≡ view) where
-  pub made_now : (text : Line) (answer : Reply) (seat : SessionView) (cause : Cause) → view.seat.closed ≡ false → may_say view text ≡ true → is_some (entry_by view.seat text) ≡ true
-      → SessionReads (made + 1) text answer old.seat seat old.seat.closed → cause ≡ cause_then answer old.cause → MakesEntry text answer old (record { seat = seat; owed = None; cause = cause })
+  pub made_now : (text : Line) (answer : Reply) (seat : SessionView) (cause : Cause) → view.seat.closed ≡ false → may_say view text ≡ true
+      → is_some (entry_by view.seat text) ≡ true
+      → SessionReads (made + 1) text answer old.seat seat old.seat.closed → cause ≡ cause_then answer old.cause
+      → MakesEntry text answer old (record { seat = seat; owed = None; cause = cause })
   made_now text answer seat cause opened own some reads because =
       let open_then : old.seat.closed ≡ false = ap (λ (v : ClientView). v.seat.closed) is ∙ opened in
       let own_then : may_say old text ≡ true = ap (λ (v : ClientView). may_say v text) is ∙ own in
       let some_then : is_some (entry_by old.seat text) ≡ true = ap (λ (v : ClientView). is_some (entry_by v.seat text)) is ∙ some in
-      makes_entered (made + 1) text answer old seat cause (ap (λ (n : ℕ). n + 1) stands.counted) open_then own_then (entered (made + 1) text answer old.seat seat open_then some_then reads) because
+      makes_entered (made + 1) text answer old seat cause (ap (λ (n : ℕ). n + 1) stands.counted) open_then own_then
+      (entered (made + 1) text answer old.seat seat open_then some_then reads) because
 
   pub stands_now : (text : Line) (answer : Reply) (seat : SessionView) (cause : Cause) → HasRoomFor text view → is_ended seat.mine ≡ is_ended old.seat.mine
-      → MakesEntry text answer old (record { seat = seat; owed = None; cause = cause }) → IsClient stage setup share (made + 1) (record { seat = seat; owed = None; cause = cause })
+      → MakesEntry text answer old (record { seat = seat; owed = None; cause = cause })
+      → IsClient stage setup share (made + 1) (record { seat = seat; owed = None; cause = cause })
   stands_now text answer seat cause room ended makes =
       let R : ClientView → Type 0 = HasRoomFor text in
       stands_entered stage setup share made old stands text answer seat cause (subst R (sym is) room) ended makes

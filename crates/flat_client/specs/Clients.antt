@@ -124,7 +124,7 @@ IsMisused call old new (Some other) = (old.seat.closed ≡ false) × (new ≡ ol
 -- What came of a private call.
 abbrev pub Answers : Call → ClientView → ClientView → Result Unit CallError → Type 0
 Answers call old new (Ok done) = IsWaiting call old new
-Answers call old new (Err error.NoMemory) = new ≡ old
+Answers call old new (Err error.NoMemory) = IsFree old × (may_say old (line.Call call) ≡ true) × (new ≡ old)
 Answers call old new (Err error.NotOwned) = IsFree old × (may_say old (line.Call call) ≡ false) × (new ≡ old)
 Answers call old new (Err error.Full) = ⊥
 Answers call old new (Err error.Misused) = IsMisused call old new old.owed
@@ -190,7 +190,7 @@ IsClosedBy text cause old new false = MakesEntry (due text old.owed) (Closed cau
 abbrev pub Enters : Line → ClientView → ClientView → Result Reply CallError → Type 0
 Enters text old new (Ok answer) =
     IsFree old × (0 < room_of old) × (closes answer ≡ false) × MakesEntry text answer old new
-Enters text old new (Err error.NoMemory) = LooksOn old new
+Enters text old new (Err error.NoMemory) = (old.seat.closed ≡ false) × LooksOn old new
 Enters text old new (Err error.NotOwned) = IsFree old × (may_say old text ≡ false) × (new ≡ old)
 Enters text old new (Err error.Full) =
     IsFree old × (may_say old text ≡ true) × (is_farewell text ≡ false) × (room_of old ≡ 0) × (new ≡ old)
@@ -231,7 +231,7 @@ IsSettledBy cause old new false =
 -- What came of saying what is owed: nothing was, or the client is closed.
 abbrev pub Settles : ClientView → ClientView → Result Unit CallError → Type 0
 Settles old new (Ok done) = IsFree old × (new ≡ old)
-Settles old new (Err error.NoMemory) = LooksOn old new
+Settles old new (Err error.NoMemory) = (old.seat.closed ≡ false) × LooksOn old new
 Settles old new (Err (error.Closed why reason)) = IsSettledBy (why, reason) old new old.seat.closed
 Settles old new (Err _) = ⊥
 

@@ -70,7 +70,8 @@ setup-is-faultless plan good entries =
     let pairs = nat_le (length setup.pairs) PAIRS_MAX in
     let buffers = nat_le (length setup.buffers) BUFFER_COLLECTIONS_MAX in
     let fences = nat_le (length setup.fences) FENCES_MAX in
-    let limits = and-left (is_within_limits setup) (owners_declared setup) (and-left (is_within_limits setup && owners_declared setup) (has_one_display_pair setup) good) in
+    let limits = and-left (is_within_limits setup) (owners_declared setup)
+    (and-left (is_within_limits setup && owners_declared setup) (has_one_display_pair setup) good) in
     let one = and-right (is_within_limits setup && owners_declared setup) (has_one_display_pair setup) good in
     let first = and-left (ratio && wide && high && sessions && probes && pairs && buffers) fences limits in
     let second = and-left (ratio && wide && high && sessions && probes && pairs) buffers first in
@@ -79,7 +80,8 @@ setup-is-faultless plan good entries =
     let fifth = and-left (ratio && wide && high) sessions fourth in
     let sixth = and-left (ratio && wide) high fifth in
     let size : is_size setup.width setup.height ≡ true = and-true (and-right ratio wide sixth) (and-right (ratio && wide) high fifth) in
-    let some : nat_lt 0 setup.sessions ≡ true = and-left (nat_lt 0 setup.sessions) (nat_le setup.sessions SESSIONS_MAX) (and-right (ratio && wide && high) sessions fourth) in
+    let some : nat_lt 0 setup.sessions ≡ true = and-left (nat_lt 0 setup.sessions) (nat_le setup.sessions SESSIONS_MAX)
+    (and-right (ratio && wide && high) sessions fourth) in
     unless-none _ _ _ size
     (unless-none _ _ _ (and-left ratio wide sixth)
     (unless-none _ _ _ some

@@ -19,10 +19,12 @@ use Rattle.flat_scene.specs.Heads.{may_own, is_pair_declared, is_buffer_declared
 
 -- a sum with one more at its end, or at its head
 sum_end : (xs : List ℕ) (x : ℕ) → sum (xs ++ x ∷ []) ≡ sum xs + x
-sum_end xs x = let all : sum (xs ++ x ∷ []) ≡ sum xs + sum (x ∷ []) = sum_by-append (λ (n : ℕ). n) xs (x ∷ []) in let one : 0 + x ≡ x = omega arith in all ∙ ap (λ k. sum xs + k) one
+sum_end xs x = let all : sum (xs ++ x ∷ []) ≡ sum xs + sum (x ∷ []) = sum_by-append (λ (n : ℕ). n) xs (x ∷ []) in let one : 0 + x ≡ x = omega arith in all
+    ∙ ap (λ k. sum xs + k) one
 
 pub sum_first : (x : ℕ) (xs : List ℕ) → sum (x ∷ xs) ≡ x + sum xs
-sum_first x xs = let all : sum ((x ∷ []) ++ xs) ≡ sum (x ∷ []) + sum xs = sum_by-append (λ (n : ℕ). n) (x ∷ []) xs in let one : 0 + x ≡ x = omega arith in all ∙ ap (λ k. k + sum xs) one
+sum_first x xs = let all : sum ((x ∷ []) ++ xs) ≡ sum (x ∷ []) + sum xs = sum_by-append (λ (n : ℕ). n) (x ∷ []) xs in let one : 0 + x ≡ x = omega arith in all
+    ∙ ap (λ k. k + sum xs) one
 
 -- a sum of shares with one more
 pub shares-more : (first : ℕ) (f : ℕ → ℕ) (xs : List ℕ) (n : ℕ) → sum (first ∷ map f (xs ++ n ∷ [])) ≡ sum (first ∷ map f xs) + f n
@@ -66,7 +68,8 @@ module _ (setup : Setup) (buffers : BufferDecl) where
       let high = is_within SIDE_MAX buffers.h in
       let first = and-left (owner && count && wide) high declared in
       let second = and-left (owner && count) wide first in
-      and-true (and-true (and-true (declared-more setup buffers.owner (and-left owner count second)) (and-right owner count second)) (and-right (owner && count) wide first)) (and-right (owner && count && wide) high declared)
+      and-true (and-true (and-true (declared-more setup buffers.owner (and-left owner count second)) (and-right owner count second))
+      (and-right (owner && count) wide first)) (and-right (owner && count && wide) high declared)
 
 fence-more : (setup : Setup) (fence : FenceDecl) → is_fence_declared setup fence ≡ true → is_fence_declared (more setup) fence ≡ true
 fence-more setup fence declared =

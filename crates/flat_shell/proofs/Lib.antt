@@ -1,3 +1,4 @@
 mod Beside
+mod Examples
 mod Living
 mod Shelving

@@ -1,6 +1,8 @@
 -- A compositor after one more of its entries, or after a look.
 use Rattle.std.specs.Arc.{arc_value}
-use Rattle.std.proofs.Common.{◌≡◌, ℕ, suc, ◌+◌, ◌-◌, ◌<◌, ◌≤◌, ◌==◌, Bool, true, false, cond, not, ◌&&◌, ◌||◌, List, [], ◌∷◌, ◌++◌, length, length-append, slice_index, Option, Some, None, append-nil, refl, sym, ap, ◌∙◌, subst, arith}
+use Rattle.std.proofs.Common.{◌≡◌, ℕ, suc, ◌+◌, ◌-◌, ◌<◌, ◌≤◌, ◌==◌, Bool, true, false, cond, not, ◌&&◌, ◌||◌, List}
+use Rattle.std.proofs.Common.{[], ◌∷◌, ◌++◌, length, length-append, slice_index, Option, Some, None, append-nil, refl}
+use Rattle.std.proofs.Common.{sym, ap, ◌∙◌, subst, arith}
 use Rattle.std.proofs.lemmas.List.{length-reverse, reverse-append}
 use Rattle.std.proofs.lemmas.List.Sums.{length-filter}
 use Rattle.flat_base.specs.Last.{last_item}
@@ -48,7 +50,8 @@ pub record IsNext (keeper : Keeper) (seat : DisplayView) (kind : Kind) (frames_t
   pub frames : keeper'.frames.0 ≡ frames_then
   pub shown : keeper'.shown ≡ shown_then
 
-module _ (keeper : Keeper) (seat seat' : DisplayView) (was : Bool) (kept : IsKept was keeper seat) (kind : Kind) (reply : Reply) (enters : DisplayEnters (length seat.mine + 1) kind reply seat seat') where
+module _ (keeper : Keeper) (seat seat' : DisplayView) (was : Bool) (kept : IsKept was keeper seat) (kind : Kind) (reply : Reply)
+    (enters : DisplayEnters (length seat.mine + 1) kind reply seat seat') where
   abbrev setup : Setup
   setup = setup_of seat.stage
 
@@ -78,7 +81,8 @@ module _ (keeper : Keeper) (seat seat' : DisplayView) (was : Bool) (kept : IsKep
   frames_then = ap frames entered.grown ∙ frames_more entered.middle entry (is_finish kind) refl ∙ ap (λ n. n + cond (is_finish kind) 1 0) entered.beside.number
 
   finished_then : finished setup after ≡ finished setup before ++ cond (is_finish kind) (frame_at setup (suc (frames before)) (to_begin before) ∷ []) []
-  finished_then = ap (finished setup) entered.grown ∙ (λ i. entered.beside.finishing i ++ cond (is_finish kind) (frame_at setup (suc (entered.beside.number i)) (entered.beside.begun i) ∷ []) [])
+  finished_then = ap (finished setup) entered.grown
+      ∙ (λ i. entered.beside.finishing i ++ cond (is_finish kind) (frame_at setup (suc (entered.beside.number i)) (entered.beside.begun i) ∷ []) [])
 
   -- the last begin, and that of the last finished frame
   pub begun_same : is_begin kind ≡ false → to_begin after ≡ to_begin before
@@ -133,28 +137,48 @@ module _ (keeper : Keeper) (seat seat' : DisplayView) (was : Bool) (kept : IsKep
 -- ---- the compositor's entries
 
 -- an entry that begins no frame and ends none
-pub beside_then : (keeper keeper' : Keeper) (last : LastFrame) (seat seat' : DisplayView) → IsKept false keeper seat → HasLast (setup_of seat.stage) (history_of seat.seen) last
+pub beside_then : (keeper keeper' : Keeper) (last : LastFrame) (seat seat' : DisplayView) → IsKept false keeper seat
+    → HasLast (setup_of seat.stage) (history_of seat.seen) last
     → (kind : Kind) (reply : Reply) → DisplayEnters (length seat.mine + 1) kind reply seat seat' → is_begin kind ≡ false → is_finish kind ≡ false
-    → keeper' ≡ record keeper { made = length seat.mine + 1 } → 0 < left seat → IsKept false keeper' seat' × HasLast (setup_of seat'.stage) (history_of seat'.seen) last
+    → keeper' ≡ record keeper { made = length seat.mine + 1 } → 0 < left seat → IsKept false keeper' seat'
+    × HasLast (setup_of seat'.stage) (history_of seat'.seen) last
 beside_then keeper keeper' last seat seat' kept has kind reply enters begins ends is some =
     let h : List Entry = history_of seat.seen in
     let setup : Setup = setup_of seat.stage in
     let room = kept.room in
     let K : Keeper → Type 0 = λ k. IsKept false k seat' in
     let then : Keeper = record keeper { made = length seat.mine + 1 } in
-    let none : cond (is_finish kind) (frame_at setup (suc (frames h)) (to_begin h) ∷ []) [] ≡ [] = ap (λ b. cond b (frame_at setup (suc (frames h)) (to_begin h) ∷ []) []) ends in
-    let as_many : frames h ≡ frames h + cond (is_finish kind) 1 0 = let zero_more : ◌≡◌ {A = ℕ} (cond (is_finish kind) 1 0) 0 = ap (λ b. cond b 1 0) ends in omega (arith, zero_more) in
+    let none : cond (is_finish kind) (frame_at setup (suc (frames h)) (to_begin h) ∷ []) [] ≡ [] =
+    ap (λ b. cond b (frame_at setup (suc (frames h)) (to_begin h) ∷ []) []) ends in
+    let as_many : frames h ≡ frames h + cond (is_finish kind) 1 0 = let zero_more : ◌≡◌ {A = ℕ} (cond (is_finish kind) 1 0) 0 =
+    ap (λ b. cond b 1 0) ends in omega (arith, zero_more) in
     let next : IsNext keeper seat kind (frames h + cond (is_finish kind) 1 0) keeper.shown then =
-    record { stage = refl; setup = refl; share = refl; made = refl; time = kept.time ∙ sym (ap (λ b. cond b (time_of kind) (begin_time (history_of seat.mine))) begins); frames = kept.frames ∙ as_many; shown = refl } in
+    record {
+      stage = refl;
+      setup = refl;
+      share = refl;
+      made = refl;
+      time = kept.time
+          ∙ sym (ap (λ b. cond b (time_of kind) (begin_time (history_of seat.mine))) begins);
+      frames = kept.frames ∙ as_many;
+      shown = refl;
+    } in
     let same : keeper.shown ≡ last_item (finished setup h ++ cond (is_finish kind) (frame_at setup (suc (frames h)) (to_begin h) ∷ []) []) =
-    kept.shown ∙ ap last_item (sym (ap (λ (fs : List FrameOut). finished setup h ++ fs) none ∙ append-nil (finished setup h))) in
-    (subst K (sym is) (next_kept keeper seat seat' false kept kind reply enters false then keeper.shown next (λ i. begins i || (not (ends i) && false)) same (omega (arith, room, some))), last_same keeper seat seat' false kept kind reply enters last ends has)
+    kept.shown ∙ ap last_item (sym (ap (λ (fs : List FrameOut). finished setup h ++ fs) none ∙ append-nil (finished setup h))) in (
+      subst K (sym is) (next_kept keeper seat seat' false kept kind reply enters false then keeper.shown next (λ i. begins i || (not (ends i) && false)) same
+          (omega (arith, room, some))),
+      last_same keeper seat seat' false kept kind reply enters last ends has,
+    )
 
 -- a frame that begins
-pub begun_then : (keeper keeper' : Keeper) (last : LastFrame) (seat : DisplayView) (frame : FrameView) (time : ℕ) → IsKept false keeper seat → HasLast (setup_of seat.stage) (history_of seat.seen) last
-    → DisplayEnters (length seat.mine + 1) (Begin time) Done seat frame.display → keeper' ≡ record keeper { made = length seat.mine + 1; time = time } → MayBegin time seat
-    → frame.shown ≡ shown_states (setup_of seat.stage) (history_of frame.display.seen) → AreSame frame.changed (shown_states (setup_of seat.stage) (to_begin (history_of seat.seen))) frame.shown
-    → AreViewed (setup_of seat.stage) (history_of frame.display.seen) frame.with_view → IsKept true keeper' frame.display × HasBegun (setup_of frame.display.stage) frame (Some last)
+pub begun_then : (keeper keeper' : Keeper) (last : LastFrame) (seat : DisplayView) (frame : FrameView) (time : ℕ) → IsKept false keeper seat
+    → HasLast (setup_of seat.stage) (history_of seat.seen) last
+    → DisplayEnters (length seat.mine + 1) (Begin time) Done seat frame.display → keeper' ≡ record keeper { made = length seat.mine + 1; time = time }
+    → MayBegin time seat
+    → frame.shown ≡ shown_states (setup_of seat.stage) (history_of frame.display.seen)
+    → AreSame frame.changed (shown_states (setup_of seat.stage) (to_begin (history_of seat.seen))) frame.shown
+    → AreViewed (setup_of seat.stage) (history_of frame.display.seen) frame.with_view → IsKept true keeper' frame.display
+    × HasBegun (setup_of frame.display.stage) frame (Some last)
 begun_then keeper keeper' last seat frame time kept has enters is may shows changed viewed =
     let h : List Entry = history_of seat.seen in
     let setup : Setup = setup_of seat.stage in
@@ -166,10 +190,12 @@ begun_then keeper keeper' last seat frame time kept has enters is may shows chan
     let W : Shown → Type 0 = λ states. AreSame frame.changed states frame.shown in
     let begun = begun_now keeper seat frame.display false kept (Begin time) Done enters refl in
     let as_many : frames h ≡ frames h + 0 = omega arith in
-    let next : IsNext keeper seat (Begin time) (frames h + 0) keeper.shown then = record { stage = refl; setup = refl; share = refl; made = refl; time = refl; frames = kept.frames ∙ as_many; shown = refl } in
+    let next : IsNext keeper seat (Begin time) (frames h + 0) keeper.shown then =
+    record { stage = refl; setup = refl; share = refl; made = refl; time = refl; frames = kept.frames ∙ as_many; shown = refl } in
     let more = frames_then keeper seat frame.display false kept (Begin time) Done enters in
     let was : last.reuse ≡ shown_states setup (to_begin h) = has.showing ∙ ap (shown_states setup) (all-finished h kept.frame) in (
-      subst K (sym is) (next_kept keeper seat frame.display false kept (Begin time) Done enters true then keeper.shown next refl (kept.shown ∙ ap last_item (sym (append-nil (finished setup h)))) (omega (arith, two))),
+      subst K (sym is) (next_kept keeper seat frame.display false kept (Begin time) Done enters true then keeper.shown next refl
+          (kept.shown ∙ ap last_item (sym (append-nil (finished setup h)))) (omega (arith, two))),
       subst S (sym (setup_same keeper seat frame.display false kept (Begin time) Done enters)) (record {
         shown = shows ∙ ap (shown_states setup) (sym begun);
         views = subst V (sym begun) viewed;
@@ -178,8 +204,10 @@ begun_then keeper keeper' last seat frame time kept has enters is may shows chan
     )
 
 -- a frame that is done
-pub done_then : (keeper keeper' : Keeper) (last last' : LastFrame) (seat seat' : DisplayView) (number : FrameNo) → IsKept true keeper seat → IsComposed (setup_of seat.stage) (history_of seat.seen) last
-    → DisplayEnters (length seat.mine + 1) Finish Done seat seat' → number.0 ≡ frames (history_of seat'.seen) → keeper' ≡ record keeper { made = length seat.mine + 1; frames = number; shown = Some (next_frame seat) }
+pub done_then : (keeper keeper' : Keeper) (last last' : LastFrame) (seat seat' : DisplayView) (number : FrameNo) → IsKept true keeper seat
+    → IsComposed (setup_of seat.stage) (history_of seat.seen) last
+    → DisplayEnters (length seat.mine + 1) Finish Done seat seat' → number.0 ≡ frames (history_of seat'.seen) → keeper'
+    ≡ record keeper { made = length seat.mine + 1; frames = number; shown = Some (next_frame seat) }
     → last' ≡ record last { frame = number } → IsKept false keeper' seat' × HasLast (setup_of seat'.stage) (history_of seat'.seen) last'
 done_then keeper keeper' last last' seat seat' number kept composed enters numbered is last_is =
     let h : List Entry = history_of seat.seen in
@@ -191,7 +219,8 @@ done_then keeper keeper' last last' seat seat' number kept composed enters numbe
     let S : Setup → Type 0 = λ s. HasLast s (history_of seat'.seen) (record last { frame = number }) in
     let more = frames_then keeper seat seat' true kept Finish Done enters in
     let ended = ended_now keeper seat seat' true kept Finish Done enters refl in
-    let next : IsNext keeper seat Finish (frames h + 1) (Some (next_frame seat)) then = record { stage = refl; setup = refl; share = refl; made = refl; time = kept.time; frames = numbered ∙ more; shown = refl } in
+    let next : IsNext keeper seat Finish (frames h + 1) (Some (next_frame seat)) then =
+    record { stage = refl; setup = refl; share = refl; made = refl; time = kept.time; frames = numbered ∙ more; shown = refl } in
     let one_more : frames h + 1 ≡ suc (frames h) = omega arith in
     let shown : Some (next_frame seat) ≡ last_item (finished setup h ++ frame_at setup (suc (frames h)) (to_begin h) ∷ []) =
     ap (λ n. Some (frame_at setup n (to_begin h))) one_more ∙ sym (last-more (finished setup h) (frame_at setup (suc (frames h)) (to_begin h))) in (
@@ -209,7 +238,8 @@ pub few_then : JournalsKeepSeats → (keeper : Keeper) (seat : DisplayView) → 
 few_then keep keeper seat kept =
     let most = few_frames (setup_of seat.stage) (history_of seat.seen) kept.legal in
     let made_is : made 0 (history_of seat.seen) ≡ length seat.mine =
-    sym (length-filter (λ (e : Entry). seat_number e.actor == 0) (history_of seat.seen)) ∙ ap length (keep 0 seat.seen) ∙ length-reverse (of_seat 0 seat.seen) ∙ ap length (sym kept.whole) in
+    sym (length-filter (λ (e : Entry). seat_number e.actor == 0) (history_of seat.seen)) ∙ ap length (keep 0 seat.seen) ∙ length-reverse (of_seat 0 seat.seen)
+    ∙ ap length (sym kept.whole) in
     let room = kept.room in
     let share = kept.share in
     let low = kept.few in
@@ -218,14 +248,16 @@ few_then keep keeper seat kept =
 -- ---- a look
 
 -- what a seat has seen beside, once it looked
-module _ (keeper : Keeper) (seat seat' : DisplayView) (kept : IsKept false keeper seat) (sees : DisplaySees seat seat') (legal : Legal (setup_of seat.stage) (history_of seat'.seen)) (whole : seat'.mine ≡ entries_of_seat 0 seat'.seen) where
+module _ (keeper : Keeper) (seat seat' : DisplayView) (kept : IsKept false keeper seat) (sees : DisplaySees seat seat')
+    (legal : Legal (setup_of seat.stage) (history_of seat'.seen)) (whole : seat'.mine ≡ entries_of_seat 0 seat'.seen) where
   seen_more : IsBeside (setup_of seat.stage) (history_of seat.seen) (history_of seat'.seen)
   seen_more =
       let more : List Entry = sees.longer.0 in
       let L : List Entry → Type 0 = λ es. Legal (setup_of seat.stage) (history_of es) in
       let B : List Entry → Type 0 = λ es. IsBeside (setup_of seat.stage) (history_of seat.seen) (history_of es) in
       let mine : seat'.mine ≡ seat.mine = ap (λ (d : DisplayView). d.mine) sees.rest in
-      let own : entries_of_seat 0 (seat.seen ++ more) ≡ entries_of_seat 0 seat.seen = ap (entries_of_seat 0) (sym sees.longer.1) ∙ sym whole ∙ mine ∙ kept.whole in
+      let own : entries_of_seat 0 (seat.seen ++ more) ≡ entries_of_seat 0 seat.seen = ap (entries_of_seat 0) (sym sees.longer.1) ∙ sym whole ∙ mine
+      ∙ kept.whole in
       subst B (sym sees.longer.1) (seen_beside (setup_of seat.stage) seat.seen more (subst L sees.longer.1 legal) own)
 
   pub looked_kept : IsKept false keeper seat'
@@ -260,12 +292,30 @@ module _ (keeper : Keeper) (seat seat' : DisplayView) (kept : IsKept false keepe
 
 -- ---- before any entry
 
-pub opened_live : (view : StageView) (keeper : Keeper) (last : LastFrame) (seat : DisplayView) → seat ≡ record { stage = view; seen = []; mine = [] } → view ≡ arc_value keeper.stage → arc_value keeper.setup ≡ setup_of view
-    → is_setup (setup_of view) ≡ true → keeper.share ≡ slice_index (shares_of view) 0 → keeper.share < 4294967296 → keeper.made ≡ 0 → keeper.time ≡ 0 → keeper.frames.0 ≡ 0 → keeper.shown ≡ None
-    → IsLast (setup_of view) last → last.frame.0 ≡ 0 → last.reuse ≡ shown_states (setup_of view) [] → last.ratio ≡ (setup_of view).ratio → IsKept false keeper seat × HasLast (setup_of seat.stage) (history_of seat.seen) last
+pub opened_live : (view : StageView) (keeper : Keeper) (last : LastFrame) (seat : DisplayView) → seat ≡ record { stage = view; seen = []; mine = [] } → view
+    ≡ arc_value keeper.stage → arc_value keeper.setup ≡ setup_of view
+    → is_setup (setup_of view) ≡ true → keeper.share ≡ slice_index (shares_of view) 0 → keeper.share < 4294967296 → keeper.made ≡ 0 → keeper.time ≡ 0
+    → keeper.frames.0 ≡ 0 → keeper.shown ≡ None
+    → IsLast (setup_of view) last → last.frame.0 ≡ 0 → last.reuse ≡ shown_states (setup_of view) [] → last.ratio ≡ (setup_of view).ratio
+    → IsKept false keeper seat × HasLast (setup_of seat.stage) (history_of seat.seen) last
 opened_live view keeper last seat new own of valid share few made time frames_are shown is number showing scaling =
     let P : DisplayView → Type 0 = λ d. IsKept false keeper d × HasLast (setup_of d.stage) (history_of d.seen) last in
     subst P (sym new) (
-      record { own = own; setup = of; valid = valid; share = share; few = few; made = made; room = omega arith; time = time; whole = refl; legal = tt; frame = refl; frames = frames_are; shown = shown },
+      record {
+        own = own;
+        setup = of;
+        valid = valid;
+        share = share;
+        few = few;
+        made = made;
+        room = omega arith;
+        time = time;
+        whole = refl;
+        legal = tt;
+        frame =
+            refl;
+        frames = frames_are;
+        shown = shown;
+      },
       record { is = is; number = number; showing = showing; scaling = scaling },
     )

@@ -1,16 +1,14 @@
 -- A live stage, which hands its sessions' clients out and takes them back.
-use Rattle.std.specs.Prelude.{◌≡◌, ℕ, ◌+◌, ◌-◌, ◌<◌, ◌≤◌, ◌==◌, Bool, true, false, cond, not, List, [], length, reverse}
+use Rattle.std.specs.Prelude.{◌≡◌, ℕ, ◌+◌, ◌-◌, ◌<◌, ◌≤◌, ◌==◌, Bool, true, false, cond, not, List, [], length}
 use Rattle.std.specs.Prelude.{Option, Some, None, slice_get, slice_index, slice_index_or, slice_set}
+use Rattle.std.specs.List.{list_all}
+use Rattle.std.specs.Option.{is_some}
 use Rattle.flat_base.specs.declared.ids.SessionNo.{SessionNo}
-use Rattle.flat_scene.specs.declared.journal.Entry.{Entry}
 use Rattle.flat_scene.specs.declared.setup.Setup.{Setup}
 use Rattle.flat_scene.specs.Setups.{is_declared}
-use Rattle.flat_core.specs.Machines.{Machine}
-use Rattle.flat_lock.specs.History.{StartsWith}
-use Rattle.flat_rules.specs.Legal.{Legal}
 use Rattle.flat_stage.specs.Displays.{DisplayView}
 use Rattle.flat_stage.specs.Homes.{AreFresh, fresh_view, seats_without}
-use Rattle.flat_stage.specs.Seats.{SessionView, StageView, entries_of_seat, setup_of, shares_of}
+use Rattle.flat_stage.specs.Seats.{SessionView, StageView, setup_of, shares_of}
 use Rattle.flat_client.specs.Clients.{ClientView, Ends, new_client}
 use Rattle.flat_setup.specs.Builders.{Built}
 
@@ -54,20 +52,9 @@ pub record IsOpened (new : Built) (shell : ShellView) (compositor : DisplayView)
   pub home : AreFresh shell.stage new.setup.sessions shell.home
   pub waiting : (s : SessionNo) → is_declared new.setup s ≡ true → is_waiting shell s ≡ true
 
--- A seat's entries are those of its actor in a history, which begins with all that the seat had seen; the oldest are
--- first.
-abbrev pub KnowsItsPart : List Entry → ℕ → List Entry → List Entry → Type 0
-KnowsItsPart history actor seen mine = StartsWith history seen × (mine ≡ entries_of_seat actor history)
-
--- A stage was closed: its board has one legal history, which begins with what the compositor and each session have
--- seen, and in which each of them has the entries that it made.
-pub record Closes (shell : ShellView) (compositor : DisplayView) (board : Machine) : Type 0 where
-  pub setup : board.setup ≡ setup_of shell.stage
-  pub shares : board.shares ≡ shares_of shell.stage
-  pub legal : Legal board.setup board.history
-  pub display : KnowsItsPart (reverse board.history) 0 compositor.seen compositor.mine
-  pub sessions : (k : ℕ) (s : SessionView) → slice_get shell.home k ≡ Some (Some s)
-      → KnowsItsPart (reverse board.history) s.session.0 s.seen s.mine
+-- no client is out: each was taken back, or never handed out
+abbrev pub all_home : ShellView → Bool
+all_home shell = list_all is_some shell.home
 
 -- ---- what a shell keeps
 

@@ -97,7 +97,8 @@ impl DisplayCompositor {
     /// [`may_begin`](DisplayCompositor::may_begin) says whether a frame may begin.
     pub fn begin<R: Wait>(self, rt: &R, time: u64) -> BegunFrame
         requires may { MayBegin time self }
-        ensures { DisplayEnters (length self.mine + 1) (Begin time) Done self result }
+        ensures enters { DisplayEnters (length self.mine + 1) (Begin time) Done self result }
+        ensures stays { result.stage ≡ self.stage }
     {
         let DisplayCompositor {
             mut keeper,
@@ -117,7 +118,8 @@ impl DisplayCompositor {
 
     /// Signals a fence of the display. It may wait, and takes no memory.
     pub fn signal<R: Wait>(&mut self, rt: &R, f: FenceNo) -> Result<(), DisplayFault>
-        ensures { Enters (display.Signal f) (Signal f) self.old self.new result }
+        ensures enters { Enters (display.Signal f) (Signal f) self.old self.new result }
+        ensures stays { self.new.stage ≡ self.old.stage }
     {
         let number = self.entry_number(DisplayLine::Signal(f))?;
         self.seat.signal(rt, &self.keeper.stage, number, f);
@@ -128,7 +130,8 @@ impl DisplayCompositor {
     /// Sets the display's pixel ratio, in fixed point, for the frames that begin from now on.
     /// It may wait, and takes no memory.
     pub fn set_ratio<R: Wait>(&mut self, rt: &R, ratio: u32) -> Result<(), DisplayFault>
-        ensures { Enters (display.Dpr ratio) (Dpr ratio) self.old self.new result }
+        ensures enters { Enters (display.Dpr ratio) (Dpr ratio) self.old self.new result }
+        ensures stays { self.new.stage ≡ self.old.stage }
     {
         let number = self.entry_number(DisplayLine::Dpr(ratio))?;
         self.seat.dpr(rt, &self.keeper.stage, number, ratio);

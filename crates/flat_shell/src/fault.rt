@@ -1,3 +1,6 @@
+use crate::compositor::DisplayCompositor;
+use crate::shell::Shell;
+use std::fmt;
 use thiserror::Error;
 
 /// Why the compositor made no entry.
@@ -24,4 +27,23 @@ pub enum BeginFault {
     /// The last frame began at this later time.
     #[error("the last frame began at {0}, which is later")]
     Before(u64),
+}
+
+/// Why a shell wasn't closed.
+#[derive(Drop, Error)]
+pub enum CloseFault {
+    /// A client is still out. The shell and the compositor come back as they were; take the
+    /// client back, and close again.
+    #[error("a client is still out")]
+    ClientsOut(Shell, DisplayCompositor),
+    /// No client is out, but the stage is held elsewhere, so the journal is lost. Only the shell,
+    /// its clients and its compositor hold the stage, so this doesn't come.
+    #[error("the stage is still held")]
+    StillHeld,
+}
+
+impl fmt::Debug for CloseFault {
+    fn fmt<W: fmt::Write>(&self, f: &mut fmt::Formatter<W>) -> fmt::Result {
+        fmt::Display::fmt(self, f)
+    }
 }

@@ -181,7 +181,8 @@ impl ComposedFrame {
     /// Ends the frame: its presents' release fences are signalled, and its clients hear of it.
     /// It may wait, and takes no memory.
     pub fn done<R: Wait>(self, rt: &R) -> DisplayCompositor
-        ensures { DisplayEnters (length self.mine + 1) Finish Done self result }
+        ensures enters { DisplayEnters (length self.mine + 1) Finish Done self result }
+        ensures stays { result.stage ≡ self.stage }
     {
         let ComposedFrame {
             mut keeper,

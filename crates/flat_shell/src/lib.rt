@@ -13,6 +13,6 @@ mod shell;
 mod waits;
 
 pub use compositor::DisplayCompositor;
-pub use fault::{BeginFault, DisplayFault};
+pub use fault::{BeginFault, CloseFault, DisplayFault};
 pub use frame::{BegunFrame, ComposedFrame};
-pub use shell::{Shell, StillHeld};
+pub use shell::Shell;

@@ -1,7 +1,9 @@
-ghost use Rattle.std.specs.Prelude.{◌≡◌, false, length, replicate, IfOk, OnErr, OnOk};
-ghost use Rattle.flat_shell.specs.Shells.{Closes, IsOpened, TakesBack, client_of, hands_out, is_waiting};
+ghost use Rattle.std.specs.Prelude.{◌≡◌, false, length, replicate, IfOk, IfSome, OnErr, OnOk};
+ghost use Rattle.flat_shell.specs.Closing.{Closes};
+ghost use Rattle.flat_shell.specs.Shells.{IsOpened, TakesBack, all_home, client_of, hands_out, is_waiting};
 
 use crate::compositor::DisplayCompositor;
+use crate::fault::CloseFault;
 use crate::keeper::Keeper;
 use flat_base::{NoMemory, SessionNo, ShareList, TryCopy};
 use flat_client::Client;
@@ -13,12 +15,6 @@ use flat_stage::{SessionSeats, Stage};
 use std::alloc::Global;
 use std::marker::Model;
 use std::sync::{Arc, Wait};
-use thiserror::Error;
-
-/// A client is still out, or something else holds the stage, so it can't be closed.
-#[derive(Clone, Copy, Debug, PartialEq, Eq, Error)]
-#[error("a client is still out")]
-pub struct StillHeld;
 
 /// A live stage: it hands out a client for each session, once, and takes it back.
 #[derive(Drop)]
@@ -62,7 +58,8 @@ fn none_handed(alloc: Global, sessions: u32) -> Result<Vec<bool>, NoMemory>
 impl Shell {
     /// Opens a stage of a setup: all its sessions are to be handed out, and no frame has begun.
     pub fn open(alloc: Global, setup: NewSetup) -> Result<(Shell, DisplayCompositor), NoMemory>
-        ensures { IfOk result (λ r. IsOpened setup r.0 r.1) }
+        ensures opened { IfOk result (λ r. IsOpened setup r.0 r.1) }
+        ensures own { IfOk result (λ r. r.1.stage ≡ r.0.stage) }
     {
         let (setup, shares) = setup.into_parts();
         let kept = setup.copy(alloc)?;
@@ -90,8 +87,10 @@ impl Shell {
     /// before. It may go to any thread.
     pub fn client(&mut self, s: SessionNo) -> Result<Option<Client>, NoMemory>
         ensures client { IfOk result (λ client. client ≡ client_of self.old s) }
+        ensures own { IfOk result (λ client. IfSome client (λ c. c.seat.stage ≡ self.old.stage)) }
         ensures handed { OnOk result (self.new ≡ hands_out self.old s) }
         ensures same { OnErr result (self.new ≡ self.old) }
+        ensures stays { self.new.stage ≡ self.old.stage }
     {
         if !self.is_waiting(s) {
             return Ok(None);
@@ -119,29 +118,37 @@ impl Shell {
     /// Takes a client of this shell back, and ends its session. It may wait, and takes no memory.
     pub fn take_back<R: Wait>(&mut self, rt: &R, client: Client)
         requires own { client.seat.stage ≡ self.old.stage }
-        ensures { TakesBack client self.old self.new }
+        ensures takes { TakesBack client self.old self.new }
+        ensures stays { self.new.stage ≡ self.old.stage }
     {
         let seat = client.end(rt);
         self.handed[seat.session().0 as usize - 1] = true;
         self.seats.put(seat);
     }
 
-    /// Ends the stage, and hands out its board, whose journal is one legal history of all that
-    /// the clients and the compositor entered. [`StillHeld`] comes if a client is still out;
-    /// the stage is let go then, and its journal with it.
-    pub fn close(self, compositor: DisplayCompositor) -> Result<Board, StillHeld>
-        requires own { compositor.stage ≡ self.stage }
-        ensures { IfOk result (Closes self compositor) }
+    /// Whether no client is out: each was taken back, or never handed out.
+    pub fn all_home(&self) -> bool
+        ensures { result ≡ all_home self.now }
     {
+        self.seats.all_home()
+    }
+
+    /// Ends the stage, and hands out its board, whose journal is one legal history of all that
+    /// the clients and the compositor entered. While a client is out, both come back as they
+    /// were: see [`CloseFault`].
+    pub fn close(self, compositor: DisplayCompositor) -> Result<Board, CloseFault>
+        requires own { compositor.stage ≡ self.stage }
+        ensures { Closes self compositor result }
+    {
+        if !self.all_home() {
+            return Err(CloseFault::ClientsOut(self, compositor));
+        }
         let Shell { stage, seats, .. } = self;
         let DisplayCompositor { keeper, seat, .. } = compositor;
         drop(keeper);
-        if !seats.all_home() {
-            return Err(StillHeld);
-        }
         match Arc::into_inner(stage) {
             Some(stage) => Ok(stage.close(seat, seats)),
-            None => Err(StillHeld),
+            None => Err(CloseFault::StillHeld),
         }
     }
 }

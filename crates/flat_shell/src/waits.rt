@@ -24,7 +24,8 @@ impl DisplayCompositor {
         c: Cond,
         looks: u32,
     ) -> Result<u32, DisplayFault>
-        ensures { Waits c self.old self.new result }
+        ensures waits { Waits c self.old self.new result }
+        ensures stays { self.new.stage ≡ self.old.stage }
     {
         if !may_direct(&self.keeper.setup, DisplayLine::Wait(c)) {
             return Err(DisplayFault::NotOwned);

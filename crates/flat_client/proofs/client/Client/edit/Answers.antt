@@ -17,8 +17,10 @@ invariant_of-self c =
     let none : old.owed ≡ None = none_owed c.self.inside.owed (sym c.if-is_some.ensures) in
     let opened : old.seat.closed ≡ false = sym c.if-is_closed.ensures in
     let E : Edit → Type 0 = SeatEdits (line.Call c.args.call) c.self.inside.seat c.edit.new.self in
-    let alone : IsReadAlone (line.Call c.args.call) c.in-Ok-Read.field-0-0 c.self.inside.seat c.edit.new.self = subst E c.in-Ok-Read.field-0-is c.in-Ok-Read.ensures.edits in
-    stands_waiting (arc_value c.self.inside.stage) (arc_value c.self.inside.setup) c.self.inside.share c.self.inside.made old c.self.invariant c.edit.new.self _ none
+    let alone : IsReadAlone (line.Call c.args.call) c.in-Ok-Read.field-0-0 c.self.inside.seat c.edit.new.self =
+    subst E c.in-Ok-Read.field-0-is c.in-Ok-Read.ensures.edits in
+    stands_waiting (arc_value c.self.inside.stage) (arc_value c.self.inside.setup) c.self.inside.share c.self.inside.made old c.self.invariant c.edit.new.self
+    _ none
     (waits_now c.args.call c.in-Ok-Read.field-0-0 c.self.inside.seat c.edit.new.self opened alone)
 
 pub returns-in-Ok-Read-clause-answers : goal.returns-in-Ok-Read-clause-answers
@@ -27,11 +29,13 @@ returns-in-Ok-Read-clause-answers c =
     let none : old.owed ≡ None = none_owed c.self.inside.owed (sym c.if-is_some.ensures) in
     let opened : old.seat.closed ≡ false = sym c.if-is_closed.ensures in
     let E : Edit → Type 0 = SeatEdits (line.Call c.args.call) c.self.inside.seat c.edit.new.self in
-    let alone : IsReadAlone (line.Call c.args.call) c.in-Ok-Read.field-0-0 c.self.inside.seat c.edit.new.self = subst E c.in-Ok-Read.field-0-is c.in-Ok-Read.ensures.edits in
+    let alone : IsReadAlone (line.Call c.args.call) c.in-Ok-Read.field-0-0 c.self.inside.seat c.edit.new.self =
+    subst E c.in-Ok-Read.field-0-is c.in-Ok-Read.ensures.edits in
     let setup : setup_of c.self.inside.seat.stage ≡ c.deref.result.now = cc in
     let session : c.self.inside.seat.session ≡ c.session.result = cc in
     let own : is_played_call (setup_of c.self.inside.seat.stage) c.self.inside.seat.session c.args.call ≡ true =
-    ap (λ (st : Setup). is_played_call st c.self.inside.seat.session c.args.call) setup ∙ ap (λ (s : SessionNo). is_played_call c.deref.result.now s c.args.call) session ∙ sym c.if-not-may_call.ensures in
+    ap (λ (st : Setup). is_played_call st c.self.inside.seat.session c.args.call) setup
+    ∙ ap (λ (s : SessionNo). is_played_call c.deref.result.now s c.args.call) session ∙ sym c.if-not-may_call.ensures in
     let new : ClientView = record old { seat = c.edit.new.self } in
     let W : ClientView → Type 0 = λ v. IsWaiting c.args.call v new in
     subst W c.self.view_is (answers_waiting c.args.call c.in-Ok-Read.field-0-0 old c.edit.new.self (record { opened = opened; nothing_owed = none }) own alone)

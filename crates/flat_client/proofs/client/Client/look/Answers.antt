@@ -10,6 +10,8 @@ use Rattle.flat_client.proofs.client.Client.look.Goals as goal
 pub look-requires-clause-may : goal.look-requires-clause-may
 look-requires-clause-may g c =
     let seat = c.self.inside.seat in
-    let own : is_played_condition (setup_of seat.stage) seat.session c.args.c ≡ true = ap (λ (v : ClientView). is_played_condition (setup_for v) v.seat.session c.args.c) c.self.view_is ∙ c.requires in
-    let declared : is_declared (setup_of seat.stage) seat.session ≡ true = sym (ap (λ (s : SessionNo). is_declared (setup_of seat.stage) s) c.session.ensures.session) ∙ c.session.ensures.declared in
+    let own : is_played_condition (setup_of seat.stage) seat.session c.args.c ≡ true =
+    ap (λ (v : ClientView). is_played_condition (setup_for v) v.seat.session c.args.c) c.self.view_is ∙ c.requires in
+    let declared : is_declared (setup_of seat.stage) seat.session ≡ true =
+    sym (ap (λ (s : SessionNo). is_declared (setup_of seat.stage) s) c.session.ensures.session) ∙ c.session.ensures.declared in
     may_look (setup_of seat.stage) seat.session c.args.c own declared

@@ -14,6 +14,8 @@ invariant_of-result g c =
     let numbered : keeper.made + 1 ≡ length seat.mine + 1 = ap (λ n. n + 1) c.self.invariant.0.made in
     let P : ℕ → Type 0 = λ n. DisplayEnters n (Begin c.args.time) Done seat c.begin-frame.result.display in
     let M : DisplayView → Type 0 = λ d. MayBegin c.args.time d in
-    begun_then keeper (record keeper { made = keeper.made + 1; time = c.args.time }) c.self.inside.last seat c.begin-frame.result c.args.time c.self.invariant.0 c.self.invariant.1
-    (subst P numbered c.begin-frame.ensures.enters) (ap (λ n. let k : Keeper = record keeper { made = n; time = c.args.time } in k) numbered) (subst M (sym c.self.view_is) c.requires.may)
+    begun_then keeper (record keeper { made = keeper.made + 1; time = c.args.time }) c.self.inside.last seat c.begin-frame.result c.args.time
+    c.self.invariant.0 c.self.invariant.1
+    (subst P numbered c.begin-frame.ensures.enters) (ap (λ n. let k : Keeper = record keeper { made = n; time = c.args.time } in k) numbered)
+    (subst M (sym c.self.view_is) c.requires.may)
     c.begin-frame.ensures.shown c.begin-frame.ensures.changed c.begin-frame.ensures.views

@@ -13,6 +13,7 @@ invariant_of-result g c =
     let seat : DisplayView = c.self.inside.frame.display in
     let numbered : keeper.made + 1 ≡ length seat.mine + 1 = ap (λ n. n + 1) c.self.invariant.0.made in
     let P : ℕ → Type 0 = λ n. DisplayEnters n Finish Done seat c.done-seat.result.0 in
-    done_then keeper (record keeper { made = keeper.made + 1; frames = c.done-seat.result.1; shown = Some c.self.inside.out }) c.self.inside.last (record c.self.inside.last { frame = c.done-seat.result.1 }) seat c.done-seat.result.0 c.done-seat.result.1
+    done_then keeper (record keeper { made = keeper.made + 1; frames = c.done-seat.result.1; shown = Some c.self.inside.out }) c.self.inside.last
+    (record c.self.inside.last { frame = c.done-seat.result.1 }) seat c.done-seat.result.0 c.done-seat.result.1
     c.self.invariant.0 c.self.invariant.1 (subst P numbered c.done-seat.ensures.enters) c.done-seat.ensures.frame
     (λ i. let k : Keeper = record keeper { made = numbered i; frames = c.done-seat.result.1; shown = Some (c.self.invariant.2 i) } in k) refl

@@ -21,16 +21,20 @@ invariant_of-shell c =
     let arc : arc_value c.in_ok-setup.setup ≡ c.args.setup.setup = c.in_ok-setup.ensures.ok ∙ kept in
     let own : c.in_ok-stage.seats.stage ≡ arc_value c.in_ok-stage-2.stage = c.in_ok-stage.ensures.own ∙ sym c.in_ok-stage-2.ensures.ok in
     let setup_is : setup_of c.in_ok-stage.seats.stage ≡ c.args.setup.setup =
-    ap setup_of c.in_ok-stage.ensures.own ∙ c.in_ok-stage.ensures.setup ∙ ap (λ (m : Machine). m.setup) c.in_ok-board.ensures ∙ c.into_parts-setup.ensures.setup in
+    ap setup_of c.in_ok-stage.ensures.own ∙ c.in_ok-stage.ensures.setup ∙ ap (λ (m : Machine). m.setup) c.in_ok-board.ensures
+    ∙ c.into_parts-setup.ensures.setup in
     let shares_are : shares_of c.in_ok-stage.seats.stage ≡ c.args.setup.shares =
-    ap shares_of c.in_ok-stage.ensures.own ∙ c.in_ok-stage.ensures.shares ∙ ap (λ (m : Machine). m.shares) c.in_ok-board.ensures ∙ c.into_parts-setup.ensures.shares in
-    let count : c.in_ok-board.board.setup.sessions ≡ (arc_value c.in_ok-setup.setup).sessions = ap (λ (m : Machine). m.setup.sessions) c.in_ok-board.ensures ∙ ap (λ (s : Setup). s.sessions) (c.into_parts-setup.ensures.setup ∙ sym arc) in
+    ap shares_of c.in_ok-stage.ensures.own ∙ c.in_ok-stage.ensures.shares ∙ ap (λ (m : Machine). m.shares) c.in_ok-board.ensures
+    ∙ c.into_parts-setup.ensures.shares in
+    let count : c.in_ok-board.board.setup.sessions ≡ (arc_value c.in_ok-setup.setup).sessions = ap (λ (m : Machine). m.setup.sessions) c.in_ok-board.ensures
+    ∙ ap (λ (s : Setup). s.sessions) (c.into_parts-setup.ensures.setup ∙ sym arc) in
     let V : StageView → Type 0 = λ v. AreFresh v c.in_ok-board.board.setup.sessions c.in_ok-stage.seats.seats in
     let N : ℕ → Type 0 = λ n. AreFresh (arc_value c.in_ok-stage-2.stage) n c.in_ok-stage.seats.seats in
     let R : List ℕ → Type 0 = λ xs. (s : ℕ) → 0 < s → s ≤ (arc_value c.in_ok-setup.setup).sessions → 2 ≤ slice_index xs s in
     let S : ℕ → Type 0 = λ n. (s : ℕ) → 0 < s → s ≤ n → 2 ≤ slice_index c.args.setup.shares s in
     opened (arc_value c.in_ok-stage-2.stage) (arc_value c.in_ok-setup.setup) c.in_ok-kept_shares.kept_shares
-    (record { stage = c.in_ok-stage.seats.stage; home = c.in_ok-stage.seats.seats; handed = c.in_ok-handed.handed.items }) own (arc ∙ sym setup_is) (shared ∙ sym shares_are)
+    (record { stage = c.in_ok-stage.seats.stage; home = c.in_ok-stage.seats.seats; handed = c.in_ok-handed.handed.items }) own (arc ∙ sym setup_is)
+    (shared ∙ sym shares_are)
     (ap (length {A = ℕ}) shared ∙ good.actors ∙ ap (λ (s : Setup). s.sessions + 1) (sym arc))
     (subst R (sym shared) (subst S (ap (λ (s : Setup). s.sessions) (sym arc)) good.owing))
     (subst N count (subst V (sym c.in_ok-stage-2.ensures.ok) c.in_ok-stage.ensures.sessions))
@@ -42,25 +46,33 @@ invariant_of-result c =
     let kept : c.in_ok-kept.kept ≡ c.args.setup.setup = c.in_ok-kept.ensures ∙ c.into_parts-setup.ensures.setup in
     let shared : c.in_ok-kept_shares.kept_shares ≡ c.args.setup.shares = c.in_ok-kept_shares.ensures ∙ c.into_parts-setup.ensures.shares in
     let view : StageView = c.in_ok-stage.stage in
-    let setup_is : setup_of view ≡ c.args.setup.setup = c.in_ok-stage.ensures.setup ∙ ap (λ (m : Machine). m.setup) c.in_ok-board.ensures ∙ c.into_parts-setup.ensures.setup in
-    let shares_are : shares_of view ≡ c.args.setup.shares = c.in_ok-stage.ensures.shares ∙ ap (λ (m : Machine). m.shares) c.in_ok-board.ensures ∙ c.into_parts-setup.ensures.shares in
-    let first : slice_index c.in_ok-kept_shares.kept_shares 0 ≡ c.at-share.result.now = read-at c.in_ok-kept_shares.kept_shares 0 c.at-share.result.now c.at-share.ensures in
+    let setup_is : setup_of view ≡ c.args.setup.setup = c.in_ok-stage.ensures.setup ∙ ap (λ (m : Machine). m.setup) c.in_ok-board.ensures
+    ∙ c.into_parts-setup.ensures.setup in
+    let shares_are : shares_of view ≡ c.args.setup.shares = c.in_ok-stage.ensures.shares ∙ ap (λ (m : Machine). m.shares) c.in_ok-board.ensures
+    ∙ c.into_parts-setup.ensures.shares in
+    let first : slice_index c.in_ok-kept_shares.kept_shares 0 ≡ c.at-share.result.now =
+    read-at c.in_ok-kept_shares.kept_shares 0 c.at-share.result.now c.at-share.ensures in
     let G : Setup → Type 0 = λ s. is_setup s ≡ true in
     let L : Setup → Type 0 = λ s. IsLast s c.in_ok-last.last in
     let same : c.in_ok-kept.kept ≡ setup_of view = kept ∙ sym setup_is in
     let k = c.in_ok-keeper.ensures in
-    opened_live view c.in_ok-keeper.keeper c.in_ok-last.last c.in_ok-stage.seat c.in_ok-stage.ensures.compositor (sym (k.stage ∙ c.in_ok-stage-2.ensures.ok)) (k.setup ∙ c.in_ok-setup.ensures.ok ∙ same)
-    (subst G (sym setup_is) good.good) (k.share ∙ sym first ∙ ap (λ (xs : List ℕ). slice_index xs 0) (shared ∙ sym shares_are)) k.few k.made k.time k.frames k.shown
-    (subst L same c.in_ok-last.ensures.is) c.in_ok-last.ensures.number (c.in_ok-last.ensures.shows ∙ ap (λ (s : Setup). shown_states s []) same) (c.in_ok-last.ensures.ratio ∙ ap (λ (s : Setup). s.ratio) same)
+    opened_live view c.in_ok-keeper.keeper c.in_ok-last.last c.in_ok-stage.seat c.in_ok-stage.ensures.compositor (sym (k.stage ∙ c.in_ok-stage-2.ensures.ok))
+    (k.setup ∙ c.in_ok-setup.ensures.ok ∙ same)
+    (subst G (sym setup_is) good.good) (k.share ∙ sym first ∙ ap (λ (xs : List ℕ). slice_index xs 0) (shared ∙ sym shares_are)) k.few k.made k.time k.frames
+    k.shown
+    (subst L same c.in_ok-last.ensures.is) c.in_ok-last.ensures.number (c.in_ok-last.ensures.shows ∙ ap (λ (s : Setup). shown_states s []) same)
+    (c.in_ok-last.ensures.ratio ∙ ap (λ (s : Setup). s.ratio) same)
 
-pub returns : goal.returns
-returns c =
+pub returns-clause-opened : goal.returns-clause-opened
+returns-clause-opened c =
     let kept : c.in_ok-kept.kept ≡ c.args.setup.setup = c.in_ok-kept.ensures ∙ c.into_parts-setup.ensures.setup in
     let own : c.in_ok-stage.seats.stage ≡ c.in_ok-stage.stage = c.in_ok-stage.ensures.own in
-    let sessions : c.in_ok-board.board.setup.sessions ≡ c.args.setup.setup.sessions = ap (λ (m : Machine). m.setup.sessions) c.in_ok-board.ensures ∙ ap (λ (s : Setup). s.sessions) c.into_parts-setup.ensures.setup in
+    let sessions : c.in_ok-board.board.setup.sessions ≡ c.args.setup.setup.sessions = ap (λ (m : Machine). m.setup.sessions) c.in_ok-board.ensures
+    ∙ ap (λ (s : Setup). s.sessions) c.into_parts-setup.ensures.setup in
     let V : StageView → Type 0 = λ v. AreFresh v c.in_ok-board.board.setup.sessions c.in_ok-stage.seats.seats in
     let N : ℕ → Type 0 = λ n. AreFresh c.in_ok-stage.seats.stage n c.in_ok-stage.seats.seats in
-    let first : c.in_ok-handed.handed.items ≡ replicate c.args.setup.setup.sessions false = c.in_ok-handed.ensures.none ∙ ap (λ (s : Setup). replicate s.sessions false) kept in
+    let first : c.in_ok-handed.handed.items ≡ replicate c.args.setup.setup.sessions false = c.in_ok-handed.ensures.none
+    ∙ ap (λ (s : Setup). replicate s.sessions false) kept in
     record {
       setup = ap setup_of own ∙ c.in_ok-stage.ensures.setup ∙ ap (λ (m : Machine). m.setup) c.in_ok-board.ensures ∙ c.into_parts-setup.ensures.setup;
       shares = ap shares_of own ∙ c.in_ok-stage.ensures.shares ∙ ap (λ (m : Machine). m.shares) c.in_ok-board.ensures ∙ c.into_parts-setup.ensures.shares;

@@ -12,5 +12,6 @@ invariant_of-self g c =
     let old : ShellView = record { stage = c.self.inside.seats.stage; home = c.self.inside.seats.seats; handed = c.self.inside.handed.items } in
     let D : StageView → Type 0 = λ v. is_declared (setup_of v) c.session.result ≡ true in
     let own : c.end-seat.result.stage ≡ old.stage = c.end-seat.ensures.stage ∙ c.requires.own ∙ ap (λ (v : ShellView). v.stage) (sym c.self.view_is) in
-    home_then (arc_value c.self.inside.stage) (arc_value c.self.inside.setup) c.self.inside.shares old c.self.invariant c.put.new.self c.session.result c.end-seat.result
+    home_then (arc_value c.self.inside.stage) (arc_value c.self.inside.setup) c.self.inside.shares old c.self.invariant c.put.new.self c.session.result
+    c.end-seat.result
     (subst D own c.session.ensures.declared) (sym (ap (λ (s : SessionNo). s.0) c.session.ensures.session)) c.put.ensures

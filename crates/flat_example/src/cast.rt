@@ -1,0 +1,38 @@
+use flat_base::{Actor, PairNo, SessionNo};
+use flat_setup::{NewSetup, SetupBuilder, SetupFault};
+use std::alloc::Global;
+
+/// The display's sides, in pixels.
+pub(crate) const WIDTH: u32 = 320;
+
+pub(crate) const HEIGHT: u32 = 200;
+
+/// How many entries the display and each client may make.
+const DISPLAY_ENTRIES: u32 = 100;
+
+const CLIENT_ENTRIES: u32 = 50;
+
+/// Who there is, and which pairs link them.
+#[derive(Clone, Copy)]
+pub(crate) struct Cast {
+    pub(crate) shell: SessionNo,
+    pub(crate) app: SessionNo,
+    pub(crate) shell_pair: PairNo,
+    pub(crate) app_pair: PairNo,
+}
+
+/// The display shows the shell, and the shell shows the application.
+pub(crate) fn new_cast(alloc: Global) -> Result<(NewSetup, Cast), SetupFault> {
+    let mut setup = SetupBuilder::new(alloc, WIDTH, HEIGHT, DISPLAY_ENTRIES);
+    let shell = setup.session(CLIENT_ENTRIES)?;
+    let app = setup.session(CLIENT_ENTRIES)?;
+    let shell_pair = setup.pair(Actor::Display, shell)?;
+    let app_pair = setup.pair(Actor::Session(shell), app)?;
+    let cast = Cast {
+        shell,
+        app,
+        shell_pair,
+        app_pair,
+    };
+    Ok((setup.build()?, cast))
+}
