@@ -34,22 +34,33 @@ pub record Enters (script : Script) (place : ℕ) (seat : DisplayView) (entry : 
   pub beside : IsBeside script.setup (history_of seat.seen) middle
   pub stood : DisplayStands script place middle
 
-module _ (script : Script) (view : StageView) (place : ℕ) (x : ScriptLine) (at : At script place x) (is_setup : setup_of view ≡ script.setup) (seat seat' : DisplayView) (stands : SeatStands script view place seat) where
-  one_of : (kind : Kind) (reply : Reply) → DisplayEnters x.number kind reply seat seat' → MakesOne script.setup 0 seat.seen seat.mine (entry_of Display x.number [] kind reply) seat'.seen seat'.mine
+module _ (script : Script) (view : StageView) (place : ℕ) (x : ScriptLine) (at : At script place x) (is_setup : setup_of view ≡ script.setup)
+    (seat seat' : DisplayView) (stands : SeatStands script view place seat) where
+  one_of : (kind : Kind) (reply : Reply) → DisplayEnters x.number kind reply seat seat'
+      → MakesOne script.setup 0 seat.seen seat.mine (entry_of Display x.number [] kind reply) seat'.seen seat'.mine
   one_of kind reply enters =
       let M : Setup → Type 0 = λ s. MakesOne s 0 seat.seen seat.mine (entry_of Display x.number [] kind reply) seat'.seen seat'.mine in
       subst M (ap setup_of stands.own ∙ is_setup) enters.one
 
-  pub enters_as : (kind : Kind) (reply : Reply) → DisplayEnters x.number kind reply seat seat' → Enters script place seat (entry_of Display x.number [] kind reply) seat'
+  pub enters_as : (kind : Kind) (reply : Reply) → DisplayEnters x.number kind reply seat seat'
+      → Enters script place seat (entry_of Display x.number [] kind reply) seat'
   enters_as kind reply enters =
       let e : Entry = entry_of Display x.number [] kind reply in
       let h = has_entered script.setup seat.seen seat.mine e seat'.seen seat'.mine refl stands.mine (one_of kind reply enters) in
-      record { middle = h.middle; grown = h.grown; beside = h.beside; stood = display_same script place (history_of seat.seen) h.middle h.beside stands.display }
+      record {
+        middle = h.middle;
+        grown = h.grown;
+        beside = h.beside;
+        stood = display_same script place (history_of seat.seen) h.middle h.beside stands.display;
+      }
 
   lines_left : x.actor ≡ Display → lines_by 0 (drop place script.lines) ≡ lines_by 0 (drop (place + 1) script.lines) + 1
-  lines_left actor = ap (lines_by 0) at.left ∙ ap (λ a. lines_by 0 ((record x { actor = a }) ∷ drop (place + 1) script.lines)) actor ∙ grind (arith, common_steps)
+  lines_left actor = ap (lines_by 0) at.left ∙ ap (λ a. lines_by 0 ((record x { actor = a }) ∷ drop (place + 1) script.lines)) actor
+      ∙ grind (arith, common_steps)
 
-  seat_more : (kind : Kind) (reply : Reply) → x.actor ≡ Display → (enters : DisplayEnters x.number kind reply seat seat') → DisplayStands script (place + 1) ((enters_as kind reply enters).middle ▹ entry_of Display x.number [] kind reply) → SeatStands script view (place + 1) seat'
+  seat_more : (kind : Kind) (reply : Reply) → x.actor ≡ Display → (enters : DisplayEnters x.number kind reply seat seat')
+      → DisplayStands script (place + 1) ((enters_as kind reply enters).middle ▹ entry_of Display x.number [] kind reply)
+      → SeatStands script view (place + 1) seat'
   seat_more kind reply actor enters display_then =
       let e : Entry = entry_of Display x.number [] kind reply in
       let one = one_of kind reply enters in
@@ -64,13 +75,20 @@ module _ (script : Script) (view : StageView) (place : ℕ) (x : ScriptLine) (at
         spent = let was = stands.spent in omega (arith, was, longer, left);
       }
 
-  pub seat_begins : (time : ℕ) → x.actor ≡ Display → x.body ≡ body.Display (display.Begin time) → DisplayEnters x.number (Begin time) Done seat seat' → SeatStands script view (place + 1) seat'
-  seat_begins time actor is enters = seat_more (Begin time) Done actor enters (display_begin script place x at time is (enters_as (Begin time) Done enters).middle (enters_as (Begin time) Done enters).stood)
+  pub seat_begins : (time : ℕ) → x.actor ≡ Display → x.body ≡ body.Display (display.Begin time) → DisplayEnters x.number (Begin time) Done seat seat'
+      → SeatStands script view (place + 1) seat'
+  seat_begins time actor is enters = seat_more (Begin time) Done actor enters
+      (display_begin script place x at time is (enters_as (Begin time) Done enters).middle (enters_as (Begin time) Done enters).stood)
 
-  pub seat_finishes : x.actor ≡ Display → x.body ≡ body.Display display.Done → DisplayEnters x.number Finish Done seat seat' → SeatStands script view (place + 1) seat'
-  seat_finishes actor is enters = seat_more Finish Done actor enters (display_done script place x at is (enters_as Finish Done enters).middle (enters_as Finish Done enters).stood)
+  pub seat_finishes : x.actor ≡ Display → x.body ≡ body.Display display.Done → DisplayEnters x.number Finish Done seat seat'
+      → SeatStands script view (place + 1) seat'
+  seat_finishes actor is enters = seat_more Finish Done actor enters
+      (display_done script place x at is (enters_as Finish Done enters).middle (enters_as Finish Done enters).stood)
 
-  pub seat_beside : (text : DisplayLine) (kind : Kind) (reply : Reply) → x.actor ≡ Display → x.body ≡ body.Display text → entry_of_display text ≡ kind → is_begin kind ≡ false → is_finish kind ≡ false
-      → ((o : Bool) (t : ℕ) (follows : Bool → ℕ → Bool) → keeps_frames o t (body.Display text) follows ≡ follows o t) → DisplayEnters x.number kind reply seat seat' → SeatStands script view (place + 1) seat'
+  pub seat_beside : (text : DisplayLine) (kind : Kind) (reply : Reply) → x.actor ≡ Display → x.body ≡ body.Display text → entry_of_display text ≡ kind
+      → is_begin kind ≡ false → is_finish kind ≡ false
+      → ((o : Bool) (t : ℕ) (follows : Bool → ℕ → Bool) → keeps_frames o t (body.Display text) follows ≡ follows o t)
+      → DisplayEnters x.number kind reply seat seat' → SeatStands script view (place + 1) seat'
   seat_beside text kind reply actor is makes no_begin no_finish keeps enters =
-      seat_more kind reply actor enters (display_beside script place x at text kind reply is makes no_begin no_finish keeps (enters_as kind reply enters).middle (enters_as kind reply enters).stood)
+      seat_more kind reply actor enters (display_beside script place x at text kind reply is makes no_begin no_finish keeps (enters_as kind reply enters).middle
+      (enters_as kind reply enters).stood)

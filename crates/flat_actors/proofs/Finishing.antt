@@ -28,14 +28,22 @@ module _ (setup : Setup) where
   pub finishes_then : (before middle after : List Entry) → IsBeside setup before middle → FinishesOne setup middle after → FinishesOne setup before after
   finishes_then before middle after same one = elim one [
     | inl none ↦ inl (none.0 ∙ same.number, none.1 ∙ same.publishing)
-    | inr next ↦ inr (next.0 ∙ ap suc same.number, next.1 ∙ ap (λ (fs : List Frame). fs ++ shown_frame setup (frames after) (to_finished after) ∷ []) same.publishing)
+    | inr next ↦ inr (
+      next.0 ∙ ap suc same.number,
+      next.1
+          ∙ ap (λ (fs : List Frame). fs ++ shown_frame setup (frames after) (to_finished after) ∷ []) same.publishing,
+    )
   ]
 
   -- an entry of the display
   one_entry : (middle : List Entry) (e : Entry) (b : Bool) → is_finish e.kind ≡ b → FinishesOne setup middle (middle ▹ e)
   one_entry middle e false is =
       let grown = frames_more middle e false is in
-      inl (omega (arith, grown), ap (λ b. published_frames setup middle ++ cond b (shown_frame setup (suc (frames middle)) (to_begin middle) ∷ []) []) is ∙ append-nil (published_frames setup middle))
+      inl (
+        omega (arith, grown),
+        ap (λ b. published_frames setup middle ++ cond b (shown_frame setup (suc (frames middle)) (to_begin middle) ∷ []) []) is
+            ∙ append-nil (published_frames setup middle),
+      )
   one_entry middle e true is =
       let grown = frames_more middle e true is in
       let number : frames (middle ▹ e) ≡ suc (frames middle) = omega (arith, grown) in
@@ -47,7 +55,8 @@ module _ (setup : Setup) where
             ∙ ap (λ (h : List Entry). published_frames setup middle ++ shown_frame setup (frames (middle ▹ e)) h ∷ []) (sym ended),
       )
 
-  pub finishes_one : (before middle after : List Entry) (e : Entry) → IsBeside setup before middle → after ≡ (middle ▹ e) → (b : Bool) → is_finish e.kind ≡ b → FinishesOne setup before after
+  pub finishes_one : (before middle after : List Entry) (e : Entry) → IsBeside setup before middle → after ≡ (middle ▹ e) → (b : Bool) → is_finish e.kind ≡ b
+      → FinishesOne setup before after
   finishes_one before middle after e same grown b is =
       let F : List Entry → Type 0 = FinishesOne setup before in
       subst F (sym grown) (finishes_then before middle (middle ▹ e) same (one_entry middle e b is))
@@ -55,19 +64,27 @@ module _ (setup : Setup) where
 -- ---- what is published
 
 -- nothing is, before any line
-pub published_none : (script : Script) (published : publish.Publishing) → published ≡ record { home = published.home; frames = []; refused = []; given = 0 } → PublishedStand script [] published
-published_none script published new = let P : publish.Publishing → Type 0 = PublishedStand script [] in subst P (sym new) (record { given = omega arith; none_refused = refl; are = λ any. refl })
+pub published_none : (script : Script) (published : publish.Publishing) → published ≡ record { home = published.home; frames = []; refused = []; given = 0 }
+    → PublishedStand script [] published
+published_none script published new = let P : publish.Publishing → Type 0 =
+    PublishedStand script [] in subst P (sym new) (record { given = omega arith; none_refused = refl; are = λ any. refl })
 
 -- the last frame was published, where it is a new one
-pub published_more : (script : Script) (before after : List Entry) (n : ℕ) (last : LastFrame) (old new : publish.Publishing) → n ≡ frames before → last.frame.0 ≡ frames after → last.reuse ≡ shown_states script.setup (to_finished after) → last.ratio ≡ ratio script.setup (to_finished after)
+pub published_more : (script : Script) (before after : List Entry) (n : ℕ) (last : LastFrame) (old new : publish.Publishing) → n ≡ frames before
+    → last.frame.0 ≡ frames after → last.reuse ≡ shown_states script.setup (to_finished after) → last.ratio ≡ ratio script.setup (to_finished after)
     → FinishesOne script.setup before after → PublishesLast script.setup n last old new → PublishedStand script before old → PublishedStand script after new
 published_more script before after n last old new n_is number showing scaling one publishes was = elim publishes [
   | inl stays ↦ still stays.0 stays.1
   | inr next ↦ more next
 ]
   where
-    none_given : PublishedStand script before old → frames before ≤ frames after → (0 < script.setup.probes → published_frames script.setup after ≡ published_frames script.setup before) → PublishedStand script after old
-    none_given was grow same = record { given = (let given = was.given in omega (arith, given, grow)); none_refused = was.none_refused; are = λ any. was.are any ∙ sym (same any) }
+    none_given : PublishedStand script before old → frames before ≤ frames after
+        → (0 < script.setup.probes → published_frames script.setup after ≡ published_frames script.setup before) → PublishedStand script after old
+    none_given was grow same = record {
+      given = (let given = was.given in omega (arith, given, grow));
+      none_refused = was.none_refused;
+      are = λ any. was.are any ∙ sym (same any);
+    }
 
     still : new ≡ old → (script.setup.probes ≡ 0) ⊎ (last.frame.0 ≤ n) → PublishedStand script after new
     still same why =
@@ -83,18 +100,22 @@ published_more script before after n last old new n_is number showing scaling on
           ]
         ])
 
-    more : (n < last.frame.0) × (new.given ≡ last.frame.0) × publish.Publishes old (frame last.frame.0 (joined_lists (at_ratio last.ratio script.setup) last.reuse)) new → PublishedStand script after new
+    more : (n < last.frame.0) × (new.given ≡ last.frame.0)
+        × publish.Publishes old (frame last.frame.0 (joined_lists (at_ratio last.ratio script.setup) last.reuse)) new → PublishedStand script after new
     more next = elim one [
       | inl stayed ↦ (let as_many = stayed.0 in let above = next.0 in absurd (omega (arith, as_many, above, n_is, number)))
       | inr ended ↦
           let given = next.1 in
-          let one_frame : frame last.frame.0 (joined_lists (at_ratio last.ratio script.setup) last.reuse) ≡ shown_frame script.setup (frames after) (to_finished after) =
-          ap (λ (k : ℕ). frame k (joined_lists (at_ratio last.ratio script.setup) last.reuse)) number ∙ (λ i. frame (frames after) (joined_lists (at_ratio (scaling i) script.setup) (showing i))) in
+          let one_frame : frame last.frame.0 (joined_lists (at_ratio last.ratio script.setup) last.reuse)
+          ≡ shown_frame script.setup (frames after) (to_finished after) =
+          ap (λ (k : ℕ). frame k (joined_lists (at_ratio last.ratio script.setup) last.reuse)) number
+          ∙ (λ i. frame (frames after) (joined_lists (at_ratio (scaling i) script.setup) (showing i))) in
           record {
             given = omega (arith, given, number);
             none_refused = next.2.1;
             are = λ any. next.2.0
-                ∙ ap (λ (fs : List Frame). old.frames ++ fs ++ frame last.frame.0 (joined_lists (at_ratio last.ratio script.setup) last.reuse) ∷ []) was.none_refused
+                ∙ ap (λ (fs : List Frame). old.frames ++ fs ++ frame last.frame.0 (joined_lists (at_ratio last.ratio script.setup) last.reuse) ∷ [])
+                was.none_refused
                 ∙ ap (λ (fs : List Frame). fs ++ frame last.frame.0 (joined_lists (at_ratio last.ratio script.setup) last.reuse) ∷ []) (append-nil old.frames)
                 ∙ ap (λ (fs : List Frame). fs ++ frame last.frame.0 (joined_lists (at_ratio last.ratio script.setup) last.reuse) ∷ []) (was.are any)
                 ∙ ap (λ (f : Frame). published_frames script.setup before ++ f ∷ []) one_frame

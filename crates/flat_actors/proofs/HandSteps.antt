@@ -1,5 +1,6 @@
 -- The whole compositor after one more line of the script.
-use Rattle.std.proofs.Common.{◌≡◌, ℕ, ℤ, ◌+◌, ◌<◌, ◌≤◌, Bool, true, false, cond, not, nat_le, ◌==◌, List, [], ◌∷◌, ◌++◌, length, drop, slice_get, slice_index, Option, Some, refl, sym, ap, ◌∙◌, subst, arith}
+use Rattle.std.proofs.Common.{◌≡◌, ℕ, ℤ, ◌+◌, ◌<◌, ◌≤◌, Bool, true, false, cond, not, nat_le, ◌==◌, List, [], ◌∷◌, ◌++◌, length, drop, slice_get, slice_index}
+use Rattle.std.proofs.Common.{Option, Some, refl, sym, ap, ◌∙◌, subst, arith}
 use Rattle.std.proofs.lemmas.Bool.Decides.{nat_tests}
 use Rattle.std.proofs.lemmas.Grind.{common_steps}
 use Rattle.std.proofs.lemmas.List.{length-reverse}
@@ -72,21 +73,24 @@ closed_then false closed = refl
 
 module _ (script : Script) (view : StageView) (place : ℕ) where
   -- the compositor looked
-  pub looked_beside : (hand hand' : Hand) (film : Film) → HasLooked script.setup hand hand' → HandStands script view place hand film → IsBeside script.setup (history_of (hand_seat hand).seen) (history_of (hand_seat hand').seen)
+  pub looked_beside : (hand hand' : Hand) (film : Film) → HasLooked script.setup hand hand' → HandStands script view place hand film
+      → IsBeside script.setup (history_of (hand_seat hand).seen) (history_of (hand_seat hand').seen)
   looked_beside hand hand' film looks stands =
       let old : List Entry = (hand_seat hand).seen in
       let more : List Entry = looks.sees.longer.0 in
       let L : List Entry → Type 0 = λ es. Legal script.setup (history_of es) in
       let B : List Entry → Type 0 = λ es. IsBeside script.setup (history_of old) (history_of es) in
       let mine : (hand_seat hand').mine ≡ (hand_seat hand).mine = ap (λ (d : DisplayView). d.mine) looks.sees.rest in
-      let own : entries_of_seat 0 (old ++ more) ≡ entries_of_seat 0 old = ap (entries_of_seat 0) (sym looks.sees.longer.1) ∙ sym looks.whole ∙ mine ∙ stands.seat.mine in
+      let own : entries_of_seat 0 (old ++ more) ≡ entries_of_seat 0 old =
+      ap (entries_of_seat 0) (sym looks.sees.longer.1) ∙ sym looks.whole ∙ mine ∙ stands.seat.mine in
       subst B (sym looks.sees.longer.1) (seen_beside script.setup old more (subst L looks.sees.longer.1 looks.legal) own)
 
   pub looked_finishes : (hand hand' : Hand) (film : Film) → HasLooked script.setup hand hand' → HandStands script view place hand film
       → finished script.setup (history_of (hand_seat hand').seen) ≡ finished script.setup (history_of (hand_seat hand).seen)
   looked_finishes hand hand' film looks stands = (looked_beside hand hand' film looks stands).finishing
 
-  pub hand_looks : (hand hand' : Hand) (film : Film) → HasLooked script.setup hand hand' → HandStands script view place hand film → HandStands script view place hand' film
+  pub hand_looks : (hand hand' : Hand) (film : Film) → HasLooked script.setup hand hand' → HandStands script view place hand film
+      → HandStands script view place hand' film
   hand_looks hand hand' film looks stands =
       let old : List Entry = (hand_seat hand).seen in
       let new : List Entry = (hand_seat hand').seen in
@@ -118,8 +122,11 @@ module _ (script : Script) (view : StageView) (place : ℕ) where
         subst V (sym stands.own) (subst S (sym of.shares) (omega (arith, was, left)))
 
     -- a frame begins
-    pub hand_begins : (time : ℕ) → x.body ≡ body.Display (display.Begin time) → (seat : DisplayView) (frame : FrameView) (film : Film) → HandStands script view place (Idle seat) film → DisplayEnters x.number (Begin time) Done seat frame.display
-        → frame.shown ≡ shown_states (setup_of seat.stage) (history_of frame.display.seen) → AreSame frame.changed (shown_states (setup_of seat.stage) (to_begin (history_of seat.seen))) frame.shown → AreViewed (setup_of seat.stage) (history_of frame.display.seen) frame.with_view → HandStands script view (place + 1) (Open frame) film
+    pub hand_begins : (time : ℕ) → x.body ≡ body.Display (display.Begin time) → (seat : DisplayView) (frame : FrameView) (film : Film)
+        → HandStands script view place (Idle seat) film → DisplayEnters x.number (Begin time) Done seat frame.display
+        → frame.shown ≡ shown_states (setup_of seat.stage) (history_of frame.display.seen)
+        → AreSame frame.changed (shown_states (setup_of seat.stage) (to_begin (history_of seat.seen))) frame.shown
+        → AreViewed (setup_of seat.stage) (history_of frame.display.seen) frame.with_view → HandStands script view (place + 1) (Open frame) film
     hand_begins time is seat frame film stands enters shown changed viewed =
         let e : Entry = entry_of Display x.number [] (Begin time) Done in
         let en = enters_as script view place x at of.setup seat frame.display stands.seat (Begin time) Done enters in
@@ -130,42 +137,56 @@ module _ (script : Script) (view : StageView) (place : ℕ) where
         let F : List Entry → Type 0 = λ h. FilmStands script h film in
         let S : Shown → Type 0 = λ was. AreSame frame.changed was frame.shown in
         let before : shown_states (setup_of seat.stage) (to_begin (history_of seat.seen)) ≡ film.last.reuse =
-        ap (λ s. shown_states s (to_begin (history_of seat.seen))) setup ∙ ap (shown_states script.setup) (sym (all-finished (history_of seat.seen) stands.frame)) ∙ sym stands.kept.answering.showing in
+        ap (λ s. shown_states s (to_begin (history_of seat.seen))) setup
+        ∙ ap (shown_states script.setup) (sym (all-finished (history_of seat.seen) stands.frame)) ∙ sym stands.kept.answering.showing in
         record {
           seat = seat_begins script view place x at of.setup seat frame.display stands.seat time actor is enters;
           frame = ap is_frame_open en.grown;
-          shows = (shown ∙ ap (λ s. shown_states s (history_of frame.display.seen)) setup ∙ ap (shown_states script.setup) begun, subst W begun (subst V setup viewed));
+          shows = (
+            shown ∙ ap (λ s. shown_states s (history_of frame.display.seen)) setup
+                ∙ ap (shown_states script.setup) begun,
+            subst W begun (subst V setup viewed),
+          );
           changes = subst S before changed;
-          kept = subst F (sym en.grown) (film_beside script en.middle film (film_same script (history_of seat.seen) en.middle en.beside film stands.kept) e refl refl);
+          kept = subst F (sym en.grown) (film_beside script en.middle film (film_same script (history_of seat.seen) en.middle en.beside film stands.kept) e refl
+              refl);
         }
 
     -- the frames that are finished, after the end of one and after another line
     pub finished_then : (seat seat' : DisplayView) → SeatStands script view place seat → DisplayEnters x.number Finish Done seat seat'
-        → finished script.setup (history_of seat'.seen) ≡ finished script.setup (history_of seat.seen) ++ frame_at script.setup (frames (history_of seat.seen) + 1) (to_begin (history_of seat.seen)) ∷ []
+        → finished script.setup (history_of seat'.seen) ≡ finished script.setup (history_of seat.seen)
+        ++ frame_at script.setup (frames (history_of seat.seen) + 1) (to_begin (history_of seat.seen)) ∷ []
     finished_then seat seat' stands enters =
         let en = enters_as script view place x at of.setup seat seat' stands Finish Done enters in
         ap (finished script.setup) en.grown ∙ sym (next_frame script.setup (history_of seat.seen) en.middle en.beside)
-        ∙ ap (λ (fs : List FrameOut). fs ++ frame_at script.setup (frames (history_of seat.seen) + 1) (to_begin (history_of seat.seen)) ∷ []) en.beside.finishing
+        ∙ ap (λ (fs : List FrameOut). fs ++ frame_at script.setup (frames (history_of seat.seen) + 1) (to_begin (history_of seat.seen)) ∷ [])
+        en.beside.finishing
 
-    pub finished_still : (kind : Kind) (reply : Reply) (seat seat' : DisplayView) → is_finish kind ≡ false → SeatStands script view place seat → DisplayEnters x.number kind reply seat seat'
+    pub finished_still : (kind : Kind) (reply : Reply) (seat seat' : DisplayView) → is_finish kind ≡ false → SeatStands script view place seat
+        → DisplayEnters x.number kind reply seat seat'
         → finished script.setup (history_of seat'.seen) ≡ finished script.setup (history_of seat.seen)
     finished_still kind reply seat seat' no_finish stands enters =
         let en = enters_as script view place x at of.setup seat seat' stands kind reply enters in
         ap (finished script.setup) en.grown ∙ finished-beside script.setup en.middle (entry_of Display x.number [] kind reply) no_finish ∙ en.beside.finishing
 
     -- what is to be published after each
-    pub publishes_then : (seat seat' : DisplayView) → SeatStands script view place seat → DisplayEnters x.number Finish Done seat seat' → FinishesOne script.setup (history_of seat.seen) (history_of seat'.seen)
+    pub publishes_then : (seat seat' : DisplayView) → SeatStands script view place seat → DisplayEnters x.number Finish Done seat seat'
+        → FinishesOne script.setup (history_of seat.seen) (history_of seat'.seen)
     publishes_then seat seat' stands enters =
         let en = enters_as script view place x at of.setup seat seat' stands Finish Done enters in
-        finishes_one script.setup (history_of seat.seen) en.middle (history_of seat'.seen) (entry_of Display x.number [] Finish Done) en.beside en.grown true refl
+        finishes_one script.setup (history_of seat.seen) en.middle (history_of seat'.seen) (entry_of Display x.number [] Finish Done) en.beside en.grown true
+        refl
 
-    pub publishes_still : (kind : Kind) (reply : Reply) (seat seat' : DisplayView) → is_finish kind ≡ false → SeatStands script view place seat → DisplayEnters x.number kind reply seat seat' → FinishesOne script.setup (history_of seat.seen) (history_of seat'.seen)
+    pub publishes_still : (kind : Kind) (reply : Reply) (seat seat' : DisplayView) → is_finish kind ≡ false → SeatStands script view place seat
+        → DisplayEnters x.number kind reply seat seat' → FinishesOne script.setup (history_of seat.seen) (history_of seat'.seen)
     publishes_still kind reply seat seat' no_finish stands enters =
         let en = enters_as script view place x at of.setup seat seat' stands kind reply enters in
-        finishes_one script.setup (history_of seat.seen) en.middle (history_of seat'.seen) (entry_of Display x.number [] kind reply) en.beside en.grown false no_finish
+        finishes_one script.setup (history_of seat.seen) en.middle (history_of seat'.seen) (entry_of Display x.number [] kind reply) en.beside en.grown false
+        no_finish
 
     -- a frame is finished
-    pub hand_finishes : x.body ≡ body.Display display.Done → (frame : FrameView) (seat : DisplayView) (film film' : Film) → HandStands script view place (Open frame) film → DisplayEnters x.number Finish Done frame.display seat
+    pub hand_finishes : x.body ≡ body.Display display.Done → (frame : FrameView) (seat : DisplayView) (film film' : Film)
+        → HandStands script view place (Open frame) film → DisplayEnters x.number Finish Done frame.display seat
         → KeepsNext script (history_of frame.display.seen) (frames (history_of seat.seen)) film film' → HandStands script view (place + 1) (Idle seat) film'
     hand_finishes is frame seat film film' stands enters keeps =
         let e : Entry = entry_of Display x.number [] Finish Done in
@@ -176,15 +197,20 @@ module _ (script : Script) (view : StageView) (place : ℕ) where
           frame = ap is_frame_open en.grown;
           shows = tt;
           changes = tt;
-          kept = subst F (sym en.grown) (film_done script en.middle film (film_same script (history_of frame.display.seen) en.middle en.beside film stands.kept) (history_of frame.display.seen) x.number
+          kept = subst F (sym en.grown) (film_done script en.middle film (film_same script (history_of frame.display.seen) en.middle en.beside film stands.kept)
+              (history_of frame.display.seen) x.number
               (frames (history_of seat.seen)) film' en.beside (ap frames en.grown) keeps);
         }
 
     -- a line that begins no frame and ends none
-    hand_beside : (text : DisplayLine) (kind : Kind) (reply : Reply) → x.body ≡ body.Display text → entry_of_display text ≡ kind → is_begin kind ≡ false → is_finish kind ≡ false
+    hand_beside : (text : DisplayLine) (kind : Kind) (reply : Reply) → x.body ≡ body.Display text → entry_of_display text ≡ kind → is_begin kind ≡ false
+        → is_finish kind ≡ false
         → ((o : Bool) (t : ℕ) (follows : Bool → ℕ → Bool) → keeps_frames o t (body.Display text) follows ≡ follows o t)
-        → (hand hand' : Hand) (film film' : Film) → HandStands script view place hand film → (enters : DisplayEnters x.number kind reply (hand_seat hand) (hand_seat hand')) → is_open hand' ≡ is_open hand → KeepsFrame hand hand' → film'.last.reuse ≡ film.last.reuse
-        → ((middle : List Entry) → FilmStands script middle film → FilmStands script (middle ▹ entry_of Display x.number [] kind reply) film') → HandStands script view (place + 1) hand' film'
+        → (hand hand' : Hand) (film film' : Film) → HandStands script view place hand film
+        → (enters : DisplayEnters x.number kind reply (hand_seat hand) (hand_seat hand')) → is_open hand' ≡ is_open hand → KeepsFrame hand hand'
+        → film'.last.reuse ≡ film.last.reuse
+        → ((middle : List Entry) → FilmStands script middle film → FilmStands script (middle ▹ entry_of Display x.number [] kind reply) film')
+        → HandStands script view (place + 1) hand' film'
     hand_beside text kind reply is makes no_begin no_finish keeps hand hand' film film' stands enters same kept reuse films =
         let e : Entry = entry_of Display x.number [] kind reply in
         let en = enters_as script view place x at of.setup (hand_seat hand) (hand_seat hand') stands.seat kind reply enters in
@@ -192,40 +218,55 @@ module _ (script : Script) (view : StageView) (place : ℕ) where
         let opened : is_frame_open (en.middle ▹ e) ≡ is_frame_open en.middle = rw (no_begin, no_finish) refl in
         let begun : to_begin (en.middle ▹ e) ≡ to_begin en.middle = rw no_begin refl in
         record {
-          seat = seat_beside script view place x at of.setup (hand_seat hand) (hand_seat hand') stands.seat text kind reply actor is makes no_begin no_finish keeps enters;
+          seat = seat_beside script view place x at of.setup (hand_seat hand) (hand_seat hand') stands.seat text kind reply actor is makes no_begin no_finish
+              keeps enters;
           frame = ap is_frame_open en.grown ∙ opened ∙ en.beside.is_open ∙ stands.frame ∙ sym same;
-          shows = shows_same script.setup (history_of (hand_seat hand).seen) (history_of (hand_seat hand').seen) hand hand' (ap to_begin en.grown ∙ begun ∙ en.beside.begun) same kept stands.shows;
+          shows = shows_same script.setup (history_of (hand_seat hand).seen) (history_of (hand_seat hand').seen) hand hand'
+              (ap to_begin en.grown ∙ begun ∙ en.beside.begun) same kept stands.shows;
           changes = changes_same film.last.reuse film'.last.reuse hand hand' reuse same kept stands.changes;
           kept = subst F (sym en.grown) (films en.middle (film_same script (history_of (hand_seat hand).seen) en.middle en.beside film stands.kept));
         }
 
     -- one that leaves points alone too
-    pub hand_alone : (text : DisplayLine) → is_alone text ≡ true → (reply : Reply) → x.body ≡ body.Display text → (hand hand' : Hand) (film : Film) → HandStands script view place hand film → DisplayEnters x.number (entry_of_display text) reply (hand_seat hand) (hand_seat hand') → is_open hand' ≡ is_open hand → KeepsFrame hand hand'
+    pub hand_alone : (text : DisplayLine) → is_alone text ≡ true → (reply : Reply) → x.body ≡ body.Display text → (hand hand' : Hand) (film : Film)
+        → HandStands script view place hand film → DisplayEnters x.number (entry_of_display text) reply (hand_seat hand) (hand_seat hand')
+        → is_open hand' ≡ is_open hand → KeepsFrame hand hand'
         → HandStands script view (place + 1) hand' film
     hand_alone text alone reply is hand hand' film stands enters same kept =
         let e : Entry = entry_of Display x.number [] (entry_of_display text) reply in
-        hand_beside text (entry_of_display text) reply is refl (begins_none text alone) (ends_none text alone) (keeps_alone text alone) hand hand' film film stands enters same kept refl
+        hand_beside text (entry_of_display text) reply is refl (begins_none text alone) (ends_none text alone) (keeps_alone text alone) hand hand' film film
+        stands enters same kept refl
         (λ middle stood. film_beside script middle film stood e (ends_none text alone) (asks_none e _ _ text alone))
 
-    pub hand_hits : (px py : ℤ) → x.body ≡ body.Display (display.Hit px py) → (hand hand' : Hand) (film film' : Film) → HandStands script view place hand film → DisplayEnters x.number (Hit px py) Done (hand_seat hand) (hand_seat hand') → is_open hand' ≡ is_open hand → KeepsFrame hand hand'
+    pub hand_hits : (px py : ℤ) → x.body ≡ body.Display (display.Hit px py) → (hand hand' : Hand) (film film' : Film) → HandStands script view place hand film
+        → DisplayEnters x.number (Hit px py) Done (hand_seat hand) (hand_seat hand') → is_open hand' ≡ is_open hand → KeepsFrame hand hand'
         → film' ≡ record film { last = film'.last; answers = film'.answers } → StaysLast script.setup film.last film'.last
-        → film'.answers ≡ film.answers ++ (record { actor = Display; line = x.number; frame = film.last.frame; hits = hit_list (at_ratio film.last.ratio script.setup) film.last.reuse px py }) ∷ []
+        → film'.answers ≡ film.answers ++ (record {
+          actor = Display;
+          line = x.number;
+          frame = film.last.frame;
+          hits = hit_list (at_ratio film.last.ratio script.setup) film.last.reuse px py;
+        }) ∷ []
         → HandStands script view (place + 1) hand' film'
     hand_hits px py is hand hand' film film' stands enters same kept rest stays gained =
-        hand_beside (display.Hit px py) (Hit px py) Done is refl refl refl (λ o t follows. refl) hand hand' film film' stands enters same kept stays.reuse (λ middle stood. film_point script middle film stood x.number px py film' rest stays gained)
+        hand_beside (display.Hit px py) (Hit px py) Done is refl refl refl (λ o t follows. refl) hand hand' film film' stands enters same kept stays.reuse
+        (λ middle stood. film_point script middle film stood x.number px py film' rest stays gained)
 
     -- ---- what a line asks for
 
-    pub time_fits : DisplayKnowsFrames → SeatsTellActors → JournalsKeepSeats → script.setup.sessions ≤ SESSIONS_MAX → (time : ℕ) → x.body ≡ body.Display (display.Begin time) → (seat : DisplayView) → SeatStands script view place seat → begin_time (history_of seat.mine) ≤ time
+    pub time_fits : DisplayKnowsFrames → SeatsTellActors → JournalsKeepSeats → script.setup.sessions ≤ SESSIONS_MAX → (time : ℕ)
+        → x.body ≡ body.Display (display.Begin time) → (seat : DisplayView) → SeatStands script view place seat → begin_time (history_of seat.mine) ≤ time
     time_fits knows tell keep few time is seat stands =
         let h : List Entry = history_of seat.seen in
         let told : begin_time h ≡ begin_time (history_of seat.mine) =
-        (knows script.setup h stands.legal).time ∙ ap begin_time ((tell script.setup few h stands.legal).display ∙ keep 0 seat.seen ∙ ap history_of (sym stands.mine)) in
+        (knows script.setup h stands.legal).time ∙ ap begin_time
+        ((tell script.setup few h stands.legal).display ∙ keep 0 seat.seen ∙ ap history_of (sym stands.mine)) in
         let fits : nat_le (begin_time h) time ≡ true = and-right (not (is_frame_open h)) _ (begin_time_ok script place x at time is h stands.display) in
         let le : begin_time h ≤ time = grind (arith, nat_tests) in
         omega (arith, le, told)
 
-    pub begins_idle : (time : ℕ) → x.body ≡ body.Display (display.Begin time) → (hand : Hand) (film : Film) → HandStands script view place hand film → is_open hand ≡ false
+    pub begins_idle : (time : ℕ) → x.body ≡ body.Display (display.Begin time) → (hand : Hand) (film : Film) → HandStands script view place hand film
+        → is_open hand ≡ false
     begins_idle time is hand film stands =
         let h : List Entry = history_of (hand_seat hand).seen in
         sym stands.frame ∙ closed_then (is_frame_open h) (and-left _ _ (begin_time_ok script place x at time is h stands.seat.display))
@@ -234,10 +275,12 @@ module _ (script : Script) (view : StageView) (place : ℕ) where
     finishes_open is hand film stands = sym stands.frame ∙ done_ok script place x at is (history_of (hand_seat hand).seen) stands.seat.display
 
   -- the frames are no more than the display has lines
-  pub frames_few : JournalsKeepSeats → is_playable script ≡ true → (seat : DisplayView) → SeatStands script view place seat → frames (history_of seat.seen) + 1 < 4294967296
+  pub frames_few : JournalsKeepSeats → is_playable script ≡ true → (seat : DisplayView) → SeatStands script view place seat
+      → frames (history_of seat.seen) + 1 < 4294967296
   frames_few keep playable seat stands =
       let made_is : made 0 (history_of seat.seen) ≡ length seat.mine =
-      sym (length-filter (λ (e : Entry). seat_number e.actor == 0) (history_of seat.seen)) ∙ ap length (keep 0 seat.seen) ∙ length-reverse (of_seat 0 seat.seen) ∙ ap length (sym stands.mine) in
+      sym (length-filter (λ (e : Entry). seat_number e.actor == 0) (history_of seat.seen)) ∙ ap length (keep 0 seat.seen) ∙ length-reverse (of_seat 0 seat.seen)
+      ∙ ap length (sym stands.mine) in
       let most = few_frames script.setup (history_of seat.seen) stands.legal in
       let spent = stands.spent in
       let lines = by_at_most 0 script.lines in
@@ -245,14 +288,29 @@ module _ (script : Script) (view : StageView) (place : ℕ) where
       omega (arith, made_is, most, spent, lines, all)
 
   -- a line of another actor leaves the compositor as it is
-  pub hand_other : (x : ScriptLine) → At script place x → ((text : DisplayLine) → x.body ≡ body.Display text → ⊥) → (hand : Hand) (film : Film) → HandStands script view place hand film → HandStands script view (place + 1) hand film
+  pub hand_other : (x : ScriptLine) → At script place x → ((text : DisplayLine) → x.body ≡ body.Display text → ⊥) → (hand : Hand) (film : Film)
+      → HandStands script view place hand film → HandStands script view (place + 1) hand film
   hand_other x at other hand film stands = by_body x.body refl
     where
       spent : length (hand_seat hand).mine + lines_by 0 (drop (place + 1) script.lines) ≤ lines_by 0 script.lines
-      spent = let was = stands.seat.spent in let left = ap (lines_by 0) at.left in let more : lines_by 0 (x ∷ drop (place + 1) script.lines) ≡ lines_by 0 (drop (place + 1) script.lines) + cond (seat_number x.actor == 0) 1 0 = grind (arith, common_steps) in omega (arith, was, left, more)
+      spent = let was = stands.seat.spent in let left = ap (lines_by 0) at.left in
+          let more : lines_by 0 (x ∷ drop (place + 1) script.lines) ≡ lines_by 0 (drop (place + 1) script.lines) + cond (seat_number x.actor == 0) 1 0 =
+          grind (arith, common_steps) in omega (arith, was, left, more)
 
       with_display : DisplayStands script (place + 1) (history_of (hand_seat hand).seen) → HandStands script view (place + 1) hand film
-      with_display display = record { seat = record { own = stands.seat.own; mine = stands.seat.mine; legal = stands.seat.legal; display = display; spent = spent }; frame = stands.frame; shows = stands.shows; changes = stands.changes; kept = stands.kept }
+      with_display display = record {
+        seat = record {
+          own = stands.seat.own;
+          mine = stands.seat.mine;
+          legal = stands.seat.legal;
+          display = display;
+          spent = spent;
+        };
+        frame = stands.frame;
+        shows = stands.shows;
+        changes = stands.changes;
+        kept = stands.kept;
+      }
 
       by_body : (b : Body) → x.body ≡ b → HandStands script view (place + 1) hand film
       by_body (body.Display text) is = absurd (other text is)
@@ -266,15 +324,18 @@ actor_of setup Display text played = refl
 actor_of setup (Session s) text played = absurd (cc)
 actor_of setup (Probe p) text played = absurd (cc)
 
-pub display_line_at : (script : Script) (place : ℕ) (x : ScriptLine) → At script place x → slice_get script.lines place ≡ Some x → (text : DisplayLine) → x.body ≡ body.Display text
+pub display_line_at : (script : Script) (place : ℕ) (x : ScriptLine) → At script place x → slice_get script.lines place ≡ Some x → (text : DisplayLine)
+    → x.body ≡ body.Display text
     → slice_get script.lines place ≡ Some (record { number = x.number; actor = Display; body = body.Display text })
 display_line_at script place x at here text is =
     let who : x.actor ≡ Display = actor_of script.setup x.actor text (ap (is_played script.setup x.actor) (sym is) ∙ at.played) in
-    here ∙ ap (λ (a : Actor). let l : ScriptLine = record { number = x.number; actor = a; body = x.body } in Some l) who ∙ ap (λ (b : Body). let l : ScriptLine = record { number = x.number; actor = Display; body = b } in Some l) is
+    here ∙ ap (λ (a : Actor). let l : ScriptLine = record { number = x.number; actor = a; body = x.body } in Some l) who
+    ∙ ap (λ (b : Body). let l : ScriptLine = record { number = x.number; actor = Display; body = b } in Some l) is
 
 -- ---- before the first line, and behind the last
 
-pub hand_starts : (script : Script) (view : StageView) (seat : DisplayView) (film : Film) → is_playable script ≡ true → seat ≡ record { stage = view; seen = []; mine = [] } → FilmStands script [] film → HandStands script view 0 (Idle seat) film
+pub hand_starts : (script : Script) (view : StageView) (seat : DisplayView) (film : Film) → is_playable script ≡ true
+    → seat ≡ record { stage = view; seen = []; mine = [] } → FilmStands script [] film → HandStands script view 0 (Idle seat) film
 hand_starts script view seat film playable is kept =
     let P : DisplayView → Type 0 = λ s. HandStands script view 0 (Idle s) film in
     subst P (sym is) (record {
@@ -288,14 +349,18 @@ hand_starts script view seat film playable is kept =
 pub hand_ends : (script : Script) (view : StageView) (hand : Hand) (film : Film) → HandStands script view (length script.lines) hand film → is_open hand ≡ false
 hand_ends script view hand film stands =
     let h : List Entry = history_of (hand_seat hand).seen in
-    let closed : not (is_frame_open h) ≡ true = ap (frames_close (is_frame_open h) (begin_time h)) (sym (drop_all script.lines)) ∙ stands.seat.display.closing in
+    let closed : not (is_frame_open h) ≡ true = ap (frames_close (is_frame_open h) (begin_time h)) (sym (drop_all script.lines))
+    ∙ stands.seat.display.closing in
     sym stands.frame ∙ closed_then (is_frame_open h) closed
 
-pub seen_there : {D : Type 0} (told : D → Option (List FrameOut)) (count : D → ℕ) (setup : Setup) (h h' : List Entry) (lost : List Lost) (olds news : List D) → h ≡ h' → HaveSeen told count (finished setup h) h lost olds news → HaveSeen told count (finished setup h') h' lost olds news
-seen_there told count setup h h' lost olds news same seen = let P : List Entry → Type 0 = λ es. HaveSeen told count (finished setup es) es lost olds news in subst P same seen
+pub seen_there : {D : Type 0} (told : D → Option (List FrameOut)) (count : D → ℕ) (setup : Setup) (h h' : List Entry) (lost : List Lost) (olds news : List D)
+    → h ≡ h' → HaveSeen told count (finished setup h) h lost olds news → HaveSeen told count (finished setup h') h' lost olds news
+seen_there told count setup h h' lost olds news same seen = let P : List Entry → Type 0 =
+    λ es. HaveSeen told count (finished setup es) es lost olds news in subst P same seen
 
 -- what was shown, by other names of the frames before and after
-pub shown_as : {D : Type 0} (told : D → Option (List FrameOut)) (count : D → ℕ) (old old' new new' : List FrameOut) (set set' : Driven) (olds news : List D) → old' ≡ old → new' ≡ new → IsShown told count old new set set' olds news → IsShown told count old' new' set set' olds news
+pub shown_as : {D : Type 0} (told : D → Option (List FrameOut)) (count : D → ℕ) (old old' new new' : List FrameOut) (set set' : Driven) (olds news : List D)
+    → old' ≡ old → new' ≡ new → IsShown told count old new set set' olds news → IsShown told count old' new' set set' olds news
 shown_as told count old old' new new' set set' olds news old_is new_is shown =
     let P : List FrameOut → Type 0 = λ fs. IsShown told count fs new set set' olds news in
     let Q : List FrameOut → Type 0 = λ fs. IsShown told count old' fs set set' olds news in
@@ -304,7 +369,8 @@ shown_as told count old old' new new' set set' olds news old_is new_is shown =
 -- ---- once the last frame is published
 
 -- whatever was joined of the last frame
-pub hand_last : (script : Script) (view : StageView) (place : ℕ) (hand : Hand) (film film' : Film) → film' ≡ record film { last = film'.last } → StaysLast script.setup film.last film'.last → HandStands script view place hand film → HandStands script view place hand film'
+pub hand_last : (script : Script) (view : StageView) (place : ℕ) (hand : Hand) (film film' : Film) → film' ≡ record film { last = film'.last }
+    → StaysLast script.setup film.last film'.last → HandStands script view place hand film → HandStands script view place hand film'
 hand_last script view place hand film film' rest stays stands =
     let F : Film → Type 0 = HandStands script view place hand in
     let K : Shown → Type 0 = λ last. KnowsChanges last hand in
@@ -316,6 +382,12 @@ hand_last script view place hand film film' rest stays stands =
       changes = subst K (sym stays.reuse) stands.changes;
       kept = record {
         keeps = stands.kept.keeps;
-        answering = record { number = ap (λ (f : FrameNo). f.0) stays.frame ∙ was.number; is_last = stays.is; showing = stays.reuse ∙ was.showing; scaling = stays.ratio ∙ was.scaling; answering = was.answering };
+        answering = record {
+          number = ap (λ (f : FrameNo). f.0) stays.frame ∙ was.number;
+          is_last = stays.is;
+          showing = stays.reuse ∙ was.showing;
+          scaling = stays.ratio ∙ was.scaling;
+          answering = was.answering;
+        };
       };
     })

@@ -8,7 +8,8 @@ use Rattle.flat_play.specs.Last.{StaysLast}
 use Rattle.flat_actors.specs.declared.film.Film.{Film}
 use Rattle.flat_actors.specs.Directing.{KeepsNext}
 
-pub keeps-joined : (script : Script) (history : List Entry) (after : ℕ) (old : Film) (taken : LastFrame) (new : Film) (then : LastFrame) → KeepsNext script history after (record old { last = taken }) new
+pub keeps-joined : (script : Script) (history : List Entry) (after : ℕ) (old : Film) (taken : LastFrame) (new : Film) (then : LastFrame)
+    → KeepsNext script history after (record old { last = taken }) new
     → StaysLast script.setup new.last then → KeepsNext script history after old (record new { last = then })
 keeps-joined script history after old taken new then keeps stays = record {
   frame = keeps.frame;

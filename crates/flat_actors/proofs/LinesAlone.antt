@@ -37,7 +37,8 @@ asks_none e n hits (display.Hit x y) alone = absurd (cc)
 asks_none e n hits (display.Dpr ratio) alone = refl
 
 -- what the display may wait for
-wait_fits : (setup : Setup) (c : Cond) → is_played_display setup (display.Wait c) ≡ true → (display_may (Wait c) ≡ true) × (names_declared setup (Wait c) ≡ true)
+wait_fits : (setup : Setup) (c : Cond) → is_played_display setup (display.Wait c) ≡ true
+    → (display_may (Wait c) ≡ true) × (names_declared setup (Wait c) ≡ true)
 wait_fits setup (asks.Presents s n) played = (refl, played)
 wait_fits setup (asks.Fence f) played = (refl, played)
 wait_fits setup (asks.Frames n) played = absurd (cc)
@@ -46,7 +47,8 @@ wait_fits setup (asks.Taken n) played = absurd (cc)
 wait_fits setup (asks.Answers n) played = absurd (cc)
 
 -- and what it may enter
-pub alone_fits : (setup : Setup) (text : DisplayLine) → is_alone text ≡ true → is_played_display setup text ≡ true → (display_may (entry_of_display text) ≡ true) × (names_declared setup (entry_of_display text) ≡ true)
+pub alone_fits : (setup : Setup) (text : DisplayLine) → is_alone text ≡ true → is_played_display setup text ≡ true
+    → (display_may (entry_of_display text) ≡ true) × (names_declared setup (entry_of_display text) ≡ true)
 alone_fits setup (display.Begin time) alone played = absurd (cc)
 alone_fits setup display.Done alone played = absurd (cc)
 alone_fits setup (display.Signal f) alone played = (refl, played)
@@ -55,7 +57,8 @@ alone_fits setup (display.Hit x y) alone played = absurd (cc)
 alone_fits setup (display.Dpr ratio) alone played = (refl, played)
 
 -- where it may enter a wait, it may look
-pub may_wait : (setup : Setup) (text : DisplayLine) (c : Cond) → text ≡ display.Wait c → display_may (entry_of_display text) ≡ true → names_declared setup (entry_of_display text) ≡ true → MayLook setup Display c
+pub may_wait : (setup : Setup) (text : DisplayLine) (c : Cond) → text ≡ display.Wait c → display_may (entry_of_display text) ≡ true
+    → names_declared setup (entry_of_display text) ≡ true → MayLook setup Display c
 may_wait setup text c is acts named =
     let A : DisplayLine → Type 0 = λ t. display_may (entry_of_display t) ≡ true in
     let N : DisplayLine → Type 0 = λ t. names_declared setup (entry_of_display t) ≡ true in
@@ -65,7 +68,8 @@ may_wait setup text c is acts named =
 pub room_there : (old new : DisplayView) → DisplaySees old new → HasDisplayRoom old → HasDisplayRoom new
 room_there old new sees room = let R : DisplayView → Type 0 = HasDisplayRoom in subst R (sym sees.rest) room
 
-pub named_there : (view : StageView) (kind : Kind) (old new : DisplayView) → DisplaySees old new → old.stage ≡ view → names_declared (setup_of view) kind ≡ true → names_declared (setup_of new.stage) kind ≡ true
+pub named_there : (view : StageView) (kind : Kind) (old new : DisplayView) → DisplaySees old new → old.stage ≡ view → names_declared (setup_of view) kind ≡ true
+    → names_declared (setup_of new.stage) kind ≡ true
 named_there view kind old new sees own named =
     let N : StageView → Type 0 = λ v. names_declared (setup_of v) kind ≡ true in
     subst N (sym own ∙ sym (ap (λ (d : DisplayView). d.stage) sees.rest)) named

@@ -13,7 +13,8 @@ use Rattle.flat_rules.specs.Legal.{Legal}
 use Rattle.flat_stage.specs.Displays.{DisplayEnters, DisplayView}
 use Rattle.flat_stage.specs.Seats.{setup_of}
 
-pub point_done : (number : ℕ) (x y : ℤ) (reply : Reply) (old new : DisplayView) → DisplayEnters number (Hit x y) reply old new → DisplayEnters number (Hit x y) Done old new
+pub point_done : (number : ℕ) (x y : ℤ) (reply : Reply) (old new : DisplayView) → DisplayEnters number (Hit x y) reply old new
+    → DisplayEnters number (Hit x y) Done old new
 point_done number x y reply old new enters =
     let entry : Entry = entry_of Display number [] (Hit x y) reply in
     let all : List Entry = old.seen ++ enters.one.between in

@@ -12,8 +12,10 @@ use Rattle.flat_actors.specs.declared.hand.Hand.{Hand}
 use Rattle.flat_actors.specs.Directing.{HandStands, HasStopped, hand_seat}
 
 -- what it holds comes back, and displays are as they were
-pub stopped_at : {D : Type 0} (told : D → Option (List FrameOut)) (count : D → ℕ) (script : Script) (view : StageView) (place : ℕ) (hand back : Hand) → back ≡ hand → (film : Film) → HandStands script view place hand film → (lost : List Lost) (olds mids news : List D) → news ≡ mids
-    → HaveSeen told count (finished script.setup (history_of (hand_seat hand).seen)) (history_of (hand_seat hand).seen) lost olds mids → HasStopped told count script view (hand_seat back) olds news
+pub stopped_at : {D : Type 0} (told : D → Option (List FrameOut)) (count : D → ℕ) (script : Script) (view : StageView) (place : ℕ) (hand back : Hand)
+    → back ≡ hand → (film : Film) → HandStands script view place hand film → (lost : List Lost) (olds mids news : List D) → news ≡ mids
+    → HaveSeen told count (finished script.setup (history_of (hand_seat hand).seen)) (history_of (hand_seat hand).seen) lost olds mids
+    → HasStopped told count script view (hand_seat back) olds news
 stopped_at {D} told count script view place hand back same film stands lost olds mids news same_displays seen =
     let H : Hand → Type 0 = λ h. HasStopped told count script view (hand_seat h) olds news in
     let N : List D → Type 0 = λ ds. HasStopped told count script view (hand_seat hand) olds ds in

@@ -10,14 +10,16 @@ use Rattle.flat_actors.specs.Sessions.{SessionStands}
 -- of some lines, the first of which stands at this place
 abbrev pub places_from : SessionNo → ℕ → List ScriptLine → List ℕ
 places_from s first [] = []
-places_from s first (next ∷ later) = cond (is_session s next.actor) (first ∷ places_from s (suc first) later) (places_from s (suc first) later)
+places_from s first (next ∷ later) = cond (is_session s next.actor) (first ∷ places_from s (suc first) later)
+    (places_from s (suc first) later)
 
 -- of all lines of a script
 abbrev pub own_places : SessionNo → List ScriptLine → List ℕ
 own_places s lines = places_from s 0 lines
 
 -- A session's seat stands behind some of its lines, and before the first of those that are left.
-pub record StandsBefore (script : Script) (view : StageView) (s : SessionNo) (left : List ℕ) (seat : SessionView) : Type 0 where
+pub record StandsBefore (script : Script) (view : StageView) (s : SessionNo) (left : List ℕ) (seat : SessionView) : Type
+    0 where
   pub place : ℕ
   pub within : place ≤ length script.lines
   pub stands : SessionStands script view s place seat

@@ -20,9 +20,11 @@ asked_line number actor asked = record { number = number; actor = actor; body = 
 
 -- A probe's lines before a place of the script are answered by the frames that it saw.
 abbrev pub ProbeStands : Script → ℕ → ℕ → Seen → List ProbeAnswer → Type 0
-ProbeStands script p place probe answers = AreAnsweredBy (hits_of probe.frames) (last_number probe.frames) (probe_lines_of p (take place script.lines)) answers
+ProbeStands script p place probe answers =
+    AreAnsweredBy (hits_of probe.frames) (last_number probe.frames) (probe_lines_of p (take place script.lines)) answers
 
 -- A probe comes back, of the same book. Where it came to its end, its lines are answered by the frames that it saw.
 pub record HasAsked (script : Script) (book : Book) (p : ℕ) (back : ProbeBack) : Type 0 where
   pub home : back.probe.home ≡ book
-  pub answered : back.is_whole ≡ true → AreAnsweredBy (hits_of back.probe.frames) (last_number back.probe.frames) (probe_lines_of p script.lines) back.answers
+  pub answered : back.is_whole ≡ true → AreAnsweredBy (hits_of back.probe.frames) (last_number back.probe.frames)
+      (probe_lines_of p script.lines) back.answers

@@ -27,7 +27,9 @@ shown_frame setup n begun = frame n (joined_lists (setup_at setup begun) (shown_
 -- all finished frames, in order, as they are published
 abbrev pub published_frames : Setup → List Entry → List Frame
 published_frames setup [] = []
-published_frames setup (before ▹ entry) = published_frames setup before ++ cond (is_finish entry.kind) (shown_frame setup (suc (frames before)) (to_begin before) ∷ []) []
+published_frames setup (before ▹ entry) =
+    published_frames setup before ++ cond (is_finish entry.kind)
+    (shown_frame setup (suc (frames before)) (to_begin before) ∷ []) []
 
 -- who is hit at a point in the frame of a number among these; nobody where there is none of it
 abbrev pub hits_of : List Frame → ℕ → ℤ → ℤ → List Hit
@@ -46,10 +48,13 @@ pub record PublishedStand (script : Script) (history : List Entry) (published : 
 abbrev pub FinishesOne : Setup → List Entry → List Entry → Type 0
 FinishesOne setup before after =
     ((frames after ≡ frames before) × (published_frames setup after ≡ published_frames setup before))
-    ⊎ ((frames after ≡ suc (frames before)) × (published_frames setup after ≡ published_frames setup before ++ shown_frame setup (frames after) (to_finished after) ∷ []))
+    ⊎ ((frames after ≡ suc (frames before))
+    × (published_frames setup after ≡ published_frames setup before
+    ++ shown_frame setup (frames after) (to_finished after) ∷ []))
 
 -- The last frame is published where it is a later one than that of this number and there are probes; else all stays.
 abbrev pub PublishesLast : Setup → ℕ → LastFrame → publish.Publishing → publish.Publishing → Type 0
 PublishesLast setup before last old new =
     ((new ≡ old) × ((setup.probes ≡ 0) ⊎ (last.frame.0 ≤ before)))
-    ⊎ ((before < last.frame.0) × (new.given ≡ last.frame.0) × Publishes old (frame last.frame.0 (joined_lists (at_ratio last.ratio setup) last.reuse)) new)
+    ⊎ ((before < last.frame.0) × (new.given ≡ last.frame.0)
+    × Publishes old (frame last.frame.0 (joined_lists (at_ratio last.ratio setup) last.reuse)) new)

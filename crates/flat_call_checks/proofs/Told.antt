@@ -28,7 +28,8 @@ play_alone Why same = absurd (let wrong : true ≡ false = ap (λ ws. second ws 
 play_alone Film same = absurd (let wrong : true ≡ false = ap (λ ws. second ws == 108) same in cc)
 
 module _ {D : Type 0} (shown : D → Option (List FrameOut)) (faults : D → ℕ) (olds news : List D) (bytes after : List ℕ) where
-  answer_told : (words : List (List ℕ)) → words ≡ words_of Play → (status : ℕ) → status ≡ 0 → (text : List ℕ) → IsAnswer shown faults olds news words (Some bytes) (Some after) status text → Tells Play bytes text
+  answer_told : (words : List (List ℕ)) → words ≡ words_of Play → (status : ℕ) → status ≡ 0 → (text : List ℕ)
+      → IsAnswer shown faults olds news words (Some bytes) (Some after) status text → Tells Play bytes text
   answer_told words play status is_0 text (IsAnswer.usage nothing same) = absurd (omega (arith, is_0))
   answer_told words play status is_0 text (IsAnswer.refusal form calls read refused same) = absurd (omega (arith, is_0))
   answer_told words play status is_0 text (IsAnswer.too_large form read calls all large same) = absurd (omega (arith, is_0))
@@ -41,7 +42,8 @@ module _ {D : Type 0} (shown : D → Option (List FrameOut)) (faults : D → ℕ
       subst B (sym all.0) (subst (λ (f : Form). Tells f read text) is told.0)
 
   -- it stands in a vector that was empty
-  pub play_told : (words : List (List ℕ)) → words ≡ words_of Play → (found : List ℕ) → found ≡ bytes → (before : List ℕ) → before ≡ [] → (held given : List ℕ) → given ≡ held → (status : ℕ) → status ≡ 0
+  pub play_told : (words : List (List ℕ)) → words ≡ words_of Play → (found : List ℕ) → found ≡ bytes → (before : List ℕ) → before ≡ [] → (held given : List ℕ)
+      → given ≡ held → (status : ℕ) → status ≡ 0
       → IsWhole shown faults olds news words (Some found) (Some after) (Some before) (Some held) status → Tells Play bytes given
   play_told words play found same before none held given is status is_0 all =
       let F : List ℕ → Type 0 = λ b. IsWhole shown faults olds news words (Some b) (Some after) (Some before) (Some held) status in

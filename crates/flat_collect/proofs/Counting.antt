@@ -1,5 +1,6 @@
 -- Keys that stand once each and have nodes are no more than the nodes, and are all of them where they are as many.
-use Rattle.std.proofs.Common.{ℕ, zero, suc, ◌+◌, ◌<◌, ◌≤◌, ◌≡◌, ◌≢◌, ◌⊎◌, inl, inr, refl, sym, subst, Bool, true, false, cond, List, [], ◌∷◌, length, map, Option, Some, None, slice_set, arith}
+use Rattle.std.proofs.Common.{ℕ, zero, suc, ◌+◌, ◌<◌, ◌≤◌, ◌≡◌, ◌≢◌, ◌⊎◌, inl, inr, refl, sym, subst, Bool, true, false, cond, List, [], ◌∷◌, length, map}
+use Rattle.std.proofs.Common.{Option, Some, None, slice_set, arith}
 use Rattle.std.specs.Prelude.{◌==◌, is_some, count_by}
 use Rattle.std.specs.List.{Contains}
 use Rattle.std.proofs.lemmas.List.Sums.{sum_by-cons}
@@ -50,12 +51,14 @@ no-more [] nodes once kept = omega arith
 no-more (key ∷ keys) nodes once kept =
     omega (arith, count-less nodes key (kept key (0, omega arith, refl)), no-more keys (slice_set nodes key None) once.1 (left-kept key keys nodes once kept))
 
-pub all-listed : (keys : List ℕ) (nodes : Slots) → IsOnce keys → AreKept nodes keys → length keys ≡ count_by is_some nodes → (k : ℕ) → IsKept nodes k → Contains keys k
+pub all-listed : (keys : List ℕ) (nodes : Slots) → IsOnce keys → AreKept nodes keys → length keys ≡ count_by is_some nodes → (k : ℕ) → IsKept nodes k
+    → Contains keys k
 all-listed [] nodes once kept many k there = absurd (none-kept nodes (sym many) k there)
 all-listed (key ∷ keys) nodes once kept many k there =
     by_key (eqb_tells k key)
     (λ apart.
-    all-listed keys (slice_set nodes key None) once.1 (left-kept key keys nodes once kept) (omega (arith, many, count-less nodes key (kept key (0, omega arith, refl)))) k
+    all-listed keys (slice_set nodes key None) once.1 (left-kept key keys nodes once kept)
+    (omega (arith, many, count-less nodes key (kept key (0, omega arith, refl)))) k
     (kept-other nodes key k apart there))
   where
     by_key : ((◌≡◌ (k == key) true) × (k ≡ key)) ⊎ ((◌≡◌ (k == key) false) × (k ≢ key)) → (k ≢ key → Contains keys k) → Contains (key ∷ keys) k
@@ -82,7 +85,8 @@ named-above b (name ∷ names) below id key named = by_test (name.id == id) refl
     by_test true e named' later = let same : name.id ≡ id = grind (arith, nat_tests) in omega (arith, same, below.0)
     by_test false e named' later = later named'
 
-later-named : (name : Named) (names : List Named) → IsBelowAll name.id names → (id key : ℕ) → key_named names id ≡ Some key → key_named (name ∷ names) id ≡ Some key
+later-named : (name : Named) (names : List Named) → IsBelowAll name.id names → (id key : ℕ) → key_named names id ≡ Some key
+    → key_named (name ∷ names) id ≡ Some key
 later-named name names below id key named = by_test (name.id == id) refl (named-above name.id names below id key named)
   where
     by_test : (b : Bool) → (name.id == id) ≡ b → name.id < id → cond b (Some name.key) (key_named names id) ≡ Some key
@@ -100,7 +104,8 @@ pub named-listed : (names : List Named) (id key : ℕ) → key_named names id �
 named-listed [] id key named = absurd (cc)
 named-listed (name ∷ names) id key named = by_test (name.id == id) named (named-listed names id key)
   where
-    by_test : (b : Bool) → cond b (Some name.key) (key_named names id) ≡ Some key → (key_named names id ≡ Some key → Contains (keys_of names) key) → Contains (keys_of (name ∷ names)) key
+    by_test : (b : Bool) → cond b (Some name.key) (key_named names id) ≡ Some key → (key_named names id ≡ Some key → Contains (keys_of names) key)
+        → Contains (keys_of (name ∷ names)) key
     by_test true named' later = let same : name.key ≡ key = cc in (0, omega arith, same)
     by_test false named' later = contains-later name.key (keys_of names) key (later named')
 

@@ -9,7 +9,8 @@ use Rattle.flat_collect.specs.Sweep.{IsReached, IsStart, IsSwept}
 
 abbrev before : GraphState
 before = record {
-  nodes = Some (record (new_node 1) { children = 1 ∷ [] }) ∷ Some (new_node 2) ∷ Some (new_node 3) ∷ Some (record (new_node 4) { children = 4 ∷ [] }) ∷ Some (record (new_node 5) { children = 3 ∷ [] }) ∷ [];
+  nodes = Some (record (new_node 1) { children = 1 ∷ [] }) ∷ Some (new_node 2) ∷ Some (new_node 3) ∷ Some (record (new_node 4) { children = 4 ∷ [] })
+      ∷ Some (record (new_node 5) { children = 3 ∷ [] }) ∷ [];
   names = (record { id = 6; key = 2 }) ∷ [];
   root = Some 0;
   made = 5;

@@ -1,5 +1,6 @@
 -- What is found is what is reached.
-use Rattle.std.proofs.Common.{ℕ, zero, suc, ◌+◌, ◌-◌, ◌<◌, ◌≤◌, ◌≡◌, ◌⊎◌, inl, inr, refl, sym, ◌∙◌, ap, subst, List, [], ◌∷◌, ◌++◌, length, Option, Some, None, slice_get, slice_index_or, arith, length-append}
+use Rattle.std.proofs.Common.{ℕ, zero, suc, ◌+◌, ◌-◌, ◌<◌, ◌≤◌, ◌≡◌, ◌⊎◌, inl, inr, refl, sym, ◌∙◌, ap, subst, List, [], ◌∷◌, ◌++◌, length, Option, Some, None}
+use Rattle.std.proofs.Common.{slice_get, slice_index_or, arith, length-append}
 use Rattle.std.specs.Prelude.{is_some, count_by, option_to_list}
 use Rattle.std.specs.List.{Contains}
 use Rattle.std.proofs.lemmas.Bool.{cases_lt}
@@ -32,7 +33,12 @@ module _ (graph : GraphState) where
 
   pub reached-child : (key child : ℕ) → IsReached graph key → Contains (links_in graph key) child → IsReached graph child
   reached-child key child reached has =
-      record { start = reached.start; is_start = reached.is_start; steps = suc reached.steps; walk = walk-more (links_in graph) reached.steps reached.start key child reached.walk has }
+      record {
+        start = reached.start;
+        is_start = reached.is_start;
+        steps = suc reached.steps;
+        walk = walk-more (links_in graph) reached.steps reached.start key child reached.walk has;
+      }
 
   pub start-kept : (key : ℕ) → IsSound graph → IsStart graph key → IsKept graph.nodes key
   start-kept key sound (inl root) = sound.root_kept key root
@@ -53,7 +59,8 @@ module _ (graph : GraphState) where
   pub name-start : (key : ℕ) → IsSound graph → Contains (keys_of graph.names) key → IsStart graph key
   name-start key sound has = inr (listed-named graph.names sound.rising key has)
 
-  pub finding-begin : (empty rooted found : Reached) → IsSound graph → ((key : ℕ) → IsKept graph.nodes key → key < length empty.marks.items) → empty.keys.items ≡ [] → IsListed empty
+  pub finding-begin : (empty rooted found : Reached) → IsSound graph → ((key : ℕ) → IsKept graph.nodes key → key < length empty.marks.items)
+      → empty.keys.items ≡ [] → IsListed empty
       → Adds (option_to_list graph.root) empty rooted → Adds (keys_of graph.names) rooted found → IsFinding graph found 0
   finding-begin empty rooted found sound within none listed a b = record {
     listed = b.listed;
@@ -86,14 +93,16 @@ module _ (graph : GraphState) where
   get-left (x ∷ xs) ys zero low = refl
   get-left (x ∷ xs) ys (suc i) low = get-left xs ys i (omega (arith, low))
 
-  pub finding-more : (old new : Reached) (done key : ℕ) → IsFinding graph old done → slice_get old.keys.items done ≡ Some key → Adds (links_in graph key) old new → IsFinding graph new (done + 1)
+  pub finding-more : (old new : Reached) (done key : ℕ) → IsFinding graph old done → slice_get old.keys.items done ≡ Some key
+      → Adds (links_in graph key) old new → IsFinding graph new (done + 1)
   finding-more old new done key f next adds = record {
     listed = adds.listed;
     covers = λ k kept. let low : k < length old.marks.items = f.covers k kept in rw adds.places low;
     starts = λ k starts. adds.kept k (f.starts k starts);
     reached = λ k marked. by_sort k (adds.only k marked);
     closed = λ i k child less is has. closed i k child less (cases_lt i done) (sym (same i less) ∙ is) has;
-    within = let low : done < length old.keys.items = slice_get_within old.keys.items done key next in rw (adds.behind, length-append old.keys.items adds.later) (omega (arith, low));
+    within = let low : done < length old.keys.items = slice_get_within old.keys.items done key next in
+        rw (adds.behind, length-append old.keys.items adds.later) (omega (arith, low));
   }
     where
       by_sort : (k : ℕ) → IsMarked old.marks.items k ⊎ Contains (links_in graph key) k → IsReached graph k
@@ -105,7 +114,8 @@ module _ (graph : GraphState) where
           let low : done < length old.keys.items = slice_get_within old.keys.items done key next in
           ap (λ (keys : List ℕ). slice_get keys i) adds.behind ∙ get-left old.keys.items adds.later i (omega (arith, low, less))
 
-      closed : (i k child : ℕ) → i < done + 1 → (i < done) ⊎ (done ≤ i) → slice_get old.keys.items i ≡ Some k → Contains (links_in graph k) child → IsMarked new.marks.items child
+      closed : (i k child : ℕ) → i < done + 1 → (i < done) ⊎ (done ≤ i) → slice_get old.keys.items i ≡ Some k → Contains (links_in graph k) child
+          → IsMarked new.marks.items child
       closed i k child low (inl less) is has = adds.kept child (f.closed i k child less is has)
       closed i k child low (inr high) is has =
           let last : i ≡ done = omega (arith, low, high) in
@@ -136,11 +146,14 @@ module _ (graph : GraphState) where
 
   -- what is found is no more than the nodes
   pub finding-few : (found : Reached) (done : ℕ) → IsSound graph → IsFinding graph found done → length found.keys.items ≤ count_by is_some graph.nodes
-  finding-few found done sound f = no-more found.keys.items graph.nodes f.listed.once (λ key has. reached-kept key sound (f.reached key (f.listed.marked key has)))
+  finding-few found done sound f = no-more found.keys.items graph.nodes f.listed.once
+      (λ key has. reached-kept key sound (f.reached key (f.listed.marked key has)))
 
   -- the list has more keys, and so there are more nodes
-  pub finding-smaller : (found : Reached) (done : ℕ) → IsSound graph → IsFinding graph found done → done < length found.keys.items → count_by is_some graph.nodes - (done + 1) < count_by is_some graph.nodes - done
-  finding-smaller found done sound f more = let few : length found.keys.items ≤ count_by is_some graph.nodes = finding-few found done sound f in omega (arith, few, more)
+  pub finding-smaller : (found : Reached) (done : ℕ) → IsSound graph → IsFinding graph found done → done < length found.keys.items
+      → count_by is_some graph.nodes - (done + 1) < count_by is_some graph.nodes - done
+  finding-smaller found done sound f more = let few : length found.keys.items ≤ count_by is_some graph.nodes =
+      finding-few found done sound f in omega (arith, few, more)
 
 pub next-key : (keys : List ℕ) (i key : ℕ) → i < length keys → key ≡ slice_index_or keys i key → slice_get keys i ≡ Some key
 next-key keys i key low is = slice_get_read keys (length keys) i key refl low is

@@ -1,5 +1,6 @@
 -- What a walk and a search say of the unfolded tree.
-use Rattle.std.proofs.Common.{ℕ, zero, suc, ◌+◌, ◌<◌, ◌≤◌, ◌≡◌, ◌⊎◌, inl, inr, refl, sym, ◌∙◌, subst, ◌||◌, List, [], ◌∷◌, Option, Some, None, slice_get, arith, zero-add}
+use Rattle.std.proofs.Common.{ℕ, zero, suc, ◌+◌, ◌<◌, ◌≤◌, ◌≡◌, ◌⊎◌, inl, inr, refl, sym, ◌∙◌, subst, ◌||◌, List, [], ◌∷◌, Option, Some, None, slice_get, arith}
+use Rattle.std.proofs.Common.{zero-add}
 use Rattle.std.specs.Prelude.{nat_lt, IsTrue, IsFalse}
 use Rattle.std.specs.List.{Contains}
 use Rattle.std.proofs.lemmas.Bool.Decides.{nat_tests}
@@ -19,16 +20,19 @@ height-trees f (p ∷ places) (suc i) place h = let step : 1 + height (f place) 
 
 module _ (links : ℕ → List ℕ) where
   -- a walk is a path of the unfolded forest
-  walk-high : (steps levels : ℕ) (places : List ℕ) (a b : ℕ) → Contains places a → Walk links steps a b → steps < levels → steps < height (unfolded links levels places)
+  walk-high : (steps levels : ℕ) (places : List ℕ) (a b : ℕ) → Contains places a → Walk links steps a b → steps < levels
+      → steps < height (unfolded links levels places)
   unfolding unfolded
   walk-high steps zero places a b has walk few = absurd (omega arith)
   walk-high zero (suc levels) places a b has walk few =
       let at = at_contained places a has in
-      let step : 1 + height (unfolded links levels (links a)) ≤ height (trees (λ p. unfolded links levels (links p)) places) = height-trees (λ p. unfolded links levels (links p)) places at.0 a at.1 in
+      let step : 1 + height (unfolded links levels (links a)) ≤ height (trees (λ p. unfolded links levels (links p)) places) =
+      height-trees (λ p. unfolded links levels (links p)) places at.0 a at.1 in
       omega (arith, step)
   walk-high (suc steps) (suc levels) places a b has walk few =
       let at = at_contained places a has in
-      let step : 1 + height (unfolded links levels (links a)) ≤ height (trees (λ p. unfolded links levels (links p)) places) = height-trees (λ p. unfolded links levels (links p)) places at.0 a at.1 in
+      let step : 1 + height (unfolded links levels (links a)) ≤ height (trees (λ p. unfolded links levels (links p)) places) =
+      height-trees (λ p. unfolded links levels (links p)) places at.0 a at.1 in
       let next : steps < height (unfolded links levels (links a)) = walk-high steps levels (links a) walk.0 b walk.1 walk.2 (omega arith) in
       omega (arith, step, next)
 
@@ -78,7 +82,8 @@ pub good_walked : (graph : GraphState) (root nodes : ℕ) (viewports : List ℕ)
     → IsWalked (below (links_in graph) 64 (root ∷ [])) (viewport_in graph) 64 0 [] nodes viewports → IsGood graph nodes viewports
 good_walked graph root nodes viewports e w = record {
   acyclic = λ cyclic. none cyclic.0 (sym cyclic.1 ∙ e) cyclic.2;
-  small = rw (rooted_tree graph root e) (small_enough (size (below (links_in graph) 64 (root ∷ []))) (height (below (links_in graph) 64 (root ∷ []))) (omega (arith, w.counted, w.few)) w.short);
+  small = rw (rooted_tree graph root e) (small_enough (size (below (links_in graph) 64 (root ∷ []))) (height (below (links_in graph) 64 (root ∷ [])))
+      (omega (arith, w.counted, w.few)) w.short);
   counted = rw (rooted_tree graph root e) (omega (arith, w.counted));
   listed = rw (rooted_tree graph root e) w.listed;
 }
@@ -90,8 +95,10 @@ good_walked graph root nodes viewports e w = record {
         absurd (omega (arith, high, w.short))
 
 pub large_walked : (graph : GraphState) (root : ℕ) → graph.root ≡ Some root
-    → (64 < height (below (links_in graph) 64 (root ∷ []))) ⊎ (1024 < 0 + size (below (links_in graph) 64 (root ∷ []))) → IsTrue (is_too_large (graph_tree graph))
-large_walked graph root e h = rw (rooted_tree graph root e) (large_by (size (below (links_in graph) 64 (root ∷ []))) (height (below (links_in graph) 64 (root ∷ []))) (rw zero-add at h))
+    → (64 < height (below (links_in graph) 64 (root ∷ []))) ⊎ (1024 < 0 + size (below (links_in graph) 64 (root ∷ [])))
+    → IsTrue (is_too_large (graph_tree graph))
+large_walked graph root e h = rw (rooted_tree graph root e)
+    (large_by (size (below (links_in graph) 64 (root ∷ []))) (height (below (links_in graph) 64 (root ∷ []))) (rw zero-add at h))
 
 pub empty_tree : (graph : GraphState) → graph.root ≡ None → graph_tree graph ≡ bare
 unfolding unfolded

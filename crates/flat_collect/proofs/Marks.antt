@@ -1,5 +1,6 @@
 -- The steps by which the keys are found that are reached.
-use Rattle.std.proofs.Common.{ℕ, zero, suc, ◌+◌, ◌<◌, ◌≤◌, ◌≡◌, ◌≢◌, ◌⊎◌, inl, inr, refl, sym, ◌∙◌, ap, subst, Bool, true, false, List, [], ◌∷◌, ◌++◌, length, map, take, slice_index_or, slice_set, arith, length-set, append_assoc}
+use Rattle.std.proofs.Common.{ℕ, zero, suc, ◌+◌, ◌<◌, ◌≤◌, ◌≡◌, ◌≢◌, ◌⊎◌, inl, inr, refl, sym, ◌∙◌, ap, subst, Bool, true, false, List, [], ◌∷◌, ◌++◌, length}
+use Rattle.std.proofs.Common.{map, take, slice_index_or, slice_set, arith, length-set, append_assoc}
 use Rattle.std.specs.Prelude.{◌==◌}
 use Rattle.std.specs.List.{Contains}
 use Rattle.std.proofs.lemmas.List.{append-nil, get_or-set_same, get_or-set_other, map-append, take_all, take_more}
@@ -26,7 +27,8 @@ once-push (first ∷ keys) key once new = (
 
 -- what is marked after one key more was
 abbrev IsAfter : List Bool → ℕ → ℕ → Type 0
-IsAfter marks key k = ((k ≡ key) × IsMarked (slice_set marks key true) k) ⊎ ((k ≢ key) × (slice_index_or (slice_set marks key true) k false ≡ slice_index_or marks k false))
+IsAfter marks key k = ((k ≡ key) × IsMarked (slice_set marks key true) k)
+    ⊎ ((k ≢ key) × (slice_index_or (slice_set marks key true) k false ≡ slice_index_or marks k false))
 
 mark-after : (marks : List Bool) (key k : ℕ) → key < length marks → IsAfter marks key k
 mark-after marks key k within = by_key (eqb_tells k key)
@@ -109,7 +111,8 @@ item-there [] i low = absurd (omega (arith, low))
 item-there (key ∷ keys) zero low = (0, omega arith, refl)
 item-there (key ∷ keys) (suc i) low = contains-later key keys (slice_index_or keys i 0) (item-there keys i (omega (arith, low)))
 
-pub adds-next : (keys : List ℕ) (i : ℕ) (old mid new : Reached) → i < length keys → Adds (take i keys) old mid → Adds (slice_index_or keys i 0 ∷ []) mid new → Adds (take (i + 1) keys) old new
+pub adds-next : (keys : List ℕ) (i : ℕ) (old mid new : Reached) → i < length keys → Adds (take i keys) old mid → Adds (slice_index_or keys i 0 ∷ []) mid new
+    → Adds (take (i + 1) keys) old new
 adds-next keys i old mid new low a b =
     subst (λ (added : List ℕ). Adds added old new) (sym (take_more keys i 0 low)) (adds-more (take i keys) (slice_index_or keys i 0 ∷ []) old mid new a b)
 
@@ -118,7 +121,8 @@ name-there [] i d low = absurd (omega (arith, low))
 name-there (name ∷ names) zero d low = (0, omega arith, refl)
 name-there (name ∷ names) (suc i) d low = contains-later name.key (keys_of names) (slice_index_or names i d).key (name-there names i d (omega (arith, low)))
 
-pub adds-next-name : (names : List Named) (i : ℕ) (d : Named) (old mid new : Reached) → i < length names → Adds (keys_of (take i names)) old mid → Adds ((slice_index_or names i d).key ∷ []) mid new
+pub adds-next-name : (names : List Named) (i : ℕ) (d : Named) (old mid new : Reached) → i < length names → Adds (keys_of (take i names)) old mid
+    → Adds ((slice_index_or names i d).key ∷ []) mid new
     → Adds (keys_of (take (i + 1) names)) old new
 adds-next-name names i d old mid new low a b =
     let more : keys_of (take (i + 1) names) ≡ keys_of (take i names) ++ (slice_index_or names i d).key ∷ [] =
@@ -141,5 +145,6 @@ adds-none old listed = record {
 pub adds-all : (keys : List ℕ) (i : ℕ) (old new : Reached) → length keys ≤ i → Adds (take i keys) old new → Adds keys old new
 adds-all keys i old new whole adds = subst (λ (added : List ℕ). Adds added old new) (take_all i keys whole) adds
 
-pub adds-all-names : (names : List Named) (i : ℕ) (old new : Reached) → length names ≤ i → Adds (map (λ name. name.key) (take i names)) old new → Adds (map (λ name. name.key) names) old new
+pub adds-all-names : (names : List Named) (i : ℕ) (old new : Reached) → length names ≤ i → Adds (map (λ name. name.key) (take i names)) old new
+    → Adds (map (λ name. name.key) names) old new
 adds-all-names names i old new whole adds = subst (λ (ns : List Named). Adds (map (λ name. name.key) ns) old new) (take_all i names whole) adds

@@ -1,5 +1,6 @@
 -- The steps of the search keep what its marks mean.
-use Rattle.std.proofs.Common.{ℕ, zero, suc, ◌+◌, ◌<◌, ◌≤◌, ◌≡◌, ◌≢◌, ◌⊎◌, inl, inr, refl, sym, ◌∙◌, true, false, List, [], ◌∷◌, length, Option, Some, None, IsSome, slice_get, slice_index_or, slice_set, arith, length-set, add-zero, zero-add, length-append, replicate, ◌++◌}
+use Rattle.std.proofs.Common.{ℕ, zero, suc, ◌+◌, ◌<◌, ◌≤◌, ◌≡◌, ◌≢◌, ◌⊎◌, inl, inr, refl, sym, ◌∙◌, true, false, List, [], ◌∷◌, length, Option, Some, None}
+use Rattle.std.proofs.Common.{IsSome, slice_get, slice_index_or, slice_set, arith, length-set, add-zero, zero-add, length-append, replicate, ◌++◌}
 use Rattle.std.specs.Prelude.{◌==◌}
 use Rattle.std.specs.List.{Contains}
 use Rattle.std.proofs.lemmas.List.{get_or-set_same, get_or-set_other, reverse-append}
@@ -38,7 +39,8 @@ module _ (links : ℕ → List ℕ) (root : ℕ) where
   top_within marks key (parent ∷ below) s = s.within parent key s.ways.0
 
   -- a new child comes onto the path
-  pub search-down : (marks : List Mark) (key child : ℕ) (below : List ℕ) → IsSearch links root marks (key ∷ below) → Contains (links key) child → mark_of marks child ≡ New
+  pub search-down : (marks : List Mark) (key child : ℕ) (below : List ℕ) → IsSearch links root marks (key ∷ below) → Contains (links key) child
+      → mark_of marks child ≡ New
       → IsSearch links root (slice_set marks child (Open 0)) (child ∷ key ∷ below)
   search-down marks key child below s has new = record {
     within = λ k c h. rw length-set (s.within k c h);
@@ -109,7 +111,8 @@ module _ (links : ℕ → List ℕ) (root : ℕ) where
         where
           at_child : slice_get (links key) j ≡ Some c → ((◌≡◌ (j == i) true) × (j ≡ i)) ⊎ ((◌≡◌ (j == i) false) × (j ≢ i)) → mark_of marks c ≡ Done
           at_child is' (inl last) = let f : Some c ≡ Some child = sym is' ∙ rw last.1 next in let g : c ≡ child = cc in rw g finished
-          at_child is' (inr other) = s.so_far key i j c opened (let e : Open (i + 1) ≡ Open i' = sym same.1 ∙ h in let z : i + 1 ≡ i' = cc in omega (arith, other.1)) is'
+          at_child is' (inr other) = s.so_far key i j c opened
+              (let e : Open (i + 1) ≡ Open i' = sym same.1 ∙ h in let z : i + 1 ≡ i' = cc in omega (arith, other.1)) is'
       so_far k i' j c h less is (inr apart) = s.so_far k i' j c (sym apart.1 ∙ h) less is
 
       done : (k : ℕ) → mark_of (slice_set marks key (Open (i + 1))) k ≡ Done → IsAfter marks key (Open (i + 1)) k → ¬ HasCycle links k
@@ -200,7 +203,8 @@ module _ (links : ℕ → List ℕ) (root : ℕ) where
 
 module _ (links : ℕ → List ℕ) where
   pub work-set : (from : ℕ) (marks : List Mark) (key : ℕ) (mark : Mark) → key < length marks
-      → work links from (slice_set marks key mark) + work_at (length (links (from + key))) (mark_of marks key) ≡ work links from marks + work_at (length (links (from + key))) mark
+      → work links from (slice_set marks key mark) + work_at (length (links (from + key))) (mark_of marks key)
+      ≡ work links from marks + work_at (length (links (from + key))) mark
   work-set from [] key mark within = absurd (omega arith)
   work-set from (m ∷ marks) zero mark within = rw add-zero (omega arith)
   work-set from (m ∷ marks) (suc key) mark within =
@@ -220,11 +224,13 @@ module _ (links : ℕ → List ℕ) where
       let step : work links 0 (slice_set marks child (Open 0)) < work links 0 marks = work-less marks child New (Open 0) within new (omega arith) in
       omega (arith, step, length-append path (key ∷ []))
 
-  pub left-along : (marks : List Mark) (path : List ℕ) (key i child : ℕ) → key < length marks → mark_of marks key ≡ Open i → slice_get (links key) i ≡ Some child
+  pub left-along : (marks : List Mark) (path : List ℕ) (key i child : ℕ) → key < length marks → mark_of marks key ≡ Open i
+      → slice_get (links key) i ≡ Some child
       → left links (slice_set marks key (Open (i + 1))) path < left links marks path
   left-along marks path key i child within opened next =
       let inside : i < length (links key) = slice_get_within (links key) i child next in
-      let step : work links 0 (slice_set marks key (Open (i + 1))) < work links 0 marks = work-less marks key (Open i) (Open (i + 1)) within opened (omega arith) in
+      let step : work links 0 (slice_set marks key (Open (i + 1))) < work links 0 marks =
+      work-less marks key (Open i) (Open (i + 1)) within opened (omega arith) in
       omega (arith, step)
 
   pub left-done : (marks : List Mark) (path : List ℕ) (key i : ℕ) → key < length marks → mark_of marks key ≡ Open i
@@ -249,7 +255,8 @@ pub mark_read : (marks : List Mark) (key : ℕ) (mark : Mark) → key < length m
 mark_read marks key mark within e = get_or_any marks key New mark within ∙ sym e
 
 -- the search begins at the root alone
-pub search-begin : (links : ℕ → List ℕ) (root : ℕ) (marks : List Mark) → ((key : ℕ) → mark_of marks key ≡ New) → ((key child : ℕ) → Contains (links key) child → child < length marks)
+pub search-begin : (links : ℕ → List ℕ) (root : ℕ) (marks : List Mark) → ((key : ℕ) → mark_of marks key ≡ New)
+    → ((key child : ℕ) → Contains (links key) child → child < length marks)
     → root < length marks → IsSearch links root (slice_set marks root (Open 0)) (root ∷ [])
 search-begin links root marks new within start = record {
   within = λ k c h. rw length-set (within k c h);
@@ -268,7 +275,8 @@ search-begin links root marks new within start = record {
     open_on k i h (inl same) = inl same.0
     open_on k i h (inr apart) = let e : New ≡ Open i = sym (new k) ∙ (sym apart.1 ∙ h) in absurd (cc)
 
-    so_far : (k i j c : ℕ) → mark_of (slice_set marks root (Open 0)) k ≡ Open i → j < i → IsAfter marks root (Open 0) k → mark_of (slice_set marks root (Open 0)) c ≡ Done
+    so_far : (k i j c : ℕ) → mark_of (slice_set marks root (Open 0)) k ≡ Open i → j < i → IsAfter marks root (Open 0) k
+        → mark_of (slice_set marks root (Open 0)) c ≡ Done
     so_far k i j c h less (inl same) = let e : Open 0 ≡ Open i = sym same.1 ∙ h in let z : 0 ≡ i = cc in absurd (omega arith)
     so_far k i j c h less (inr apart) = let e : New ≡ Open i = sym (new k) ∙ (sym apart.1 ∙ h) in absurd (cc)
 

@@ -26,12 +26,14 @@ module _ (graph : GraphState) where
       all-kept key has = let named = listed-named graph.names sound.rising key has in sound.names_kept named.0 key named.1
 
       listed : (key : ℕ) → IsKept graph.nodes key → Contains (keys_of graph.names) key
-      listed = all-listed (keys_of graph.names) graph.nodes (names-once graph.names sound.rising sound.apart) all-kept (length-map graph.names (λ (name : Named). name.key) ∙ many)
+      listed = all-listed (keys_of graph.names) graph.nodes (names-once graph.names sound.rising sound.apart) all-kept
+          (length-map graph.names (λ (name : Named). name.key) ∙ many)
 
   module _ (found : Reached) (all : AreReached graph found) where
     -- there are as many nodes as keys that are found
     pub swept-found : IsSound graph → length found.keys.items ≡ count_by is_some graph.nodes → IsSwept graph graph
-    swept-found sound many = swept-same (λ key kept. reached key (all-listed found.keys.items graph.nodes all.listed.once (λ k has. reached-kept graph k sound (reached k has)) many key kept))
+    swept-found sound many = swept-same (λ key kept. reached key
+        (all-listed found.keys.items graph.nodes all.listed.once (λ k has. reached-kept graph k sound (reached k has)) many key kept))
       where
         reached : (key : ℕ) → Contains found.keys.items key → IsReached graph key
         reached key has = all.reached key (all.listed.marked key has)
@@ -41,7 +43,8 @@ module _ (graph : GraphState) where
       covers = all.covers;
       root_marked = λ key root. all.marked key (reached-start graph key (inl root));
       names_marked = λ id key named. all.marked key (reached-start graph key (inr (id, named)));
-      children_marked = λ key node there marked child has. all.marked child (reached-child graph key child (all.reached key marked) (linked key node there child has));
+      children_marked = λ key node there marked child has. all.marked child
+          (reached-child graph key child (all.reached key marked) (linked key node there child has));
     }
       where
         linked : (key : ℕ) (node : GraphNode) → node_at graph key ≡ Some node → (child : ℕ) → Contains node.children child → Contains (links_in graph key) child
@@ -51,4 +54,8 @@ module _ (graph : GraphState) where
     pub swept-kept : IsSwept graph (only_marked found.marks.items graph)
     swept-kept =
         let leaves : Leaves (IsMarked found.marks.items) graph (marked_nodes found.marks.items graph.nodes) = leaves-marked graph found.marks.items may-keep in
-        record { kept = λ key reached. leaves.kept key (all.marked key reached); no_other = λ key kept. all.reached key (leaves.no_other key kept); rest = refl }
+        record {
+          kept = λ key reached. leaves.kept key (all.marked key reached);
+          no_other = λ key kept. all.reached key (leaves.no_other key kept);
+          rest = refl;
+        }

@@ -5,7 +5,8 @@ use Rattle.std.specs.List.{AllByRecursion, IsDistinct, IsAllAdjacentAnswer, AllA
 use Rattle.std.specs.List.Sorted.{IsSorted, IsNonDecreasing}
 use Rattle.std.specs.Ordering.{nat_cmp}
 use Rattle.std.proofs.lemmas.List.Sorted.{IsPermutation-sym, IsNonDecreasingBy-from_sort}
-use Rattle.std.proofs.lemmas.Map.Keys.{IsDistinct-IsPermutation, IsDistinct-from_apart, IsDistinct-cons, IsDistinct-head, IsDistinct-tail, IsStrictlyIncreasing-from_distinct}
+use Rattle.std.proofs.lemmas.Map.Keys.{IsDistinct-IsPermutation, IsDistinct-from_apart, IsDistinct-cons, IsDistinct-head, IsDistinct-tail}
+use Rattle.std.proofs.lemmas.Map.Keys.{IsStrictlyIncreasing-from_distinct}
 use Rattle.flat_scene.specs.Misuse.{has_twice}
 
 absent : (x : ℕ) (xs : List ℕ) → AllByRecursion (λ y. eqb x y ≡ false) xs → list_any (λ y. x == y) xs ≡ false
@@ -44,8 +45,10 @@ distinct_from_rising ys sorted rising =
     let far = up (i + 1) j d (omega (arith, before)) within in
     grind (arith, step, far))
 
-pub twice_from_sorted : (xs ys : List ℕ) (rises : Bool) → IsPermutation xs ys → IsSorted nat_cmp ys → IsAllAdjacentAnswer (λ x y b. b ≡ nat_lt x y) ys rises → not rises ≡ has_twice xs
-twice_from_sorted xs ys true moved sorted rising = sym (once_from_distinct xs (IsDistinct-IsPermutation eqb flips ys xs (IsPermutation-sym xs ys moved) (distinct_from_rising ys sorted rising)))
+pub twice_from_sorted : (xs ys : List ℕ) (rises : Bool) → IsPermutation xs ys → IsSorted nat_cmp ys → IsAllAdjacentAnswer (λ x y b. b ≡ nat_lt x y) ys rises
+    → not rises ≡ has_twice xs
+twice_from_sorted xs ys true moved sorted rising = sym
+    (once_from_distinct xs (IsDistinct-IsPermutation eqb flips ys xs (IsPermutation-sym xs ys moved) (distinct_from_rising ys sorted rising)))
 twice_from_sorted xs ys false moved sorted falls = by_twice (has_twice xs) refl
   where
     by_twice : (twice : Bool) → has_twice xs ≡ twice → true ≡ twice

@@ -28,14 +28,16 @@ IsVerdict draft (Good nodes) = Presents draft nodes
 IsVerdict draft (Bad reason) = first_reason (tree_tests draft) ≡ Some reason
 
 abbrev pub VerdictStands : Type 0
-VerdictStands = (graph : GraphState) (draft : Draft) (verdict : Verdict) → StandsFor graph draft → IsJudged graph verdict → IsVerdict draft verdict
+VerdictStands = (graph : GraphState) (draft : Draft) (verdict : Verdict) → StandsFor graph draft
+    → IsJudged graph verdict → IsVerdict draft verdict
 
 -- A swept graph stands for each draft for which the graph stood.
 -- The tree of the root is as it was, and so is what any key unfolds to that is reached.
 pub record IsAsBefore (old new : GraphState) : Type 0 where
   pub stands : (draft : Draft) → StandsFor old draft → StandsFor new draft
   pub tree : graph_tree new ≡ graph_tree old
-  pub unfolds : (levels key : ℕ) → IsReached old key → unfolded (links_in new) levels (key ∷ []) ≡ unfolded (links_in old) levels (key ∷ [])
+  pub unfolds : (levels key : ℕ) → IsReached old key
+      → unfolded (links_in new) levels (key ∷ []) ≡ unfolded (links_in old) levels (key ∷ [])
 
 abbrev pub SweptStands : Type 0
 SweptStands = (old new : GraphState) → IsSwept old new → IsAsBefore old new

@@ -34,7 +34,8 @@ pub record IsFinding (graph : GraphState) (found : Reached) (done : ℕ) : Type 
   pub covers : (key : ℕ) → IsKept graph.nodes key → key < length found.marks.items
   pub starts : (key : ℕ) → IsStart graph key → IsMarked found.marks.items key
   pub reached : (key : ℕ) → IsMarked found.marks.items key → IsReached graph key
-  pub closed : (i key child : ℕ) → i < done → slice_get found.keys.items i ≡ Some key → Contains (links_in graph key) child → IsMarked found.marks.items child
+  pub closed : (i key child : ℕ) → i < done → slice_get found.keys.items i ≡ Some key
+      → Contains (links_in graph key) child → IsMarked found.marks.items child
   pub within : done ≤ length found.keys.items
 
 -- what is reached is found, and nothing else

@@ -51,12 +51,14 @@ module _ (links : ℕ → List ℕ) (root : ℕ) where
     -- what is open is on the path
     pub open_on : (key i : ℕ) → mark_of marks key ≡ Open i → IsOn key path
     -- its first children are done
-    pub so_far : (key i j child : ℕ) → mark_of marks key ≡ Open i → j < i → slice_get (links key) j ≡ Some child → mark_of marks child ≡ Done
+    pub so_far : (key i j child : ℕ) → mark_of marks key ≡ Open i → j < i → slice_get (links key) j ≡ Some child
+        → mark_of marks child ≡ Done
     pub done : (key : ℕ) → mark_of marks key ≡ Done → ¬ HasCycle links key
     pub rooted : ¬ (mark_of marks root ≡ New)
 
   -- what a step tells
   abbrev pub Tells : List Mark → List ℕ → ℕ → List Mark → ℕ → List ℕ → Step → Type 0
-  Tells marks path key marks' key' path' On = IsSearch marks' (trail key' path') × (left links marks' path' < left links marks path)
+  Tells marks path key marks' key' path' On =
+      IsSearch marks' (trail key' path') × (left links marks' path' < left links marks path)
   Tells marks path key marks' key' path' Found = HasCycle links root
   Tells marks path key marks' key' path' Ended = ¬ HasCycle links root

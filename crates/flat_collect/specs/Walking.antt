@@ -8,7 +8,8 @@ abbrev pub below : (ℕ → List ℕ) → ℕ → List ℕ → Forest
 below links levels keys = unfolded links (suc levels) keys
 
 -- the walk counted all nodes and listed all viewports
-pub record IsWalked (forest : Forest) (viewport : ℕ → Option ℕ) (levels nodes : ℕ) (viewports : List ℕ) (nodes' : ℕ) (viewports' : List ℕ) : Type 0 where
+pub record IsWalked (forest : Forest) (viewport : ℕ → Option ℕ) (levels nodes : ℕ) (viewports : List ℕ) (nodes' : ℕ)
+    (viewports' : List ℕ) : Type 0 where
   pub short : height forest ≤ levels
   pub counted : nodes' ≡ nodes + size forest
   pub few : nodes' ≤ TREE_NODES_MAX
@@ -16,5 +17,7 @@ pub record IsWalked (forest : Forest) (viewport : ℕ → Option ℕ) (levels no
 
 -- what the answer of a walk says
 abbrev pub Says : Forest → (ℕ → Option ℕ) → ℕ → ℕ → List ℕ → ℕ → List ℕ → Bool → Type 0
-Says forest viewport levels nodes viewports nodes' viewports' true = IsWalked forest viewport levels nodes viewports nodes' viewports'
-Says forest viewport levels nodes viewports nodes' viewports' false = (levels < height forest) ⊎ (TREE_NODES_MAX < nodes + size forest)
+Says forest viewport levels nodes viewports nodes' viewports' true =
+    IsWalked forest viewport levels nodes viewports nodes' viewports'
+Says forest viewport levels nodes viewports nodes' viewports' false =
+    (levels < height forest) ⊎ (TREE_NODES_MAX < nodes + size forest)

@@ -11,4 +11,5 @@ one-given f x (Some y) e = rw e refl
 pub given-more : {X Y : Type 0} (f : X → Option Y) (xs : List X) (i : ℕ) (x : X) → i < length xs → x ≡ get_or xs i x
     → filter_map f (take (i + 1) xs) ≡ filter_map f (take i xs) ++ option_to_list (f x)
 given-more f xs i x within is =
-    ap (filter_map f) (rw (← is) at (take_more xs i x within)) ∙ filter_map-append f (take i xs) (x ∷ []) ∙ ap (λ ys. filter_map f (take i xs) ++ ys) (one-given f x (f x) refl)
+    ap (filter_map f) (rw (← is) at (take_more xs i x within)) ∙ filter_map-append f (take i xs) (x ∷ [])
+    ∙ ap (λ ys. filter_map f (take i xs) ++ ys) (one-given f x (f x) refl)

@@ -15,13 +15,16 @@ use Rattle.flat_content.specs.declared.stored.Stored.TheVariants.{Image}
 use Rattle.flat_content.specs.Table.{TableState, as_made, made_at, made_named}
 
 -- an answer that hands a refusal on
-pub hands_on : (answer : Result (Unit {0}) Reason) (tests more : List Test) (reason : Reason) → IsErrAnd answer (λ given. given ≡ reason) → first_reason tests ≡ Some reason
+pub hands_on : (answer : Result (Unit {0}) Reason) (tests more : List Test) (reason : Reason) → IsErrAnd answer (λ given. given ≡ reason)
+    → first_reason tests ≡ Some reason
     → IfErr answer (λ given. first_reason (tests ++ more) ≡ Some given)
 hands_on (Ok done) tests more reason is e = tt
 hands_on (Err given) tests more reason is e = refused_before tests more given (e ∙ ap Some (sym is))
 
 -- whether a rectangle leaves the image that an id names, read off that image
-pub leaves_stored : (table : TableState) (id serial : ℕ) (image : StoredImage) (rect : IntRect) → key_named table.names id ≡ Some serial → of_serial table.contents serial ≡ Some (Image image)
+pub leaves_stored : (table : TableState) (id serial : ℕ) (image : StoredImage) (rect : IntRect) → key_named table.names id ≡ Some serial
+    → of_serial table.contents serial ≡ Some (Image image)
     → leaves_made rect (made_named table id) ≡ leaves rect image.size
 leaves_stored table id serial image rect named stored =
-    ap (λ (s : Option ℕ). leaves_made rect (option_and_then (made_at table) s)) named ∙ ap (λ (s : Option Stored). leaves_made rect (option_map as_made s)) stored
+    ap (λ (s : Option ℕ). leaves_made rect (option_and_then (made_at table) s)) named
+    ∙ ap (λ (s : Option Stored). leaves_made rect (option_map as_made s)) stored

@@ -1,5 +1,6 @@
 -- Serial numbers count from 1, places in a list from 0.
-use Rattle.std.proofs.Common.{ℕ, zero, suc, ◌+◌, ◌-◌, ◌<◌, ◌≤◌, ◌≡◌, refl, sym, ◌∙◌, ap, Bool, true, false, cond, List, [], ◌∷◌, ◌++◌, take, get_or, length, Option, Some, None, IsSome, slice_get, slice_set, arith}
+use Rattle.std.proofs.Common.{ℕ, zero, suc, ◌+◌, ◌-◌, ◌<◌, ◌≤◌, ◌≡◌, refl, sym, ◌∙◌, ap, Bool, true, false, cond, List, [], ◌∷◌, ◌++◌, take, get_or, length}
+use Rattle.std.proofs.Common.{Option, Some, None, IsSome, slice_get, slice_set, arith}
 use Rattle.std.specs.Prelude.{◌==◌, option_to_list}
 use Rattle.std.specs.List.{filter_map}
 use Rattle.std.proofs.lemmas.List.{take_more}
@@ -49,11 +50,13 @@ module _ {A : Type 0} where
       get-some (x ∷ xs) (suc i) h = let less : i < length xs = omega arith in get-some xs i less
 
   -- two changes that do the same to the item of a serial
-  pub changed-alike : (xs : List A) (serial : ℕ) (f g : A → A) (x : A) → of_serial xs serial ≡ Some x → f x ≡ g x → changed_at serial f xs ≡ changed_at serial g xs
+  pub changed-alike : (xs : List A) (serial : ℕ) (f g : A → A) (x : A) → of_serial xs serial ≡ Some x → f x ≡ g x
+      → changed_at serial f xs ≡ changed_at serial g xs
   changed-alike [] serial f g x there same = refl
   changed-alike (y ∷ xs) serial f g x there same = by_test (serial == 1) there (changed-alike xs (serial - 1) f g x)
     where
-      by_test : (b : Bool) → cond b (Some y) (of_serial xs (serial - 1)) ≡ Some x → (of_serial xs (serial - 1) ≡ Some x → f x ≡ g x → changed_at (serial - 1) f xs ≡ changed_at (serial - 1) g xs)
+      by_test : (b : Bool) → cond b (Some y) (of_serial xs (serial - 1)) ≡ Some x
+          → (of_serial xs (serial - 1) ≡ Some x → f x ≡ g x → changed_at (serial - 1) f xs ≡ changed_at (serial - 1) g xs)
           → cond b (f y ∷ xs) (y ∷ changed_at (serial - 1) f xs) ≡ cond b (g y ∷ xs) (y ∷ changed_at (serial - 1) g xs)
       by_test true is more = let it : y ≡ x = cc in ap (λ (z : A). z ∷ xs) (rw it same)
       by_test false is more = ap (λ (rest : List A). y ∷ rest) (more is same)
@@ -66,6 +69,8 @@ filter-single {Y = Y} f x = by_value (f x) refl
     by_value (Some y) e = rw e refl
 
 -- what one item more gives
-pub filter-more : {X Y : Type 0} (f : X → Option Y) (xs : List X) (i : ℕ) (d : X) → i < length xs → filter_map f (take (i + 1) xs) ≡ filter_map f (take i xs) ++ option_to_list (f (get_or xs i d))
+pub filter-more : {X Y : Type 0} (f : X → Option Y) (xs : List X) (i : ℕ) (d : X) → i < length xs
+    → filter_map f (take (i + 1) xs) ≡ filter_map f (take i xs) ++ option_to_list (f (get_or xs i d))
 filter-more {Y = Y} f xs i d h =
-    ap (filter_map f) (take_more xs i d h) ∙ filter_map-append f (take i xs) (get_or xs i d ∷ []) ∙ ap (λ (ys : List Y). filter_map f (take i xs) ++ ys) (filter-single f (get_or xs i d))
+    ap (filter_map f) (take_more xs i d h) ∙ filter_map-append f (take i xs) (get_or xs i d ∷ [])
+    ∙ ap (λ (ys : List Y). filter_map f (take i xs) ++ ys) (filter-single f (get_or xs i d))

@@ -50,7 +50,8 @@ image_tests table id buffers index w h =
     ∷ (is_bad_index (slice_get table.buffers buffers.0) index, BadBuffer) ∷ room_tests table
 
 abbrev pub sample_tests : TableState → ℕ → IntRect → List Test
-sample_tests table id rect = sort_tests table is_image id ++ (is_bad_rect rect || leaves_made rect (made_named table id), BadRect) ∷ []
+sample_tests table id rect = sort_tests table is_image id
+    ++ (is_bad_rect rect || leaves_made rect (made_named table id), BadRect) ∷ []
 
 abbrev pub size_tests : TableState → ℕ → ℕ → ℕ → List Test
 size_tests table id w h = sort_tests table is_image id ++ (is_bad_side w || is_bad_side h, BadSize) ∷ []

@@ -14,6 +14,7 @@ changes-both a b c old middle new one two k none =
     (earlier.0, earlier.1 ∙ later.1)
 
 -- by the numbers of sessions
-pub changes-same : (set : SessionSet) (old new : Shown) → ((k : ℕ) → slice_index_or set.has k false ≡ false → slice_index_or old k None ≡ slice_index_or new k None) → AreSame set old new
+pub changes-same : (set : SessionSet) (old new : Shown)
+    → ((k : ℕ) → slice_index_or set.has k false ≡ false → slice_index_or old k None ≡ slice_index_or new k None) → AreSame set old new
 changes-same set old new same zero within none = refl
 changes-same set old new same (suc before) within none = same before none

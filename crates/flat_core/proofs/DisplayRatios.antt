@@ -16,15 +16,18 @@ use Rattle.flat_rules.specs.Watch.{ratio_told}
 use Rattle.flat_facts.proofs.lemmas.Ratios.{HasDisplay, told-least}
 
 -- what is kept of them
-pub ratios-kept : (setup : Setup) (h : List Entry) (clock : Clock) (fences views : List Bool) (sessions : List SessionState) → Stands setup h clock fences views sessions → clock.ratios ≡ ratios_of setup h
+pub ratios-kept : (setup : Setup) (h : List Entry) (clock : Clock) (fences views : List Bool) (sessions : List SessionState)
+    → Stands setup h clock fences views sessions → clock.ratios ≡ ratios_of setup h
 ratios-kept setup h clock fences views sessions stands = ap (λ (c : Clock). c.ratios) stands.timed
 
 -- what is told of the display
-pub port-kept : (setup : Setup) (h : List Entry) (ratios : Ratios) (port : DisplayPort) → ratios ≡ ratios_of setup h → port ≡ port_of ratios.finished setup → port ≡ port_of (ratio_told setup h) setup
+pub port-kept : (setup : Setup) (h : List Entry) (ratios : Ratios) (port : DisplayPort) → ratios ≡ ratios_of setup h → port ≡ port_of ratios.finished setup
+    → port ≡ port_of (ratio_told setup h) setup
 port-kept setup h ratios port kept is = is ∙ ap (λ (r : Ratios). port_of r.finished setup) kept
 
 -- the ratio that is told isn't too small
-pub finished-least : (setup : Setup) (h : List Entry) (ratios : Ratios) → ratios ≡ ratios_of setup h → Legal setup h → HasDisplay setup → RATIO_MIN ≤ ratios.finished
+pub finished-least : (setup : Setup) (h : List Entry) (ratios : Ratios) → ratios ≡ ratios_of setup h → Legal setup h → HasDisplay setup
+    → RATIO_MIN ≤ ratios.finished
 finished-least setup h ratios kept legal display = subst (λ (r : Ratios). RATIO_MIN ≤ r.finished) (sym kept) (told-least setup h legal display)
 
 -- a number that doesn't differ is the same

@@ -1,5 +1,7 @@
--- A session has no more events that it hasn't read than there are entries: each get answers once, each viewport's token comes back once, and the begin and the end of a frame tell one thing more.
-use Rattle.std.proofs.Common.{◌≡◌, ◌∙◌, ℕ, suc, ◌+◌, ◌-◌, ◌<◌, ◌≤◌, Bool, true, false, List, [], ◌∷◌, ◌++◌, drop, length, length-append, filter, replicate, refl, arith, ap, Some, None}
+-- A session has no more events that it hasn't read than there are entries: each get answers once, each viewport's token comes back once, and the begin and the
+-- end of a frame tell one thing more.
+use Rattle.std.proofs.Common.{◌≡◌, ◌∙◌, ℕ, suc, ◌+◌, ◌-◌, ◌<◌, ◌≤◌, Bool, true, false, List, [], ◌∷◌, ◌++◌, drop, length, length-append, filter, replicate}
+use Rattle.std.proofs.Common.{refl, arith, ap, Some, None}
 use Rattle.std.specs.Prelude.{Option, cond, not, nat_lt, ◌&&◌, ◌==◌, flat_map}
 use Rattle.std.specs.List.{list_all}
 use Rattle.std.proofs.lemmas.List.{length-replicate}
@@ -39,7 +41,8 @@ split : (xs : List Event) → length xs ≡ length (filter is_told xs) + others 
 split [] = refl
 split (x ∷ xs) = by_told (split xs) (is_told x)
   where
-    by_told : length xs ≡ length (filter is_told xs) + others xs → (b : Bool) → suc (length xs) ≡ length (cond b (x ∷ filter is_told xs) (filter is_told xs)) + (number_if (not b) + others xs)
+    by_told : length xs ≡ length (filter is_told xs) + others xs → (b : Bool)
+        → suc (length xs) ≡ length (cond b (x ∷ filter is_told xs) (filter is_told xs)) + (number_if (not b) + others xs)
     by_told rest true = omega (arith, rest)
     by_told rest false = omega (arith, rest)
 
@@ -74,7 +77,8 @@ total-sum : (f g h : PairNo → ℕ) → ((p : PairNo) → h p ≤ f p + g p) �
 total-sum f g h less [] = omega arith
 total-sum f g h less (p ∷ ps) = omega (arith, less p, total-sum f g h less ps)
 
-total-less : (o : PairNo → Bool) (f g : PairNo → ℕ) → ((p : PairNo) → o p ≡ true → f p ≤ g p) → (ps : List PairNo) → list_all o ps ≡ true → total f ps ≤ total g ps
+total-less : (o : PairNo → Bool) (f g : PairNo → ℕ) → ((p : PairNo) → o p ≡ true → f p ≤ g p) → (ps : List PairNo) → list_all o ps ≡ true
+    → total f ps ≤ total g ps
 total-less o f g less [] all = omega arith
 total-less o f g less (p ∷ ps) all = omega (arith, less p (and-left (o p) (list_all o ps) all), total-less o f g less ps (and-right (o p) (list_all o ps) all))
 
@@ -86,7 +90,8 @@ none-there test q n (pair ∷ pairs) less = by_test (none-there test q (n + 1) p
     other : (q == n) ≡ false
     other = grind (arith, nat_tests)
 
-    by_test : total (λ p. number_if (q == p.0)) (pairs_where test (n + 1) pairs) ≡ 0 → (b : Bool) → total (λ p. number_if (q == p.0)) (cond b ((record { 0 = n }) ∷ pairs_where test (n + 1) pairs) (pairs_where test (n + 1) pairs)) ≡ 0
+    by_test : total (λ p. number_if (q == p.0)) (pairs_where test (n + 1) pairs) ≡ 0 → (b : Bool)
+        → total (λ p. number_if (q == p.0)) (cond b ((record { 0 = n }) ∷ pairs_where test (n + 1) pairs) (pairs_where test (n + 1) pairs)) ≡ 0
     by_test rest true = omega (arith, rest, ap number_if other)
     by_test rest false = rest
 
@@ -94,18 +99,21 @@ once-there : (test : PairDecl → Bool) (q n : ℕ) (pairs : List PairDecl) → 
 once-there test q n [] = omega arith
 once-there test q n (pair ∷ pairs) = by_test (once-there test q (n + 1) pairs) (test pair)
   where
-    by_same : total (λ p. number_if (q == p.0)) (pairs_where test (n + 1) pairs) ≤ 1 → (b : Bool) → (q == n) ≡ b → number_if b + total (λ p. number_if (q == p.0)) (pairs_where test (n + 1) pairs) ≤ 1
+    by_same : total (λ p. number_if (q == p.0)) (pairs_where test (n + 1) pairs) ≤ 1 → (b : Bool) → (q == n) ≡ b
+        → number_if b + total (λ p. number_if (q == p.0)) (pairs_where test (n + 1) pairs) ≤ 1
     by_same rest true same =
         let is : q < n + 1 = grind (arith, nat_tests) in
         omega (arith, none-there test q (n + 1) pairs is)
     by_same rest false other = omega (arith, rest)
 
-    by_test : total (λ p. number_if (q == p.0)) (pairs_where test (n + 1) pairs) ≤ 1 → (b : Bool) → total (λ p. number_if (q == p.0)) (cond b ((record { 0 = n }) ∷ pairs_where test (n + 1) pairs) (pairs_where test (n + 1) pairs)) ≤ 1
+    by_test : total (λ p. number_if (q == p.0)) (pairs_where test (n + 1) pairs) ≤ 1 → (b : Bool)
+        → total (λ p. number_if (q == p.0)) (cond b ((record { 0 = n }) ∷ pairs_where test (n + 1) pairs) (pairs_where test (n + 1) pairs)) ≤ 1
     by_test rest true = by_same rest (q == n) refl
     by_test rest false = rest
 
 -- an entry is a get, a use, a begin or an end, or none of them
-one-kind : (test : PairDecl → Bool) (pairs : List PairDecl) (k : Kind) → total (λ p. number_if (uses_viewport p k)) (pairs_where test 0 pairs) + number_if (is_get k) + number_if (is_finish k) + number_if (is_begin k) ≤ 1
+one-kind : (test : PairDecl → Bool) (pairs : List PairDecl) (k : Kind)
+    → total (λ p. number_if (uses_viewport p k)) (pairs_where test 0 pairs) + number_if (is_get k) + number_if (is_finish k) + number_if (is_begin k) ≤ 1
 one-kind test pairs (View p) = omega (arith, total-none (pairs_where test 0 pairs))
 one-kind test pairs (Viewport q props) = omega (arith, once-there test q.0 0 pairs)
 one-kind test pairs (Present args) = omega (arith, total-none (pairs_where test 0 pairs))
@@ -132,14 +140,16 @@ use-more p h e = by_tests (uses_viewport p e.kind) (is_done e.reply)
     by_tests true false = omega arith
     by_tests false b = omega arith
 
-all-few : (test : PairDecl → Bool) (pairs : List PairDecl) (h : List Entry) → total (λ p. length (viewport_uses p h)) (pairs_where test 0 pairs) + gets_made h + frame_entries h ≤ length h
+all-few : (test : PairDecl → Bool) (pairs : List PairDecl) (h : List Entry)
+    → total (λ p. length (viewport_uses p h)) (pairs_where test 0 pairs) + gets_made h + frame_entries h ≤ length h
 all-few test pairs [] = omega (arith, total-none (pairs_where test 0 pairs))
 all-few test pairs (h ▹ e) =
     omega (
       arith,
       all-few test pairs h,
       one-kind test pairs e.kind,
-      total-sum (λ p. length (viewport_uses p h)) (λ p. number_if (uses_viewport p e.kind)) (λ p. length (viewport_uses p (h ▹ e))) (λ p. use-more p h e) (pairs_where test 0 pairs),
+      total-sum (λ p. length (viewport_uses p h)) (λ p. number_if (uses_viewport p e.kind)) (λ p. length (viewport_uses p (h ▹ e))) (λ p. use-more p h e)
+          (pairs_where test 0 pairs),
     )
 
 module _ (setup : Setup) (s : SessionNo) where
@@ -178,10 +188,12 @@ module _ (setup : Setup) (s : SessionNo) where
       (λ p. others-flat (λ n. told_event setup p (child_of p n) h e) (λ n. others-told p _ _) (up_to (length (viewport_uses p h)))) (viewports_of setup s))
       (number_if (is_finish e.kind)) (number_if (is_begin e.kind)) (came h e) (at-end h (is_finish e.kind)) (at-start h e (is_begin e.kind))
     where
-      sums : (abcdf abcd abc ab a b c d f m n k : ℕ) → abcdf ≡ abcd + f → abcd ≡ abc + d → abc ≡ ab + c → ab ≡ a + b → a ≡ 0 → b ≡ 0 → c ≡ 0 → d ≤ m + k → f ≤ n → abcdf ≤ m + n + k
+      sums : (abcdf abcd abc ab a b c d f m n k : ℕ) → abcdf ≡ abcd + f → abcd ≡ abc + d → abc ≡ ab + c → ab ≡ a + b → a ≡ 0 → b ≡ 0 → c ≡ 0 → d ≤ m + k → f ≤ n
+          → abcdf ≤ m + n + k
       sums abcdf abcd abc ab a b c d f m n k p q r t na nb nc nd nf = omega (arith, p, q, r, t, na, nb, nc, nd, nf)
 
-      five : (a b c d f : List Event) → others a ≡ 0 → others b ≡ 0 → others c ≡ 0 → (m n k : ℕ) → others d ≤ m + k → others f ≤ n → others (a ++ b ++ c ++ d ++ f) ≤ m + n + k
+      five : (a b c d f : List Event) → others a ≡ 0 → others b ≡ 0 → others c ≡ 0 → (m n k : ℕ) → others d ≤ m + k → others f ≤ n
+          → others (a ++ b ++ c ++ d ++ f) ≤ m + n + k
       five a b c d f na nb nc m n k nd nf =
           sums _ (others (a ++ b ++ c ++ d)) (others (a ++ b ++ c)) (others (a ++ b)) (others a) (others b) (others c) (others d) (others f) m n k
           (others-append (a ++ b ++ c ++ d) f) (others-append (a ++ b ++ c) d) (others-append (a ++ b) c) (others-append a b) na nb nc nd nf
@@ -200,7 +212,8 @@ module _ (setup : Setup) (s : SessionNo) where
   unread-sent [] = omega arith
   unread-sent (h ▹ e) = by_poll (unread-sent h) (is_session s e.actor && is_poll e.kind)
     where
-      by_poll : unread setup s h ≤ sent h → (b : Bool) → length (cond b [] (unread_events setup s h) ++ events_to setup h e s) ≤ sent h + length (events_to setup h e s)
+      by_poll : unread setup s h ≤ sent h → (b : Bool) → length (cond b [] (unread_events setup s h) ++ events_to setup h e s) ≤ sent h + length
+          (events_to setup h e s)
       by_poll rest true = omega arith
       by_poll rest false = omega (arith, rest, length-append {A = Event} (unread_events setup s h) (events_to setup h e s))
 
@@ -209,7 +222,8 @@ module _ (setup : Setup) (s : SessionNo) where
   sent-few (h ▹ e) = by_close (sent-few h) (is_closed s (h ▹ e)) (number_if (is_session s e.actor && is_now e.reply))
     where
       by_close : sent h ≤ answers setup s h + frame_entries h + tokens h → (b : Bool) (m : ℕ)
-          → sent h + length (cond b [] (news_for setup h e s)) ≤ answers setup s h + m + length (filter is_told (cond b [] (news_for setup h e s))) + (frame_entries h + number_if (is_finish e.kind) + number_if (is_begin e.kind)) + (tokens h + came h e)
+          → sent h + length (cond b [] (news_for setup h e s)) ≤ answers setup s h + m + length (filter is_told (cond b [] (news_for setup h e s))) +
+          (frame_entries h + number_if (is_finish e.kind) + number_if (is_begin e.kind)) + (tokens h + came h e)
       by_close rest true m = omega (arith, rest)
       by_close rest false m = omega (arith, rest, split (news_for setup h e s), others-news h e)
 
@@ -243,7 +257,8 @@ module _ (setup : Setup) (s : SessionNo) where
           → tokens h + length (cond b (tokens_back setup h s) []) ≤ total (seen_by (cond b (to_begin h) (to_finished h))) (viewports_of setup s)
       by_kind rest false goes = omega (arith, rest)
       by_kind rest true ends =
-          let last : taken setup (drop 1 (to_begin h)) s ≡ taken setup (to_finished h) s = taken-begun setup s h legal.0 (finish-open h e.kind legal.1.may.times ends) in
+          let last : taken setup (drop 1 (to_begin h)) s ≡ taken setup (to_finished h) s =
+          taken-begun setup s h legal.0 (finish-open h e.kind legal.1.may.times ends) in
           let less : taken setup (drop 1 (to_begin h)) s ≤ taken setup (to_begin h) s = taken-drop setup s (to_begin h) in
           omega (
             arith,
@@ -256,9 +271,12 @@ module _ (setup : Setup) (s : SessionNo) where
   -- so the unread events of a session that is open are few
   pub unread-short : (h : List Entry) → Legal setup h → is_closed s h ≡ false → answers setup s h ≤ gets_made h → unread setup s h ≤ length h
   unread-short h legal opened told =
-      let fewer : (p : PairNo) → owns_viewport setup s p ≡ true → seen_by (to_finished h) p ≤ length (viewport_uses p h) = λ p owned. few-one p _ (few-released setup s p owned h legal opened) in
-      let released = total-less (owns_viewport setup s) (seen_by (to_finished h)) (λ p. length (viewport_uses p h)) fewer (viewports_of setup s) (viewports-owned setup s) in
+      let fewer : (p : PairNo) → owns_viewport setup s p ≡ true → seen_by (to_finished h) p ≤ length (viewport_uses p h) =
+      λ p owned. few-one p _ (few-released setup s p owned h legal opened) in
+      let released = total-less (owns_viewport setup s) (seen_by (to_finished h)) (λ p. length (viewport_uses p h)) fewer (viewports_of setup s)
+      (viewports-owned setup s) in
       omega (arith, unread-sent h, sent-few h, tokens-few h legal, released, told, all-few (λ pair. is_session s pair.viewport) setup.pairs h)
     where
-      few-one : (p : PairNo) (n : ℕ) → releases_seen setup (to_finished h) s p + n ≤ length (viewport_uses p h) → releases_seen setup (to_finished h) s p ≤ length (viewport_uses p h)
+      few-one : (p : PairNo) (n : ℕ) → releases_seen setup (to_finished h) s p + n ≤ length (viewport_uses p h)
+          → releases_seen setup (to_finished h) s p ≤ length (viewport_uses p h)
       few-one p n less = omega (arith, less)

@@ -26,7 +26,8 @@ abbrev pub held_answers : Setup → List Entry → Entry → SessionNo → List 
 held_answers setup before e s =
     flat_map (λ p. told_event setup p (layout_of p) before e) (filter (λ p. is_held setup before (layout_of p)) (views_of setup s))
     ++ flat_map (λ p. told_event setup p (status_of p) before e) (filter (λ p. is_held setup before (status_of p)) (views_of setup s))
-    ++ flat_map (λ p. flat_map (λ n. told_event setup p (child_of p n) before e) (filter (λ n. is_held setup before (child_of p n)) (up_to (length (viewport_uses p before))))) (viewports_of setup s)
+    ++ flat_map (λ p. flat_map (λ n. told_event setup p (child_of p n) before e)
+    (filter (λ n. is_held setup before (child_of p n)) (up_to (length (viewport_uses p before))))) (viewports_of setup s)
 
 four-parts : (a b c d e : List Event) → (a ++ b ++ c ++ (d ++ e) ++ []) ≡ ((a ++ b ++ c) ++ (d ++ e))
 four-parts a b c d e = append-nil (a ++ b ++ c ++ (d ++ e))
@@ -34,7 +35,8 @@ four-parts a b c d e = append-nil (a ++ b ++ c ++ (d ++ e))
 joined : (d : List Event) {a a' b b' c c' e e' : List Event} → a ≡ a' → b ≡ b' → c ≡ c' → e ≡ e' → ((a ++ b ++ c) ++ (d ++ e)) ≡ ((a' ++ b' ++ c') ++ (d ++ e'))
 joined d pa pb pc pe = cc
 
-pub events-finish : (setup : Setup) (h : List Entry) (line : ℕ) (s : SessionNo) → is_declared setup s ≡ true → Legal setup h → is_frame_open h ≡ true → (live : List Live) (out : List OutToken) → AreViewports setup h s live out
+pub events-finish : (setup : Setup) (h : List Entry) (line : ℕ) (s : SessionNo) → is_declared setup s ≡ true → Legal setup h → is_frame_open h ≡ true
+    → (live : List Live) (out : List OutToken) → AreViewports setup h s live out
     → events_to setup h (finish_entry line) s
     ≡ cond (is_closed s h) [] (held_answers setup h (finish_entry line) s ++ (took_event (frame_took setup h s) ++ back_events (taken setup h s) out))
 events-finish setup h line s declared legal going live out kept = by_closed (is_closed s h) refl
@@ -45,8 +47,11 @@ events-finish setup h line s declared legal going live out kept = by_closed (is_
     by_closed false opened =
         let e : Entry = finish_entry line in
         let children = flat-each (λ p. flat_map (λ n. told_event setup p (child_of p n) h e) (up_to (length (viewport_uses p h))))
-        (λ p. flat_map (λ n. told_event setup p (child_of p n) h e) (filter (λ n. is_held setup h (child_of p n)) (up_to (length (viewport_uses p h))))) (λ p. children-held setup p h e) (viewports_of setup s) in
+        (λ p. flat_map (λ n. told_event setup p (child_of p n) h e) (filter (λ n. is_held setup h (child_of p n)) (up_to (length (viewport_uses p h)))))
+        (λ p. children-held setup p h e) (viewports_of setup s) in
         let tokens : tokens_back setup h s ≡ back_events (taken setup h s) out = tokens-finish setup s declared h legal opened going live out kept in
-        four-parts (flat_map (λ p. told_event setup p (layout_of p) h e) (views_of setup s)) (flat_map (λ p. told_event setup p (status_of p) h e) (views_of setup s))
-        (flat_map (λ p. flat_map (λ n. told_event setup p (child_of p n) h e) (up_to (length (viewport_uses p h)))) (viewports_of setup s)) (took_event (frame_took setup h s)) (tokens_back setup h s)
+        four-parts (flat_map (λ p. told_event setup p (layout_of p) h e) (views_of setup s))
+        (flat_map (λ p. told_event setup p (status_of p) h e) (views_of setup s))
+        (flat_map (λ p. flat_map (λ n. told_event setup p (child_of p n) h e) (up_to (length (viewport_uses p h)))) (viewports_of setup s))
+        (took_event (frame_took setup h s)) (tokens_back setup h s)
         ∙ joined (took_event (frame_took setup h s)) (layouts-held setup s h e) (statuses-held setup s h e) children tokens

@@ -80,10 +80,12 @@ last_is_shown : shown setup begun_again (s 1) ≡ option_and_then tree (result_o
 last_is_shown = refl
 
 -- what the session is told
-told_of_two : events_to setup three_wait (begin_entry 14 2) (s 1) ++ events_to setup begun (finish_entry 15) (s 1) ≡ event.Credits 2 ∷ event.FramePresented 2 ∷ []
+told_of_two : events_to setup three_wait (begin_entry 14 2) (s 1)
+    ++ events_to setup begun (finish_entry 15) (s 1) ≡ event.Credits 2 ∷ event.FramePresented 2 ∷ []
 told_of_two = refl
 
-told_of_one : events_to setup ended (begin_entry 16 3) (s 1) ++ events_to setup begun_again (finish_entry 17) (s 1) ≡ event.Credits 1 ∷ event.FramePresented 1 ∷ []
+told_of_one : events_to setup ended (begin_entry 16 3) (s 1)
+    ++ events_to setup begun_again (finish_entry 17) (s 1) ≡ event.Credits 1 ∷ event.FramePresented 1 ∷ []
 told_of_one = refl
 
 -- each frame's end signals the fences of what it took

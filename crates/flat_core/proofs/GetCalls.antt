@@ -33,8 +33,10 @@ plain-get : (s : SessionNo) (line : ℕ) (calls : List Call) (get : Watch) (repl
 plain-get s line calls get reply = record { no_begin = refl; no_finish = refl; no_poll = refl; no_view = refl; none = λ made. refl }
 
 -- what is kept of its session
-get-kept : (setup : Setup) (h : List Entry) (s : SessionNo) (line : ℕ) (calls : List Call) (get : Watch) (reply : Reply) (state : SessionState) (b : Bool) → closes reply ≡ b → IsKept setup (seen_of setup h s) state
-    → IsKept setup (seen_of setup (h ▹ entry_of (Session s) line calls (Get get) reply) s) (cond b (let shut : SessionState = record state { closed = true } in shut) state)
+get-kept : (setup : Setup) (h : List Entry) (s : SessionNo) (line : ℕ) (calls : List Call) (get : Watch) (reply : Reply) (state : SessionState) (b : Bool)
+    → closes reply ≡ b → IsKept setup (seen_of setup h s) state
+    → IsKept setup (seen_of setup (h ▹ entry_of (Session s) line calls (Get get) reply) s)
+    (cond b (let shut : SessionState = record state { closed = true } in shut) state)
 get-kept setup h s line calls get reply state false stays kept =
     rw (seen-plain setup h (entry_of (Session s) line calls (Get get) reply) s (plain-get s line calls get reply) stays (is-session s)) kept
 get-kept setup h s line calls get reply state true closing kept =
@@ -45,9 +47,11 @@ get-due : (b : Bool) (state : SessionState) → due (cond b (let shut : SessionS
 get-due true state = refl
 get-due false state = refl
 
-module _ (m : Machine) (s : SessionNo) (line : ℕ) (calls : List Call) (get : Watch) (call : MayCall m (Session s) calls (Get get)) (reply : Reply) (replied : reply ≡ reply_to m.setup m.history (Session s) calls (Get get)) where
+module _ (m : Machine) (s : SessionNo) (line : ℕ) (calls : List Call) (get : Watch) (call : MayCall m (Session s) calls (Get get)) (reply : Reply)
+    (replied : reply ≡ reply_to m.setup m.history (Session s) calls (Get get)) where
   -- the parts after it
-  pub kept-got : (clock : Clock) (fences views : List Bool) (sessions : List SessionState) (state : SessionState) → state ≡ slice_index_or sessions (s.0 - 1) state → Stands m.setup m.history clock fences views sessions
+  pub kept-got : (clock : Clock) (fences views : List Bool) (sessions : List SessionState) (state : SessionState)
+      → state ≡ slice_index_or sessions (s.0 - 1) state → Stands m.setup m.history clock fences views sessions
       → Stands m.setup (m.history ▹ entry_of (Session s) line calls (Get get) reply) clock fences views (slice_set sessions (s.0 - 1) (after_get reply state))
       × (sum_by due (slice_set sessions (s.0 - 1) (after_get reply state)) ≡ sum_by due sessions)
   kept-got clock fences views sessions state of_state old =
@@ -58,16 +62,20 @@ module _ (m : Machine) (s : SessionNo) (line : ℕ) (calls : List Call) (get : W
       let here = declared-some s.0 m.setup.sessions declared in
       let count : length sessions ≡ m.setup.sessions = old.count in
       let below : s.0 - 1 < length sessions = omega (arith, here.0, here.1, count) in
-      let each = each-one m s line calls (Get get) reply call refl refl clock fences views sessions state new of_state old (λ k. get-kept m.setup h s line calls get reply state (closes reply) refl k) in (
-        stands-entered m (Session s) line calls (Get get) reply call replied refl refl clock fences fences views views sessions (slice_set sessions (s.0 - 1) new) old
+      let each = each-one m s line calls (Get get) reply call refl refl clock fences views sessions state new of_state old
+      (λ k. get-kept m.setup h s line calls get reply state (closes reply) refl k) in (
+        stands-entered m (Session s) line calls (Get get) reply call replied refl refl clock fences fences views views sessions
+            (slice_set sessions (s.0 - 1) new) old
             (unchanged m e fences views (λ sessions g f. refl) (λ p. refl)) (length-set sessions (s.0 - 1) new) each,
         sum-same due sessions (s.0 - 1) new state below of_state (get-due (closes reply) state),
       )
 
   -- and the journal
-  pub room-got : (clock : Clock) (fences views : List Bool) (sessions : List SessionState) → Stands m.setup m.history clock fences views sessions → (log mid then : Logged) (owed dues dues_now : ℕ) → log.history ≡ m.history
+  pub room-got : (clock : Clock) (fences views : List Bool) (sessions : List SessionState) → Stands m.setup m.history clock fences views sessions
+      → (log mid then : Logged) (owed dues dues_now : ℕ) → log.history ≡ m.history
       → HasRoom m.setup m.shares log owed dues → mid.history ≡ log.history → mid.posts ≡ log.posts → mid.room ≡ log.room → owed + 1 ≤ mid.post_room
-      → then.history ≡ (mid.history ▹ entry_of (Session s) line calls (Get get) reply) → then.posts ≡ mid.posts → then.room + 1 ≡ mid.room → then.post_room ≡ mid.post_room
+      → then.history ≡ (mid.history ▹ entry_of (Session s) line calls (Get get) reply) → then.posts ≡ mid.posts → then.room + 1 ≡ mid.room
+      → then.post_room ≡ mid.post_room
       → dues_now ≤ dues + number_if (is_held reply) → HasRoom m.setup m.shares then (owed + number_if (is_held reply)) dues_now
   room-got clock fences views sessions old log mid then owed dues dues_now same room mid_history mid_posts mid_room reserved history posted spent kept owes =
       let h : List Entry = m.history in
@@ -75,6 +83,9 @@ module _ (m : Machine) (s : SessionNo) (line : ℕ) (calls : List Call) (get : W
       let small : length log.posts + owed ≤ 2 * length h = rw (← same) room.small in
       let as_many : length then.posts ≡ length log.posts = ap length posted ∙ ap length mid_posts in
       let posts_old : log.posts ≡ posts m.setup h = rw (← same) room.posts in
-      let posts_new = posts-none m.setup h e (posted-between m.setup h e (old.legal, legal-entered m (Session s) line calls (Get get) reply call replied) refl refl refl) in
-      room-entered m (Session s) line calls (Get get) reply call log then owed (owed + number_if (is_held reply)) dues dues_now same room (history ∙ rw mid_history refl) (posted ∙ mid_posts ∙ posts_old ∙ sym posts_new) (spent ∙ mid_room)
+      let posts_new = posts-none m.setup h e (posted-between m.setup h e (old.legal, legal-entered m (Session s) line calls (Get get) reply call replied) refl
+      refl refl) in
+      room-entered m (Session s) line calls (Get get) reply call log then
+      owed (owed + number_if (is_held reply)) dues dues_now same room (history ∙ rw mid_history refl) (posted ∙ mid_posts ∙ posts_old ∙ sym posts_new)
+      (spent ∙ mid_room)
       (omega (arith, kept, reserved, few-if (is_held reply))) (omega (arith, owes, room.due)) (omega (arith, small, as_many, few-if (is_held reply)))

@@ -39,7 +39,8 @@ asked = []
     ▹ by (Session (s 2)) 10 [] (kind.Get watch.Layout) reply.Held
 
 abbrev joined : List Entry
-joined = asked ▹ by (Session (s 1)) 11 ((call.CreateViewport (c 1) (p 1) 60 40 no_inset) ∷ []) (kind.Viewport (p 1) (record { w = 60; h = 40; inset = no_inset })) reply.Done
+joined = asked ▹ by (Session (s 1)) 11 ((call.CreateViewport (c 1) (p 1) 60 40 no_inset) ∷ [])
+    (kind.Viewport (p 1) (record { w = 60; h = 40; inset = no_inset })) reply.Done
 
 abbrev held : HeldGet → HeldGet → List HeldGet
 held a b = a ∷ b ∷ []
@@ -55,7 +56,8 @@ both-held : helds_of setup asked (s 2) ≡ held of_layout of_status
 both-held = refl
 
 -- the viewport's entry answers both, the layout before the status
-both-answered : answers_to (told setup joined) (helds_of setup asked (s 2)) ≡ (event.Told (p 1) watch.Layout (tell.Layout (layout 60 40 0 0 0 0)) ∷ event.Told (p 1) watch.Status tell.Disconnected ∷ [])
+both-answered : answers_to (told setup joined) (helds_of setup asked (s 2))
+    ≡ (event.Told (p 1) watch.Layout (tell.Layout (layout 60 40 0 0 0 0)) ∷ event.Told (p 1) watch.Status tell.Disconnected ∷ [])
 both-answered = refl
 
 none-left : helds_of setup joined (s 2) ≡ []
@@ -65,7 +67,9 @@ counted : answers setup (s 2) joined ≡ 2
 counted = refl
 
 -- what is kept of the pair: the layout that was told, the status, and a child that wasn't asked for
-are-at : (w : PairWatchers) → w.layout ≡ record { last = Some (tell.Layout (layout 60 40 0 0 0 0)); waits = None } → w.status ≡ record { last = Some tell.Disconnected; waits = None } → w.child ≡ record { last = None; waits = None } → w.former.items ≡ [] → AreAt setup joined joined (p 1) w
+are-at : (w : PairWatchers) → w.layout ≡ record { last = Some (tell.Layout (layout 60 40 0 0 0 0)); waits = None }
+    → w.status ≡ record { last = Some tell.Disconnected; waits = None } → w.child ≡ record { last = None; waits = None } → w.former.items ≡ []
+    → AreAt setup joined joined (p 1) w
 are-at w one two three none = record { layout = one; status = two; child = three; former = none }
 
 -- a viewport that is released and made anew: a get of either child waits
@@ -78,10 +82,12 @@ anew = joined
     ▹ by (Session (s 1)) 16 ((call.ReleaseViewport (c 1)) ∷ []) (kind.Present (present 0 [] [])) (reply.Presented 2 4)
     ▹ by Display 17 [] (kind.Begin 2) reply.Done
     ▹ by Display 18 [] kind.Finish reply.Done
-    ▹ by (Session (s 1)) 19 ((call.CreateViewport (c 2) (p 1) 30 30 no_inset) ∷ []) (kind.Viewport (p 1) (record { w = 30; h = 30; inset = no_inset })) reply.Done
+    ▹ by (Session (s 1)) 19 ((call.CreateViewport (c 2) (p 1) 30 30 no_inset) ∷ []) (kind.Viewport (p 1) (record { w = 30; h = 30; inset = no_inset }))
+    reply.Done
     ▹ by (Session (s 1)) 20 [] (kind.Get (watch.Child (c 2))) reply.Held
 
-first-and-second : helds_of setup anew (s 1) ≡ held (record { watcher = child_of (p 1) 1; get = watch.Child (c 1); last = None }) (record { watcher = child_of (p 1) 2; get = watch.Child (c 2); last = None })
+first-and-second : helds_of setup anew (s 1) ≡ held (record { watcher = child_of (p 1) 1; get = watch.Child (c 1); last = None })
+    (record { watcher = child_of (p 1) 2; get = watch.Child (c 2); last = None })
 first-and-second = refl
 
 -- the end of the child's session answers both, once a frame has ended
@@ -90,5 +96,6 @@ gone = anew
     ▹ by (Session (s 2)) 21 [] (kind.Close None) (reply.Closed None None)
     ▹ by Display 22 [] (kind.Begin 3) reply.Done
 
-pub both-gone : answers_to (told setup (gone ▹ by Display 23 [] kind.Finish reply.Done)) (helds_of setup gone (s 1)) ≡ (event.Told (p 1) (watch.Child (c 1)) tell.Gone ∷ event.Told (p 1) (watch.Child (c 2)) tell.Gone ∷ [])
+pub both-gone : answers_to (told setup (gone ▹ by Display 23 [] kind.Finish reply.Done)) (helds_of setup gone (s 1))
+    ≡ (event.Told (p 1) (watch.Child (c 1)) tell.Gone ∷ event.Told (p 1) (watch.Child (c 2)) tell.Gone ∷ [])
 both-gone = refl

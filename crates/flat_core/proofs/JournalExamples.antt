@@ -40,7 +40,8 @@ setup = record {
 abbrev joined : List Entry
 joined = []
     ▹ entry_of (Session (session 2)) 8 ((call.CreateView (pair 1)) ∷ []) (kind.View (pair 1)) reply.Done
-    ▹ entry_of (Session (session 1)) 9 ((call.CreateViewport (content 1) (pair 1) 60 40 no_inset) ∷ []) (kind.Viewport (pair 1) (record { w = 60; h = 40; inset = no_inset })) reply.Done
+    ▹ entry_of (Session (session 1)) 9 ((call.CreateViewport (content 1) (pair 1) 60 40 no_inset) ∷ [])
+    (kind.Viewport (pair 1) (record { w = 60; h = 40; inset = no_inset })) reply.Done
 
 -- of session 2 there is a glimpse of its own entry alone
 one-glimpse : length (glimpses setup (session 2) joined) ≡ 1

@@ -37,10 +37,13 @@ use Rattle.flat_states.proofs.lemmas.Steps.{few-history}
 
 -- where the session's events begin is in the posts
 pub polled-within : (m : Machine) (s : SessionNo) (calls : List Call) → MayCall m (Session s) calls Poll
-    → (clock : Clock) (fences views : List Bool) (sessions : List SessionState) (log : Logged) (owed : ℕ) {dues : ℕ} (state : SessionState) (all : List Post) → state ≡ slice_index_or sessions (s.0 - 1) state
-    → log.history ≡ m.history → Stands m.setup log.history clock fences views sessions → HasRoom m.setup m.shares log owed dues → all ≡ log.posts → state.account.polled ≤ length all
+    → (clock : Clock) (fences views : List Bool) (sessions : List SessionState) (log : Logged) (owed : ℕ) {dues : ℕ} (state : SessionState) (all : List Post)
+    → state ≡ slice_index_or sessions (s.0 - 1) state
+    → log.history ≡ m.history → Stands m.setup log.history clock fences views sessions → HasRoom m.setup m.shares log owed dues → all ≡ log.posts
+    → state.account.polled ≤ length all
 polled-within m s calls call clock fences views sessions log owed {dues} state all is same stands room posted =
-    let kept : IsKept m.setup (seen_of m.setup log.history s) state = kept-session m.setup log.history clock fences views sessions s state stands (declared-of m.setup Poll s call.may.acts) is in
+    let kept : IsKept m.setup (seen_of m.setup log.history s) state =
+    kept-session m.setup log.history clock fences views sessions s state stands (declared-of m.setup Poll s call.may.acts) is in
     let long : length all ≡ length (posts m.setup log.history) = ap length (posted ∙ room.posts) in
     omega (arith, ap (λ (a : Account). a.polled) kept.account, polled-le m.setup log.history s, long)
 
@@ -52,7 +55,8 @@ pub record Handed (m : Machine) (s : SessionNo) (count : ℕ) (into list : List 
   pub place : length all ≡ length (posts m.setup m.history)
 
 -- a session has no more answers than gets were made
-told-few : (setup : Setup) (h : List Entry) (s : SessionNo) (watchers : Watchers) → AreWatched setup h watchers → 0 < s.0 → s.0 ≤ length watchers.sessions.items → answers setup s h ≤ gets_made h
+told-few : (setup : Setup) (h : List Entry) (s : SessionNo) (watchers : Watchers) → AreWatched setup h watchers → 0 < s.0 → s.0 ≤ length watchers.sessions.items
+    → answers setup s h ≤ gets_made h
 told-few setup h s watchers are some few =
     let all : List KeptGets = watchers.sessions.items in
     let at : s.0 - 1 < length all = omega (arith, some, few) in
@@ -63,20 +67,24 @@ told-few setup h s watchers are some few =
 
 -- a session that polls is open
 polls-open : (before : List Entry) (s : SessionNo) → IsTrue (goes_on before Poll (Session s)) → is_closed s before ≡ false
-polls-open before s goes = not-true (is_closed s before) (and-right (not (list_any (λ entry. is_end entry.kind) (own s before))) (not (is_closed s before)) goes)
+polls-open before s goes = not-true (is_closed s before)
+    (and-right (not (list_any (λ entry. is_end entry.kind) (own s before))) (not (is_closed s before)) goes)
 
 pub handed : (m : Machine) (s : SessionNo) (calls : List Call) → MayCall m (Session s) calls Poll
-    → (clock : Clock) (fences views : List Bool) (sessions : List SessionState) (log : Logged) (owed : ℕ) {dues : ℕ} (state : SessionState) (all : List Post) (into list : List Event) (count : ℕ)
+    → (clock : Clock) (fences views : List Bool) (sessions : List SessionState) (log : Logged) (owed : ℕ) {dues : ℕ} (state : SessionState) (all : List Post)
+    (into list : List Event) (count : ℕ)
     → state ≡ slice_index_or sessions (s.0 - 1) state
     → log.history ≡ m.history → Stands m.setup log.history clock fences views sessions → HasRoom m.setup m.shares log owed dues → all ≡ log.posts
-    → list ≡ into ++ events_for s (drop state.account.polled all) → count ≡ length list - length into → (watchers : Watchers) → AreWatched m.setup m.history watchers → Handed m s count into list all
+    → list ≡ into ++ events_for s (drop state.account.polled all) → count ≡ length list - length into → (watchers : Watchers)
+    → AreWatched m.setup m.history watchers → Handed m s count into list all
 handed m s calls call clock fences views sessions log owed {dues} state all into list count is same stands room posted pushed counted watchers watched =
     let old : Stands m.setup m.history clock fences views sessions = rw (← same) stands in
     let declared = declared-of m.setup Poll s call.may.acts in
     let here = declared-some s.0 m.setup.sessions declared in
     let kept : IsKept m.setup (seen_of m.setup m.history s) state = kept-session m.setup m.history clock fences views sessions s state old declared is in
     let all_posts : all ≡ posts m.setup m.history = posted ∙ rw (← same) room.posts in
-    let events : list ≡ into ++ unread_events m.setup s m.history = handed-over m.setup m.history s into list state.account.polled all here.0 here.1 pushed (ap (λ (a : Account). a.polled) kept.account) all_posts in
+    let events : list ≡ into ++ unread_events m.setup s m.history =
+    handed-over m.setup m.history s into list state.account.polled all here.0 here.1 pushed (ap (λ (a : Account). a.polled) kept.account) all_posts in
     let as_many : count ≡ unread m.setup s m.history = counted ∙ handed-count m.setup m.history s into list events in
     let opened : is_closed s m.history ≡ false = polls-open m.history s call.may.lasts in
     let told = told-few m.setup m.history s watchers watched here.0 (omega (arith, here.1, watched.sessions)) in

@@ -1,5 +1,6 @@
 -- What a poll counts and changes.
-use Rattle.std.proofs.Common.{◌≡◌, ◌≢◌, ℕ, zero, suc, ◌+◌, ◌-◌, ◌<◌, ◌≤◌, Bool, true, false, List, [], ◌∷◌, ◌++◌, length, refl, arith, sym, ◌∙◌, ap, map, drop, length-append, inl, inr, ◌⊎◌}
+use Rattle.std.proofs.Common.{◌≡◌, ◌≢◌, ℕ, zero, suc, ◌+◌, ◌-◌, ◌<◌, ◌≤◌, Bool, true, false, List, [], ◌∷◌, ◌++◌, length, refl, arith, sym, ◌∙◌, ap, map, drop}
+use Rattle.std.proofs.Common.{length-append, inl, inr, ◌⊎◌}
 use Rattle.std.specs.Prelude.{cond, ◌&&◌, ◌==◌, flat_map}
 use Rattle.std.proofs.Math.Seq.{drop-append_seam}
 use Rattle.std.proofs.lemmas.Bool.Decides.{nat_tests, eqb_tells}
@@ -31,7 +32,8 @@ use Rattle.flat_states.proofs.lemmas.Changes.{is-session, kept-account}
 use Rattle.flat_rules.proofs.lemmas.Quiet.{closed-quiet, presents-quiet, taken-quiet, going-quiet, took-quiet}
 
 -- the events of an entry that are a session's: of one session's, and of all sessions'
-mine-or-none : (mine : Bool) (x : Event) (place : ℕ) (t s : SessionNo) (rest : List Post) → (t.0 == s.0) ≡ mine → events_for s (post_of place t x ∷ rest) ≡ cond mine (x ∷ events_for s rest) (events_for s rest)
+mine-or-none : (mine : Bool) (x : Event) (place : ℕ) (t s : SessionNo) (rest : List Post) → (t.0 == s.0) ≡ mine
+    → events_for s (post_of place t x ∷ rest) ≡ cond mine (x ∷ events_for s rest) (events_for s rest)
 mine-or-none true x place t s rest is = rw is refl
 mine-or-none false x place t s rest is = rw is refl
 
@@ -49,7 +51,8 @@ abbrev sent_all : ℕ → (SessionNo → List Event) → ℕ → List Post
 sent_all place f n = flat_map (λ t. map (post_of place t) (f t)) (sessions_to n)
 
 sent-more : (place : ℕ) (f : SessionNo → List Event) (n : ℕ) (s : SessionNo)
-    → events_for s (sent_all place f (suc n)) ≡ events_for s (sent_all place f n) ++ events_for s (map (post_of place (let t : SessionNo = record { 0 = suc n } in t)) (f (let t : SessionNo = record { 0 = suc n } in t)))
+    → events_for s (sent_all place f (suc n)) ≡ events_for s (sent_all place f n)
+    ++ events_for s (map (post_of place (let t : SessionNo = record { 0 = suc n } in t)) (f (let t : SessionNo = record { 0 = suc n } in t)))
 sent-more place f n s =
     let t : SessionNo = record { 0 = suc n } in
     let g : SessionNo → List Post = λ t. map (post_of place t) (f t) in
@@ -95,13 +98,15 @@ polled-le setup [] s = omega arith
 polled-le setup (h ▹ e) s =
     rw length-append (polled-step (is_session s e.actor && is_poll e.kind) (polled_at setup h s) (length (posts setup h)) _ (polled-le setup h s))
 
-unread-step : (s : SessionNo) (polled : Bool) (old : ℕ) (before more : List Post) (unread sent : List Event) → old ≤ length before → unread ≡ events_for s (drop old before) → events_for s more ≡ sent
+unread-step : (s : SessionNo) (polled : Bool) (old : ℕ) (before more : List Post) (unread sent : List Event) → old ≤ length before
+    → unread ≡ events_for s (drop old before) → events_for s more ≡ sent
     → cond polled [] unread ++ sent ≡ events_for s (drop (cond polled (length before) old) (before ++ more))
 unread-step s true old before more unread sent le is here = rw (drop-append_seam, here) refl
 unread-step s false old before more unread sent le is here = rw (drop-append-le old before more le, for-append s (drop old before) more, here, is) refl
 
 -- what is unread are the session's posts from the place on at which its last poll ended
-pub unread-posts : (setup : Setup) (h : List Entry) (s : SessionNo) → 0 < s.0 → s.0 ≤ setup.sessions → unread_events setup s h ≡ events_for s (drop (polled_at setup h s) (posts setup h))
+pub unread-posts : (setup : Setup) (h : List Entry) (s : SessionNo) → 0 < s.0 → s.0 ≤ setup.sessions
+    → unread_events setup s h ≡ events_for s (drop (polled_at setup h s) (posts setup h))
 unread-posts setup [] s some few = refl
 unread-posts setup (h ▹ e) s some few =
     let more : List Post = posts_to setup h e setup.sessions in
@@ -112,13 +117,23 @@ unread-posts setup (h ▹ e) s some few =
     ∙ ap (λ (ps : List Post). events_for s (drop (cond polled (length (posts setup h)) (polled_at setup h s)) ps)) (sym (posts-all setup h e))
 
 pub seen-polled : (setup : Setup) (h : List Entry) (s : SessionNo) (line : ℕ) (carries : List Call) (n : ℕ)
-    → seen_of setup (h ▹ entry_of (Session s) line carries Poll (Polled n)) s ≡ record (seen_of setup h s) { account = record (account_of setup h s) { polled = length (posts setup h) } }
+    → seen_of setup (h ▹ entry_of (Session s) line carries Poll (Polled n)) s
+    ≡ record (seen_of setup h s) { account = record (account_of setup h s) { polled = length (posts setup h) } }
 seen-polled setup h s line carries n =
     let e : Entry = entry_of (Session s) line carries Poll (Polled n) in
-    rw (closed-quiet h e s refl, presents-quiet h e s (λ made. refl), is-session s, taken-quiet setup h e s refl, going-quiet setup h e s refl, took-quiet setup h e s refl refl) refl
+    rw (
+      closed-quiet h e s refl,
+      presents-quiet h e s (λ made. refl),
+      is-session s,
+      taken-quiet setup h e s refl,
+      going-quiet setup h e s refl,
+      took-quiet setup h e s refl refl,
+    ) refl
 
-pub kept-polled : (setup : Setup) (h : List Entry) (s : SessionNo) (line : ℕ) (carries : List Call) (n place : ℕ) (state : SessionState) → place ≡ length (posts setup h) → IsKept setup (seen_of setup h s) state
-    → IsKept setup (seen_of setup (h ▹ entry_of (Session s) line carries Poll (Polled n)) s) (record state { account = record state.account { polled = place } })
+pub kept-polled : (setup : Setup) (h : List Entry) (s : SessionNo) (line : ℕ) (carries : List Call) (n place : ℕ) (state : SessionState)
+    → place ≡ length (posts setup h) → IsKept setup (seen_of setup h s) state
+    → IsKept setup (seen_of setup (h ▹ entry_of (Session s) line carries Poll (Polled n)) s)
+    (record state { account = record state.account { polled = place } })
 kept-polled setup h s line carries n place state same kept =
     rw (seen-polled setup h s line carries n, same)
     (kept-account setup (seen_of setup h s) state (λ (a : Account). let b : Account = record a { polled = length (posts setup h) } in b) (λ a. refl) kept)
@@ -129,5 +144,6 @@ handed-over setup h s into list from all some few is place same =
     is ∙ ap (λ (n : ℕ). into ++ events_for s (drop n all)) place ∙ ap (λ (ps : List Post). into ++ events_for s (drop (polled_at setup h s) ps)) same
     ∙ ap (λ (es : List Event). into ++ es) (sym (unread-posts setup h s some few))
 
-pub handed-count : (setup : Setup) (h : List Entry) (s : SessionNo) (into list : List Event) → list ≡ into ++ unread_events setup s h → length list - length into ≡ unread setup s h
+pub handed-count : (setup : Setup) (h : List Entry) (s : SessionNo) (into list : List Event) → list ≡ into ++ unread_events setup s h
+    → length list - length into ≡ unread setup s h
 handed-count setup h s into list is = omega (arith, ap length is, length-append into (unread_events setup s h))

@@ -47,25 +47,31 @@ presents-few s (h ▹ e) = omega (arith, presents-few s h, own-publishes (is_ses
 -- an accepted present joins those that wait
 pub seen-presented : (setup : Setup) (h : List Entry) (s : SessionNo) (line : ℕ) (carries : List Call) (args : PresentArgs) (n k : ℕ)
     → seen_of setup (h ▹ entry_of (Session s) line carries (Present args) (Presented n k)) s
-    ≡ record (seen_of setup h s) { waiting = waiting setup h s ++ present_of h s carries args ∷ []; account = record (account_of setup h s) { presents = length (presents s h) + 1 } }
+    ≡ record (seen_of setup h s) {
+      waiting = waiting setup h s ++ present_of h s carries args ∷ [];
+      account = record (account_of setup h s) { presents = length (presents s h) + 1 };
+    }
 seen-presented setup h s line carries args n k =
     rw (taken-quiet setup h (entry_of (Session s) line carries (Present args) (Presented n k)) s refl, is-session s)
     (rw (drop-append-le (taken setup h s) (presents s h) (present_of h s carries args ∷ []) (taken-made setup s h), length-append) refl)
 
-joined : {A B C : Type 0} (f : A → C) (g : B → C) (xs : List A) (ys : List B) (x : A) (y : B) → map f xs ≡ map g ys → f x ≡ g y → map f (xs ++ x ∷ []) ≡ map g (ys ++ y ∷ [])
+joined : {A B C : Type 0} (f : A → C) (g : B → C) (xs : List A) (ys : List B) (x : A) (y : B) → map f xs ≡ map g ys → f x ≡ g y
+    → map f (xs ++ x ∷ []) ≡ map g (ys ++ y ∷ [])
 joined f g xs ys x y all one = rw (map-append, map-append, all, one) refl
 
 pub kept-presented : (setup : Setup) (seen : Seen) (state : SessionState) (snap : Arc Snapshot Global) (args : PresentArgs) (present : Published)
     → IsKept setup seen state → state.let_go ≡ false → length state.queue.waiting < 5
     → present.args ≡ args → Some (arc_value snap) ≡ tree_of setup present → Below (length setup.fences) args.acquire → Below (length setup.fences) args.release
-    → IsKept setup (record seen { waiting = seen.waiting ++ present ∷ []; account = record seen.account { presents = seen.account.presents + 1 } }) (with_present state snap args)
+    → IsKept setup (record seen { waiting = seen.waiting ++ present ∷ []; account = record seen.account { presents = seen.account.presents + 1 } })
+    (with_present state snap args)
 kept-presented setup seen state snap args present kept stays few same tree acquire release = record {
   closed = kept.closed;
   account = rw (kept.account, ap (λ (n : ℕ). n + 1) kept.count) refl;
   count = omega (arith, kept.count, length-append {A = WaitingPresent (Arc Snapshot Global)});
   few = omega (arith, few, length-append {A = WaitingPresent (Arc Snapshot Global)});
   taken = kept.taken;
-  waiting = λ gone. joined kept_of (meant setup) state.queue.waiting seen.waiting (record { item = snap; args = args }) present (kept.waiting gone) (rw (same, ← tree) refl);
+  waiting = λ gone. joined kept_of (meant setup) state.queue.waiting seen.waiting (record { item = snap; args = args }) present (kept.waiting gone)
+      (rw (same, ← tree) refl);
   let_go = λ gone. let no : true ≡ false = sym gone ∙ stays in cc;
   acquire = All-push (λ kept. Below (length setup.fences) kept.args.acquire) state.queue.waiting (record { item = snap; args = args }) kept.acquire acquire;
   release = All-push (λ kept. Below (length setup.fences) kept.args.release) state.queue.waiting (record { item = snap; args = args }) kept.release release;

@@ -63,8 +63,10 @@ module _ (setup : Setup) (h : List Entry) (e : Entry) (legal : Legal setup (h �
       }
 
 -- what a begin shows fits, and each session lets go of five presents at most
-pub begin-fits : (setup : Setup) (h : List Entry) (line time : ℕ) (states : List SessionState) (shows : Shown) → IsBegun setup h line time states shows → FitsSetup setup shows
+pub begin-fits : (setup : Setup) (h : List Entry) (line time : ℕ) (states : List SessionState) (shows : Shown) → IsBegun setup h line time states shows
+    → FitsSetup setup shows
 begin-fits setup h line time states shows begins = subst (FitsSetup setup) (sym begins.shown) (states-fit setup (begun h line time) begins.legal)
 
-pub begin-goes : (setup : Setup) (k : List Entry) (states : List SessionState) → AllNumbered (λ i. IsKept setup (seen_of setup k (number i))) states → All (λ state. length state.going.items ≤ 5) states
+pub begin-goes : (setup : Setup) (k : List Entry) (states : List SessionState) → AllNumbered (λ i. IsKept setup (seen_of setup k (number i))) states
+    → All (λ state. length state.going.items ≤ 5) states
 begin-goes setup k states kept i d below = (kept i d below).goes

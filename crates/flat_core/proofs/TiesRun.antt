@@ -15,11 +15,13 @@ use Rattle.flat_rules.proofs.lemmas.ShellRun.{shell_with_two_apps-setup, shell_w
 use Rattle.flat_scene.specs.History.{calls}
 
 -- the application has presented, is shown and connected
-app-seen : sight_of shell_with_two_apps-setup (to_finished shell_with_two_apps-history) (s 2) ≡ record { closed = false; taken = 2; view = Some (p 1); connected = true }
+app-seen : sight_of shell_with_two_apps-setup (to_finished shell_with_two_apps-history) (s 2)
+    ≡ record { closed = false; taken = 2; view = Some (p 1); connected = true }
 app-seen = refl
 
 -- the first frame took nothing of it, as its fence wasn't signalled
-app-before : sight_of shell_with_two_apps-setup (to_finished (drop 11 shell_with_two_apps-history)) (s 2) ≡ record { closed = false; taken = 0; view = None; connected = false }
+app-before : sight_of shell_with_two_apps-setup (to_finished (drop 11 shell_with_two_apps-history)) (s 2)
+    ≡ record { closed = false; taken = 0; view = None; connected = false }
 app-before = refl
 
 -- the shell made two viewports; frames have seen the properties of the second as they were given
@@ -44,12 +46,14 @@ cleared = refl
 released : clears_pair (p 1) (record { name = c 7; pair = p 1 } ∷ record { name = c 8; pair = p 2 } ∷ []) (call.ReleaseViewport (c 7) ∷ call.Clear ∷ []) ≡ false
 released = refl
 
-other-cleared : clears_pair (p 2) (record { name = c 7; pair = p 1 } ∷ record { name = c 8; pair = p 2 } ∷ []) (call.ReleaseViewport (c 7) ∷ call.Clear ∷ []) ≡ true
+other-cleared : clears_pair (p 2) (record { name = c 7; pair = p 1 } ∷ record { name = c 8; pair = p 2 } ∷ []) (call.ReleaseViewport (c 7) ∷ call.Clear ∷ [])
+    ≡ true
 other-cleared = refl
 
 -- a viewport of another serial is no last use
 other-serial : props_among (p 1) (record { serial = 1; pair = p 1; props = record { w = 3; h = 4; inset = no_inset } } ∷ []) 2 ≡ None
 other-serial = refl
 
-last-use : props_among (p 1) (record { serial = 1; pair = p 1; props = record { w = 3; h = 4; inset = no_inset } } ∷ []) 1 ≡ Some (record { w = 3; h = 4; inset = no_inset })
+last-use : props_among (p 1) (record { serial = 1; pair = p 1; props = record { w = 3; h = 4; inset = no_inset } } ∷ []) 1
+    ≡ Some (record { w = 3; h = 4; inset = no_inset })
 last-use = refl

@@ -1,5 +1,6 @@
 -- A viewport, made or refused.
-use Rattle.std.proofs.Common.{◌≡◌, ◌≢◌, ◌∙◌, sym, ℕ, ◌+◌, ◌-◌, ◌*◌, ◌<◌, ◌≤◌, Bool, true, false, List, [], ◌∷◌, length, refl, arith, ap, subst, None, slice_set, slice_index_or, zero-add, inl, inr, ◌⊎◌}
+use Rattle.std.proofs.Common.{◌≡◌, ◌≢◌, ◌∙◌, sym, ℕ, ◌+◌, ◌-◌, ◌*◌, ◌<◌, ◌≤◌, Bool, true, false, List, [], ◌∷◌, length, refl, arith, ap, subst, None, slice_set}
+use Rattle.std.proofs.Common.{slice_index_or, zero-add, inl, inr, ◌⊎◌}
 use Rattle.std.specs.Prelude.{IsTrue, cond, not, ◌&&◌, ◌==◌, nat_le, nat_lt, Option, Some, option_map, unwrap_or, slice_get, sum_by}
 use Rattle.std.specs.List.{list_any, list_all}
 use Rattle.std.proofs.lemmas.Bool.Decides.{nat_tests}
@@ -34,7 +35,8 @@ use Rattle.flat_facts.specs.Begins.{entry_of}
 use Rattle.flat_rules.specs.Numbers.{number, AllNumbered}
 use Rattle.flat_rules.specs.Ends.{is_done, uses_viewport, viewports_of}
 use Rattle.flat_states.specs.Kept.{IsKept}
-use Rattle.flat_rules.specs.Legal.{Legal, all_but_last, goes_on, has_token, links_alone, makes_viewport, number_if, owns_in_call, owns_in_kind, owns_viewport, own_call, refused_token, reply_to}
+use Rattle.flat_rules.specs.Legal.{Legal, all_but_last, goes_on, has_token, links_alone, makes_viewport, number_if, owns_in_call, owns_in_kind, owns_viewport}
+use Rattle.flat_rules.specs.Legal.{own_call, refused_token, reply_to}
 use Rattle.flat_facts.specs.Lives.{makes_one, uses_last, is_new_viewport}
 use Rattle.flat_states.specs.Logs.{Logged}
 use Rattle.flat_rules.specs.AllPosts.{posts}
@@ -63,7 +65,8 @@ use Rattle.flat_rules.proofs.lemmas.AllOrSome.{any-same}
 
 -- ---- the token
 
-any-one : (p q : PairNo) (b : Bool) (released : Option ℕ) → list_any (λ (one : OutToken). one.pair.0 == p.0) (cond b [] ((record { pair = q; released = released }) ∷ [])) ≡ (not b && q.0 == p.0)
+any-one : (p q : PairNo) (b : Bool) (released : Option ℕ)
+    → list_any (λ (one : OutToken). one.pair.0 == p.0) (cond b [] ((record { pair = q; released = released }) ∷ [])) ≡ (not b && q.0 == p.0)
 any-one p q true released = refl
 any-one p q false released = or-false (q.0 == p.0)
 
@@ -84,25 +87,30 @@ module _ (setup : Setup) (h : List Entry) (s : SessionNo) (p : PairNo) where
       let itself : (p.0 == p.0) ≡ true = grind (arith, nat_tests) in
       let here : (not (has_token setup p h) && p.0 == p.0) ≡ true = rw (out, itself) refl in
       let F : ℕ → Type 0 = λ m. (let q : PairNo = record { 0 = m } in not (has_token setup q h) && q.0 == p.0) ≡ true in
-      any-found (λ q. not (has_token setup q h) && q.0 == p.0) (λ pair. is_session s pair.viewport) 0 p.0 setup.pairs (viewport-nested s (slice_get setup.pairs p.0) ∙ owned) (subst F (sym (zero-add p.0)) here))
+      any-found (λ q. not (has_token setup q h) && q.0 == p.0) (λ pair. is_session s pair.viewport) 0 p.0 setup.pairs
+      (viewport-nested s (slice_get setup.pairs p.0) ∙ owned) (subst F (sym (zero-add p.0)) here))
 
 -- ---- what the rules ask of its entry
 
 -- its session is open
-pub opened-viewport : (h : List Entry) (s : SessionNo) (p : PairNo) (props : ViewportProps) → goes_on h (Viewport p props) (Session s) ≡ true → is_closed s h ≡ false
+pub opened-viewport : (h : List Entry) (s : SessionNo) (p : PairNo) (props : ViewportProps) → goes_on h (Viewport p props) (Session s) ≡ true
+    → is_closed s h ≡ false
 opened-viewport h s p props may = not-true (is_closed s h) (and-right _ _ may)
 
 -- no call but the last makes one
-pub others-none : (p : PairNo) (props : ViewportProps) (calls : List Call) → links_alone (Viewport p props) calls ≡ true → list_any is_new_viewport (all_but_last calls) ≡ false
+pub others-none : (p : PairNo) (props : ViewportProps) (calls : List Call) → links_alone (Viewport p props) calls ≡ true
+    → list_any is_new_viewport (all_but_last calls) ≡ false
 others-none p props calls alone = links-made (all_but_last calls) (not-true _ alone)
 
-made-one : (p : PairNo) (props : ViewportProps) (call : Option Call) → makes_viewport p props call ≡ true → unwrap_or (option_map (makes_one p) call) false ≡ true
+made-one : (p : PairNo) (props : ViewportProps) (call : Option Call) → makes_viewport p props call ≡ true
+    → unwrap_or (option_map (makes_one p) call) false ≡ true
 made-one p props None is = cc
 made-one p props (Some (CreateViewport c q w h inset)) is = and-left (q.0 == p.0) _ (and-left _ _ (and-left _ _ is))
 made-one p props (Some _) is = cc
 
 -- and the last does
-pub last-uses : (p : PairNo) (props : ViewportProps) (calls : List Call) → own_call (Viewport p props) (slice_get calls (length calls - 1)) ≡ true → uses_last p calls ≡ true
+pub last-uses : (p : PairNo) (props : ViewportProps) (calls : List Call) → own_call (Viewport p props) (slice_get calls (length calls - 1)) ≡ true
+    → uses_last p calls ≡ true
 last-uses p props calls own = made-one p props (slice_get calls (length calls - 1)) own
 
 -- ---- whether a session is closed
@@ -110,12 +118,15 @@ last-uses p props calls own = made-one p props (slice_get calls (length calls - 
 slice_get_none : {A : Type 0} (xs : List A) (i : ℕ) → slice_get xs i ≡ None → length xs ≤ i
 slice_get_none {A = A} xs i none = by_case (slice_get_cases xs i).1
   where
-    by_case : ((x : A) × (i < length xs) × (slice_get xs i ≡ Some x) × (slice_index_or xs i x ≡ x)) ⊎ ((length xs ≤ i) × (slice_get xs i ≡ None)) → length xs ≤ i
+    by_case : ((x : A) × (i < length xs) × (slice_get xs i ≡ Some x) × (slice_index_or xs i x ≡ x)) ⊎ ((length xs ≤ i) × (slice_get xs i ≡ None))
+        → length xs ≤ i
     by_case (inl found) = let wrong : Some found.0 ≡ None = sym found.2 ∙ none in cc
     by_case (inr and_right) = and_right.0
 
-pub shut-known : (setup : Setup) (h : List Entry) (clock : Clock) (fences views : List Bool) (sessions : List SessionState) (t : SessionNo) → Stands setup h clock fences views sessions
-    → (is_shut sessions t ≡ false → (is_declared setup t ≡ true) × (is_closed t h ≡ false)) × (is_shut sessions t ≡ true → (is_declared setup t ≡ false) ⊎ (is_closed t h ≡ true))
+pub shut-known : (setup : Setup) (h : List Entry) (clock : Clock) (fences views : List Bool) (sessions : List SessionState) (t : SessionNo)
+    → Stands setup h clock fences views sessions
+    → (is_shut sessions t ≡ false → (is_declared setup t ≡ true) × (is_closed t h ≡ false))
+    × (is_shut sessions t ≡ true → (is_declared setup t ≡ false) ⊎ (is_closed t h ≡ true))
 shut-known setup h clock fences views sessions t old = by_place (t.0 == 0) refl (slice_get sessions (t.0 - 1)) refl
   where
     S : Bool → Option SessionState → Bool
@@ -123,14 +134,20 @@ shut-known setup h clock fences views sessions t old = by_place (t.0 == 0) refl 
 
     by_place : (z : Bool) → (t.0 == 0) ≡ z → (o : Option SessionState) → slice_get sessions (t.0 - 1) ≡ o
         → (S z o ≡ false → (is_declared setup t ≡ true) × (is_closed t h ≡ false)) × (S z o ≡ true → (is_declared setup t ≡ false) ⊎ (is_closed t h ≡ true))
-    by_place true first o at = (λ no. cc, λ shut. inl (let it : t.0 ≡ 0 = grind (arith, nat_tests) in let none : nat_lt 0 t.0 ≡ false = grind (arith, nat_tests) in rw none refl))
+    by_place true first o at = (
+      λ no. cc,
+      λ shut. inl (let it : t.0 ≡ 0 = grind (arith, nat_tests) in
+          let none : nat_lt 0 t.0 ≡ false = grind (arith, nat_tests) in rw none refl),
+    )
     by_place false later None at = (
       λ no. cc,
       λ shut. inl (and_right (nat_lt 0 t.0) (nat_le t.0 setup.sessions) (few-none (slice_get_none sessions (t.0 - 1) at))),
     )
       where
         few-none : length sessions ≤ t.0 - 1 → nat_le t.0 setup.sessions ≡ false
-        few-none and_right = let some : t.0 ≢ 0 = λ it. let wrong : (t.0 == 0) ≡ true = grind (arith, nat_tests) in let never : true ≡ false = sym wrong ∙ later in cc in let count : length sessions ≡ setup.sessions = old.count in let over : setup.sessions < t.0 = omega (arith, and_right, some, count) in grind (arith, nat_tests)
+        few-none and_right = let some : t.0 ≢ 0 = λ it. let wrong : (t.0 == 0) ≡ true = grind (arith, nat_tests) in let never : true ≡ false =
+            sym wrong ∙ later in cc in let count : length sessions ≡ setup.sessions = old.count in let over : setup.sessions < t.0 =
+            omega (arith, and_right, some, count) in grind (arith, nat_tests)
     by_place false later (Some state) at =
         let within : t.0 - 1 < length sessions = slice_get_within sessions (t.0 - 1) state at in
         let count : length sessions ≡ setup.sessions = old.count in
@@ -150,15 +167,18 @@ shut-known setup h clock fences views sessions t old = by_place (t.0 == 0) refl 
 
 -- ---- what is kept of its session
 
-pub plain-viewport : (s : SessionNo) (line : ℕ) (calls : List Call) (p : PairNo) (props : ViewportProps) (reply : Reply) → IsPlainOne (entry_of (Session s) line calls (Viewport p props) reply)
+pub plain-viewport : (s : SessionNo) (line : ℕ) (calls : List Call) (p : PairNo) (props : ViewportProps) (reply : Reply)
+    → IsPlainOne (entry_of (Session s) line calls (Viewport p props) reply)
 plain-viewport s line calls p props reply = record { no_begin = refl; no_finish = refl; no_poll = refl; no_view = refl; none = λ made. refl }
 
-pub viewport-kept : (setup : Setup) (h : List Entry) (s : SessionNo) (line : ℕ) (calls : List Call) (p : PairNo) (props : ViewportProps) (is_held : Bool) (state : SessionState) → IsKept setup (seen_of setup h s) state
+pub viewport-kept : (setup : Setup) (h : List Entry) (s : SessionNo) (line : ℕ) (calls : List Call) (p : PairNo) (props : ViewportProps) (is_held : Bool)
+    (state : SessionState) → IsKept setup (seen_of setup h s) state
     → IsKept setup (seen_of setup (h ▹ entry_of (Session s) line calls (Viewport p props) (use_reply is_held)) s) (after_viewport is_held state)
 viewport-kept setup h s line calls p props true state kept =
     rw (seen-plain setup h (entry_of (Session s) line calls (Viewport p props) Done) s (plain-viewport s line calls p props Done) refl (is-session s)) kept
 viewport-kept setup h s line calls p props false state kept =
-    rw (seen-closed setup h (entry_of (Session s) line calls (Viewport p props) refused_token) s (plain-viewport s line calls p props refused_token) refl (is-session s))
+    rw (seen-closed setup h (entry_of (Session s) line calls (Viewport p props) refused_token) s (plain-viewport s line calls p props refused_token) refl
+    (is-session s))
     (kept-closed setup (seen_of setup h s) state kept)
 
 viewport-due : (is_held : Bool) (state : SessionState) → due (after_viewport is_held state) ≡ due state
@@ -176,7 +196,8 @@ other-pair p props q other = by_test (p.0 == q.0) refl
     by_test true is = absurd (other (grind (arith, nat_tests)))
     by_test false is = refl
 
-module _ (m : Machine) (s : SessionNo) (line : ℕ) (calls : List Call) (p : PairNo) (props : ViewportProps) (call : MayCall m (Session s) calls (Viewport p props)) where
+module _ (m : Machine) (s : SessionNo) (line : ℕ) (calls : List Call) (p : PairNo) (props : ViewportProps)
+    (call : MayCall m (Session s) calls (Viewport p props)) where
   opened : is_closed s m.history ≡ false
   opened = opened-viewport m.history s p props call.may.lasts
 
@@ -194,7 +215,8 @@ module _ (m : Machine) (s : SessionNo) (line : ℕ) (calls : List Call) (p : Pai
       let count : length ends ≡ m.setup.sessions = are.count in
       let own : AreViewports m.setup m.history s one.live.items one.out.items =
       at-session (λ t x. AreViewports m.setup m.history t x.live.items x.out.items) ends s one are.each here.0 (omega (arith, here.1, count)) is in
-      told ∙ ap (λ (outs : List OutToken). not (list_any (λ (out : OutToken). out.pair.0 == p.0) outs)) (own.outs opened) ∙ ap not (out-listed m.setup m.history s p owned) ∙ twice (has_token m.setup p m.history)
+      told ∙ ap (λ (outs : List OutToken). not (list_any (λ (out : OutToken). out.pair.0 == p.0) outs)) (own.outs opened)
+      ∙ ap not (out-listed m.setup m.history s p owned) ∙ twice (has_token m.setup p m.history)
     where
       twice : (b : Bool) → not (not b) ≡ b
       twice true = refl
@@ -217,7 +239,8 @@ module _ (m : Machine) (s : SessionNo) (line : ℕ) (calls : List Call) (p : Pai
       × Stands m.setup (m.history ▹ used_entry is_held) clock fences views (slice_set sessions (s.0 - 1) (after_viewport is_held state))
       × AreEnds m.setup (m.history ▹ used_entry is_held) (slice_set ends (s.0 - 1) after)
       × AreTied m.setup (m.history ▹ used_entry is_held) now.followings.items now.pairs.items
-      × ((told : ℕ) → sum_by due (slice_set sessions (s.0 - 1) (after_viewport is_held state)) + (sum_by due_back (slice_set ends (s.0 - 1) after) + told) ≡ sum_by due sessions + (sum_by due_back ends + told) + number_if is_held)
+      × ((told : ℕ) → sum_by due (slice_set sessions (s.0 - 1) (after_viewport is_held state)) + (sum_by due_back (slice_set ends (s.0 - 1) after) + told)
+      ≡ sum_by due sessions + (sum_by due_back ends + told) + number_if is_held)
   kept-used is_held is clock fences views sessions ends state before after of_state of_before old are used tied now ties uses =
       let h : List Entry = m.history in
       let kind : Kind = Viewport p props in
@@ -237,12 +260,27 @@ module _ (m : Machine) (s : SessionNo) (line : ℕ) (calls : List Call) (p : Pai
       let backs = sum_by-set due_back ends (s.0 - 1) after before within in
       let back_new : due_back after ≡ due_back before + number_if is_held = used.count in
       let each : AllNumbered (λ i. IsKept m.setup (seen_of m.setup (h ▹ e) (number i))) (slice_set sessions (s.0 - 1) new) =
-      each-one m s line calls kind (use_reply is_held) call refl refl clock fences views sessions state new of_state old (λ k. viewport-kept m.setup h s line calls p props is_held state k) in
-      let own : AreViewports m.setup h s before.live.items before.out.items = at-session (λ t x. AreViewports m.setup h t x.live.items x.out.items) ends s before are.each here.0 (omega (arith, here.1, ends_count)) of_before in
-      let own_entry : IsOwn m.setup h e s calls state before = record { legal = legal; actor = refl; carried = refl; closed = kept.closed; counted = counts; viewed = ap (λ (a : Account). a.view) kept.account; living = own.lives; no_begin = refl; no_finish = refl } in
-      let all : AreEnds m.setup (h ▹ e) (slice_set ends (s.0 - 1) after) = ends-one m.setup h e legal refl ends s refl declared before after of_before (λ own. by_held is_held refl legal own counts) are in (
+      each-one m s line calls kind (use_reply is_held) call refl refl clock fences views sessions state new of_state old
+      (λ k. viewport-kept m.setup h s line calls p props is_held state k) in
+      let own : AreViewports m.setup h s before.live.items before.out.items =
+      at-session (λ t x. AreViewports m.setup h t x.live.items x.out.items) ends s before are.each here.0 (omega (arith, here.1, ends_count)) of_before in
+      let own_entry : IsOwn m.setup h e s calls state before =
+      record {
+        legal = legal;
+        actor = refl;
+        carried = refl;
+        closed = kept.closed;
+        counted = counts;
+        viewed = ap (λ (a : Account). a.view) kept.account;
+        living = own.lives;
+        no_begin = refl;
+        no_finish = refl;
+      } in
+      let all : AreEnds m.setup (h ▹ e) (slice_set ends (s.0 - 1) after) =
+      ends-one m.setup h e legal refl ends s refl declared before after of_before (λ own. by_held is_held refl legal own counts) are in (
         legal,
-        stands-entered m (Session s) line calls kind (use_reply is_held) call says refl refl clock fences fences views views sessions (slice_set sessions (s.0 - 1) new) old
+        stands-entered m (Session s) line calls kind (use_reply is_held) call says refl refl clock fences fences views views sessions
+            (slice_set sessions (s.0 - 1) new) old
             (unchanged m e fences views (λ sessions g f. refl) (λ p. refl)) (length-set sessions (s.0 - 1) new) each,
         all,
         uses m.setup h e own_entry opened refl refl ties,
@@ -258,17 +296,28 @@ module _ (m : Machine) (s : SessionNo) (line : ℕ) (calls : List Call) (p : Pai
       by_held true some legal own counts =
           let itself : (p.0 == p.0) ≡ true = grind (arith, nat_tests) in
           let uses : (uses_viewport p (Viewport p props) && is_done (use_reply is_held)) ≡ true = rw (itself, some) refl in
-          let step = viewports-used m.setup s declared m.history (entry_of (Session s) line calls (Viewport p props) (use_reply is_held)) legal (is-session s) refl p owned uses (other-pair p props) (sym is ∙ some) props call.may.calls
+          let step = viewports-used m.setup s declared m.history (entry_of (Session s) line calls (Viewport p props) (use_reply is_held)) legal (is-session s)
+          refl p owned uses (other-pair p props) (sym is ∙ some) props call.may.calls
           before.live.items before.out.items own in
           rw (used.live some, used.out some, counts) step
 
   -- what pairs tell then
-  pub telling-used : (is_held : Bool) (clock : Clock) (fences views : List Bool) (sessions : List SessionState) (port : DisplayPort) (now : Ties) → port ≡ port_of clock.ratios.finished m.setup → Stands m.setup m.history clock fences views sessions → Legal m.setup (m.history ▹ used_entry is_held)
-      → AreTied m.setup (m.history ▹ used_entry is_held) now.followings.items now.pairs.items → IsTelling m.setup port now views m.setup (m.history ▹ used_entry is_held)
-  telling-used is_held clock fences views sessions port now shows old legal tied = record { same = refl; shows = port-kept m.setup m.history clock.ratios port (ratios-kept m.setup m.history clock fences views sessions old) shows; legal = legal; tied = tied; viewed = old.viewed }
+  pub telling-used : (is_held : Bool) (clock : Clock) (fences views : List Bool) (sessions : List SessionState) (port : DisplayPort) (now : Ties)
+      → port ≡ port_of clock.ratios.finished m.setup → Stands m.setup m.history clock fences views sessions → Legal m.setup (m.history ▹ used_entry is_held)
+      → AreTied m.setup (m.history ▹ used_entry is_held) now.followings.items now.pairs.items
+      → IsTelling m.setup port now views m.setup (m.history ▹ used_entry is_held)
+  telling-used is_held clock fences views sessions port now shows old legal tied =
+      record {
+        same = refl;
+        shows = port-kept m.setup m.history clock.ratios port (ratios-kept m.setup m.history clock fences views sessions old) shows;
+        legal = legal;
+        tied = tied;
+        viewed = old.viewed;
+      }
 
   -- and who hears of it
-  pub join-used : (is_held : Bool) (clock : Clock) (fences views : List Bool) (sessions : List SessionState) (pair : PairDecl) → Stands m.setup m.history clock fences views sessions → Legal m.setup (m.history ▹ used_entry is_held)
+  pub join-used : (is_held : Bool) (clock : Clock) (fences views : List Bool) (sessions : List SessionState) (pair : PairDecl)
+      → Stands m.setup m.history clock fences views sessions → Legal m.setup (m.history ▹ used_entry is_held)
       → slice_get m.setup.pairs p.0 ≡ Some pair → IsJoin m.setup m.history (used_entry is_held) is_held pair.view (is_shut sessions pair.view) p
   join-used is_held clock fences views sessions pair old legal at =
       let known = shut-known m.setup m.history clock fences views sessions pair.view old in
@@ -285,10 +334,14 @@ module _ (m : Machine) (s : SessionNo) (line : ℕ) (calls : List Call) (p : Pai
       }
 
   -- the journal after it, where so many events were posted
-  pub room-used : (is_held : Bool) (log then : Logged) (owed dues dues_now count : ℕ) → log.history ≡ m.history → HasRoom m.setup m.shares log owed dues → then.history ≡ (log.history ▹ used_entry is_held)
-      → then.posts ≡ posts m.setup (m.history ▹ used_entry is_held) → length then.posts ≡ length log.posts + count → then.room + 1 ≡ log.room → then.post_room + count ≡ log.post_room → owed + 1 ≤ log.post_room
+  pub room-used : (is_held : Bool) (log then : Logged) (owed dues dues_now count : ℕ) → log.history ≡ m.history → HasRoom m.setup m.shares log owed dues
+      → then.history ≡ (log.history ▹ used_entry is_held)
+      → then.posts ≡ posts m.setup (m.history ▹ used_entry is_held) → length then.posts ≡ length log.posts + count → then.room + 1 ≡ log.room
+      → then.post_room + count ≡ log.post_room → owed + 1 ≤ log.post_room
       → dues_now + count ≡ dues + number_if is_held → HasRoom m.setup m.shares then (owed + number_if is_held - count) dues_now
   room-used is_held log then owed dues dues_now count same room history posted longer spent used reserved owes =
       let small : length log.posts + owed ≤ 2 * length m.history = rw (← same) room.small in
-      room-entered m (Session s) line calls (Viewport p props) (use_reply is_held) call log then owed (owed + number_if is_held - count) dues dues_now same room history posted spent
-      (omega (arith, used, reserved, few-if is_held, owes, room.due)) (omega (arith, owes, room.due)) (omega (arith, longer, small, few-if is_held, owes, room.due))
+      room-entered m (Session s) line calls (Viewport p props) (use_reply is_held) call log then
+      owed (owed + number_if is_held - count) dues dues_now same room history posted spent
+      (omega (arith, used, reserved, few-if is_held, owes, room.due)) (omega (arith, owes, room.due))
+      (omega (arith, longer, small, few-if is_held, owes, room.due))

@@ -37,7 +37,8 @@ all : hull (rect 40 ∷ rect 0 ∷ rect 20 ∷ []) ≡ record { x0 = pos 0; y0 =
 all = refl
 
 abbrev sixteen : List Rect
-sixteen = rect 0 ∷ rect 1 ∷ rect 2 ∷ rect 3 ∷ rect 4 ∷ rect 5 ∷ rect 6 ∷ rect 7 ∷ rect 8 ∷ rect 9 ∷ rect 10 ∷ rect 11 ∷ rect 12 ∷ rect 13 ∷ rect 14 ∷ rect 15 ∷ []
+sixteen = rect 0 ∷ rect 1 ∷ rect 2 ∷ rect 3 ∷ rect 4 ∷ rect 5 ∷ rect 6 ∷ rect 7 ∷ rect 8 ∷ rect 9 ∷ rect 10 ∷ rect 11 ∷ rect 12 ∷ rect 13 ∷ rect 14 ∷ rect 15
+    ∷ []
 
 sixteen-stay : bounded sixteen ≡ sixteen
 sixteen-stay = refl

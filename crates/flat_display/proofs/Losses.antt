@@ -30,7 +30,10 @@ not_alone l n h = grind arith
 
 pub once-more : (ls : List Lost) (l : Lost) → IsOnce ls → is_lost ls l.display ≡ false → IsOnce (ls ++ l ∷ [])
 once-more [] l o new = (refl, tt)
-once-more (x ∷ xs) l (first, o) new = (rw (lost-append xs (l ∷ []) x.display) (or_from _ _ first (not_alone l x.display (not_first x xs l.display new))), once-more xs l o (not_later x xs l.display new))
+once-more (x ∷ xs) l (first, o) new = (
+  rw (lost-append xs (l ∷ []) x.display) (or_from _ _ first (not_alone l x.display (not_first x xs l.display new))),
+  once-more xs l o (not_later x xs l.display new),
+)
 
 -- the numbers of those that are lost
 abbrev numbers : List Lost → List ℕ
@@ -66,4 +69,8 @@ length-map_numbers (x ∷ xs) = grind (arith, length-map_numbers xs)
 
 -- While a display isn't lost, there are fewer losses than displays.
 pub fewer : (d : ℕ) (ls : List Lost) (n : ℕ) → IsOnce ls → AreWithin d ls → is_lost ls n ≡ false → 1 ≤ n → n ≤ d → length ls < d
-fewer d ls n o w new low high = omega (arith, length-map_numbers ls, length-le_from_distinct_below (0 ∷ n ∷ numbers ls) (d + 1) (all_apart d ls n o w new low) (all_below_too d ls n w high))
+fewer d ls n o w new low high = omega (
+  arith,
+  length-map_numbers ls,
+  length-le_from_distinct_below (0 ∷ n ∷ numbers ls) (d + 1) (all_apart d ls n o w new low) (all_below_too d ls n w high),
+)

@@ -31,16 +31,23 @@ abbrev child : GraphNode
 child = record (new_node 2) { content = Some (record { serial = 1; viewport = false }); hits = Some [] }
 
 abbrev graph : GraphState
-graph = record { nodes = Some parent ∷ Some child ∷ None ∷ []; names = (record { id = 5; key = 0 }) ∷ (record { id = 6; key = 1 }) ∷ []; root = Some 0; made = 2 }
+graph = record {
+  nodes = Some parent ∷ Some child ∷ None ∷ [];
+  names = (record { id = 5; key = 0 }) ∷ (record { id = 6; key = 1 }) ∷ [];
+  root = Some 0;
+  made = 2;
+}
 
 abbrev pair : PairNo
 pair = record { 0 = 3 }
 
 -- what a transform shows, and its node
-content : (content_shown table None ≡ None) × (content_shown table (Some (record { serial = 1; viewport = false })) ≡ Some (shown.Fill 1 (1 ∷ 2 ∷ 3 ∷ 4 ∷ []) 10 20))
+content : (content_shown table None ≡ None) × (content_shown table (Some (record { serial = 1; viewport = false }))
+    ≡ Some (shown.Fill 1 (1 ∷ 2 ∷ 3 ∷ 4 ∷ []) 10 20))
 content = (refl, refl)
 
-root-hits : ((leaf table true parent).hits ≡ (record { area = None; interaction = Default }) ∷ []) × ((leaf table false parent).hits ≡ []) × ((leaf table true child).hits ≡ [])
+root-hits : ((leaf table true parent).hits ≡ (record { area = None; interaction = Default }) ∷ []) × ((leaf table false parent).hits ≡ [])
+    × ((leaf table true child).hits ≡ [])
 root-hits = (refl, refl, refl)
 
 -- keys without a node are passed over, and levels cut off
@@ -60,7 +67,8 @@ whole = (refl, refl, refl)
 views : (first_reason (view_tests (Some pair)) ≡ Some HasView) × (first_reason (view_tests None) ≡ None) × (first_reason (no_view_tests None) ≡ Some NoView)
 views = (refl, refl, refl)
 
-givings : (first_reason (content_tests graph table 0 8) ≡ Some ZeroId) × (first_reason (content_tests graph table 4 8) ≡ Some UnknownTransform) × (first_reason (content_tests graph table 5 8) ≡ Some UnknownContent)
+givings : (first_reason (content_tests graph table 0 8) ≡ Some ZeroId) × (first_reason (content_tests graph table 4 8) ≡ Some UnknownTransform)
+    × (first_reason (content_tests graph table 5 8) ≡ Some UnknownContent)
     × (first_reason (content_tests graph table 5 7) ≡ None)
 givings = (refl, refl, refl, refl)
 
@@ -72,7 +80,8 @@ answers : (made (Ok 4) ≡ Ok tt) × (made (Err part.Memory) ≡ Err part.Memory
 answers = (refl, refl, refl)
 
 -- a misuse closes and changes nothing else; a Clear leaves the contents
-states : ((closed (empty_state [])).closed ≡ true) × ((empty_state []).closed ≡ false) × ((emptied (record { graph = graph; contents = table; view = Some pair; closed = false })).view ≡ None)
+states : ((closed (empty_state [])).closed ≡ true) × ((empty_state []).closed ≡ false)
+    × ((emptied (record { graph = graph; contents = table; view = Some pair; closed = false })).view ≡ None)
     × ((emptied (record { graph = graph; contents = table; view = Some pair; closed = false })).contents.contents ≡ table.contents)
 states = (refl, refl, refl, refl)
 
@@ -80,12 +89,14 @@ states = (refl, refl, refl, refl)
 abbrev seen : TableState
 seen = with_stored table 9 (Viewport pair (record { w = 1; h = 1; inset = record { top = 0; right = 0; bottom = 0; left = 0 } }))
 
-gets : (watched (Some pair) seen watch.Layout ≡ Some pair) × (watched None seen (watch.Child (record { 0 = 9 })) ≡ Some pair) × (first_reason (watch_tests None seen watch.Status) ≡ Some NoView)
+gets : (watched (Some pair) seen watch.Layout ≡ Some pair) × (watched None seen (watch.Child (record { 0 = 9 })) ≡ Some pair)
+    × (first_reason (watch_tests None seen watch.Status) ≡ Some NoView)
     × (first_reason (watch_tests None seen (watch.Child (record { 0 = 7 }))) ≡ Some WrongContent)
 gets = (refl, refl, refl, refl)
 
 drafted : (pair_watched (record empty_draft { view = Some pair }) watch.Status ≡ Some pair) × (pair_watched empty_draft (watch.Child (record { 0 = 9 })) ≡ None)
 drafted = (refl, refl)
 
-taking : (takes_memory (CreateView pair) ≡ false) × (takes_memory (CreateFilledRect (record { 0 = 1 })) ≡ true) × (takes_memory (ReplaceChildren (record { 0 = 1 }) []) ≡ true)
+taking : (takes_memory (CreateView pair) ≡ false) × (takes_memory (CreateFilledRect (record { 0 = 1 })) ≡ true)
+    × (takes_memory (ReplaceChildren (record { 0 = 1 }) []) ≡ true)
 taking = (refl, refl, refl)

@@ -1,5 +1,6 @@
 -- A walk that builds the nodes of some keys.
-use Rattle.std.proofs.Common.{ℕ, zero, suc, ◌+◌, ◌-◌, ◌<◌, ◌≤◌, ◌≡◌, refl, sym, ◌∙◌, ap, Bool, true, false, List, [], ◌∷◌, length, drop, Option, Some, None, slice_index_or, drop-cons, add-one, arith}
+use Rattle.std.proofs.Common.{ℕ, zero, suc, ◌+◌, ◌-◌, ◌<◌, ◌≤◌, ◌≡◌, refl, sym, ◌∙◌, ap, Bool, true, false, List, [], ◌∷◌, length, drop, Option, Some, None}
+use Rattle.std.proofs.Common.{slice_index_or, drop-cons, add-one, arith}
 use Rattle.std.specs.Prelude.{option_to_list, IsFalse}
 use Rattle.flat_base.specs.declared.limits.TheConstants.{PATH_NODES_MAX}
 use Rattle.flat_scene.specs.declared.trees.Children.{Children}
@@ -32,7 +33,8 @@ module _ (graph : GraphState) (table : TableState) where
   shown-zero is_root keys = refl
 
   -- a key without a node, and one with a node
-  pub shown-skip : (levels : ℕ) (is_root : Bool) (key : ℕ) (keys : List ℕ) → node_at graph key ≡ None → shown_nodes graph table levels is_root (key ∷ keys) ≡ shown_nodes graph table levels is_root keys
+  pub shown-skip : (levels : ℕ) (is_root : Bool) (key : ℕ) (keys : List ℕ) → node_at graph key ≡ None
+      → shown_nodes graph table levels is_root (key ∷ keys) ≡ shown_nodes graph table levels is_root keys
   unfolding shown_nodes
   shown-skip zero is_root key keys e = refl
   shown-skip (suc levels) is_root key keys e = rw e refl
@@ -44,18 +46,22 @@ module _ (graph : GraphState) (table : TableState) where
   shown-more levels is_root key keys node e = rw e refl
 
   -- what is shown has no more nodes than the forest
-  pub shown-count : (levels : ℕ) (is_root : Bool) (keys : List ℕ) → node_count (shown_nodes graph table levels is_root keys) ≤ size (below (links_in graph) levels keys)
+  pub shown-count : (levels : ℕ) (is_root : Bool) (keys : List ℕ)
+      → node_count (shown_nodes graph table levels is_root keys) ≤ size (below (links_in graph) levels keys)
   shown-count zero is_root keys = rw (shown-zero is_root keys) (omega arith)
   shown-count (suc levels) is_root [] = rw (shown-none (suc levels) is_root) (omega arith)
-  shown-count (suc levels) is_root (key ∷ keys) = by_node (node_at graph key) refl (shown-count (suc levels) is_root keys) (shown-count levels false (links_in graph key))
+  shown-count (suc levels) is_root (key ∷ keys) = by_node (node_at graph key) refl (shown-count (suc levels) is_root keys)
+      (shown-count levels false (links_in graph key))
     where
-      by_node : (x : Option GraphNode) → node_at graph key ≡ x → node_count (shown_nodes graph table (suc levels) is_root keys) ≤ size (below (links_in graph) (suc levels) keys)
+      by_node : (x : Option GraphNode) → node_at graph key ≡ x
+          → node_count (shown_nodes graph table (suc levels) is_root keys) ≤ size (below (links_in graph) (suc levels) keys)
           → node_count (shown_nodes graph table levels false (links_in graph key)) ≤ size (below (links_in graph) levels (links_in graph key))
           → node_count (shown_nodes graph table (suc levels) is_root (key ∷ keys)) ≤ size (below (links_in graph) (suc levels) (key ∷ keys))
       by_node None e rest first = rw (shown-skip (suc levels) is_root key keys e, below-first (links_in graph) (suc levels) key keys) (omega (arith, rest))
       by_node (Some node) e rest first =
           let links : links_in graph key ≡ node.children = rw e refl in
-          let first' : node_count (shown_nodes graph table levels false node.children) ≤ size (below (links_in graph) levels node.children) = rw links at first in
+          let first' : node_count (shown_nodes graph table levels false node.children) ≤ size (below (links_in graph) levels node.children) =
+          rw links at first in
           rw (shown-more levels is_root key keys node e, below-first (links_in graph) (suc levels) key keys, links) (omega (arith, rest, first'))
 
   -- so far all is built but what is left, for which there is room
@@ -78,13 +84,15 @@ module _ (graph : GraphState) (table : TableState) where
       }
 
   -- a key is left where there is a level and room
-  pub laying-fits : (levels : ℕ) (is_root : Bool) (keys : List ℕ) (key : ℕ) (rest : List ℕ) (start now : Building) → IsLaying levels is_root keys (key ∷ rest) start now → (1 ≤ levels) × (1 ≤ now.room)
+  pub laying-fits : (levels : ℕ) (is_root : Bool) (keys : List ℕ) (key : ℕ) (rest : List ℕ) (start now : Building)
+      → IsLaying levels is_root keys (key ∷ rest) start now → (1 ≤ levels) × (1 ≤ now.room)
   laying-fits levels is_root keys key rest start now l =
       let room = rw (below-first (links_in graph) levels key rest) at l.room in
       (omega (arith, room.short), omega (arith, room.small))
 
   -- and room for what is below it
-  pub laying-below : (levels fewer : ℕ) (is_root : Bool) (keys : List ℕ) (key : ℕ) (rest : List ℕ) (start now : Building) (node : GraphNode) → levels ≡ suc fewer → node_at graph key ≡ Some node
+  pub laying-below : (levels fewer : ℕ) (is_root : Bool) (keys : List ℕ) (key : ℕ) (rest : List ℕ) (start now : Building) (node : GraphNode)
+      → levels ≡ suc fewer → node_at graph key ≡ Some node
       → IsLaying levels is_root keys (key ∷ rest) start now → HasRoom (below (links_in graph) fewer node.children) fewer (now.room - 1)
   laying-below levels fewer is_root keys key rest start now node less e l =
       let links : links_in graph key ≡ node.children = rw e refl in
@@ -92,7 +100,8 @@ module _ (graph : GraphState) (table : TableState) where
       record { short = omega (arith, room.short); small = omega (arith, room.small) }
 
   -- a node is built, with all below it
-  pub laying-more : (levels fewer : ℕ) (is_root : Bool) (keys : List ℕ) (key : ℕ) (rest : List ℕ) (start now deeper after : Building) (node : GraphNode) → levels ≡ suc fewer → node_at graph key ≡ Some node
+  pub laying-more : (levels fewer : ℕ) (is_root : Bool) (keys : List ℕ) (key : ℕ) (rest : List ℕ) (start now deeper after : Building) (node : GraphNode)
+      → levels ≡ suc fewer → node_at graph key ≡ Some node
       → deeper ≡ adds (entered now (leaf table is_root node)) (shown_nodes graph table fewer false node.children) → after ≡ left deeper
       → IsLaying levels is_root keys (key ∷ rest) start now → IsLaying levels is_root keys rest start after
   laying-more levels fewer is_root keys key rest start now deeper after node less e built closed l =
@@ -100,17 +109,21 @@ module _ (graph : GraphState) (table : TableState) where
       let is : after ≡ adds now one = closed ∙ ap left built ∙ left-adds now (leaf table is_root node) (shown_nodes graph table fewer false node.children) in
       let links : links_in graph key ≡ node.children = rw e refl in
       let room = rw (below-first (links_in graph) levels key rest, less, links) at l.room in
-      let few : node_count (shown_nodes graph table fewer false node.children) ≤ size (below (links_in graph) fewer node.children) = shown-count fewer false node.children in
+      let few : node_count (shown_nodes graph table fewer false node.children) ≤ size (below (links_in graph) fewer node.children) =
+      shown-count fewer false node.children in
       rw is
       (record {
-        whole = adds-adds now one (shown_nodes graph table levels is_root rest) ∙ sym (ap (adds now) (rw less (shown-more fewer is_root key rest node e))) ∙ l.whole;
+        whole = adds-adds now one (shown_nodes graph table levels is_root rest) ∙ sym (ap (adds now) (rw less (shown-more fewer is_root key rest node e)))
+            ∙ l.whole;
         room = record { short = rw less (omega (arith, room.short)); small = rw less (omega (arith, room.small, few)) };
       })
 
-  pub laying-begin : (levels : ℕ) (is_root : Bool) (keys : List ℕ) (start : Building) → HasRoom (below (links_in graph) levels keys) levels start.room → IsLaying levels is_root keys keys start start
+  pub laying-begin : (levels : ℕ) (is_root : Bool) (keys : List ℕ) (start : Building) → HasRoom (below (links_in graph) levels keys) levels start.room
+      → IsLaying levels is_root keys keys start start
   laying-begin levels is_root keys start room = record { whole = refl; room = room }
 
-  pub laying-end : (levels : ℕ) (is_root : Bool) (keys : List ℕ) (start now : Building) → IsLaying levels is_root keys [] start now → now ≡ adds start (shown_nodes graph table levels is_root keys)
+  pub laying-end : (levels : ℕ) (is_root : Bool) (keys : List ℕ) (start now : Building) → IsLaying levels is_root keys [] start now
+      → now ≡ adds start (shown_nodes graph table levels is_root keys)
   laying-end levels is_root keys start now l = sym (adds-none now) ∙ ap (adds now) (sym (shown-none levels is_root)) ∙ l.whole
 
   -- no root, no node; one root, one node at most

@@ -41,10 +41,12 @@ module _ (setup : Setup) (draft : Draft) (call : Call) (old new : DraftState) wh
   -- A call's answer. A misuse closes the draft, and any other call is done, but where it takes memory and there is
   -- none. A closed draft does nothing.
   abbrev pub IsAnswer : Result Unit DraftFault → Type 0
-  IsAnswer (Ok done) = (old.closed ≡ false) × (misuse setup draft call ≡ None) × StandsFor setup new (effect draft call) × (new.closed ≡ false)
+  IsAnswer (Ok done) = (old.closed ≡ false) × (misuse setup draft call ≡ None) × StandsFor setup new (effect draft call)
+      × (new.closed ≡ false)
   IsAnswer (Err (Bad reason)) = (old.closed ≡ false) × (misuse setup draft call ≡ Some reason) × (new ≡ closed old)
   IsAnswer (Err Closed) = (old.closed ≡ true) × (new ≡ old)
-  IsAnswer (Err Memory) = (old.closed ≡ false) × (misuse setup draft call ≡ None) × (takes_memory call ≡ true) × (new ≡ old)
+  IsAnswer (Err Memory) = (old.closed ≡ false) × (misuse setup draft call ≡ None) × (takes_memory call ≡ true)
+      × (new ≡ old)
 
   -- The answer where a misuse leaves the draft as it was.
   abbrev pub IsTried : Result Unit DraftFault → Type 0
@@ -53,7 +55,8 @@ module _ (setup : Setup) (draft : Draft) (call : Call) (old new : DraftState) wh
 
   -- What the parts of an open draft make of a call. A refusal leaves them as they were.
   abbrev pub IsApplied : Result Unit GraphFault → Type 0
-  IsApplied (Ok done) = (misuse setup draft call ≡ None) × StandsFor setup new (effect draft call) × (new.closed ≡ old.closed)
+  IsApplied (Ok done) = (misuse setup draft call ≡ None) × StandsFor setup new (effect draft call)
+      × (new.closed ≡ old.closed)
   IsApplied (Err (part.Bad reason)) = (misuse setup draft call ≡ Some reason) × (new ≡ old)
   IsApplied (Err part.Memory) = (misuse setup draft call ≡ None) × (takes_memory call ≡ true) × (new ≡ old)
 
@@ -73,14 +76,17 @@ module _ (setup : Setup) (draft : Draft) (call : Call) (old new : DraftState) wh
   -- What a call would be answered that uses an end.
   -- Where it would be done there is room for it, and the draft is what it was; a misuse doesn't close it.
   abbrev pub IsReadied : Result Unit DraftFault → Type 0
-  IsReadied (Ok done) = (old.closed ≡ false) × (misuse setup draft call ≡ None) × StandsFor setup new draft × (new.closed ≡ false) × (has_room_for call new ≡ true)
+  IsReadied (Ok done) = (old.closed ≡ false) × (misuse setup draft call ≡ None) × StandsFor setup new draft
+      × (new.closed ≡ false) × (has_room_for call new ≡ true)
   IsReadied (Err (Bad reason)) = (old.closed ≡ false) × (misuse setup draft call ≡ Some reason) × (new ≡ old)
   IsReadied (Err Closed) = (old.closed ≡ true) × (new ≡ old)
-  IsReadied (Err Memory) = (old.closed ≡ false) × (misuse setup draft call ≡ None) × (takes_memory call ≡ true) × (new ≡ old)
+  IsReadied (Err Memory) = (old.closed ≡ false) × (misuse setup draft call ≡ None) × (takes_memory call ≡ true)
+      × (new ≡ old)
 
   -- the same of the parts of an open draft
   abbrev pub IsTested : Result Unit GraphFault → Type 0
-  IsTested (Ok done) = (misuse setup draft call ≡ None) × StandsFor setup new draft × (new.closed ≡ old.closed) × (has_room_for call new ≡ true)
+  IsTested (Ok done) = (misuse setup draft call ≡ None) × StandsFor setup new draft × (new.closed ≡ old.closed)
+      × (has_room_for call new ≡ true)
   IsTested (Err (part.Bad reason)) = (misuse setup draft call ≡ Some reason) × (new ≡ old)
   IsTested (Err part.Memory) = (misuse setup draft call ≡ None) × (takes_memory call ≡ true) × (new ≡ old)
 
@@ -97,7 +103,8 @@ module _ (draft : Draft) (args : PresentArgs) (old new : DraftState) where
 
   -- A present is refused. A misuse closes the draft; a closed one does nothing.
   abbrev pub IsRefused : DraftFault → Type 0
-  IsRefused (Bad reason) = (old.closed ≡ false) × (first_reason (present_tests draft args) ≡ Some reason) × (new ≡ closed old)
+  IsRefused (Bad reason) = (old.closed ≡ false) × (first_reason (present_tests draft args) ≡ Some reason)
+      × (new ≡ closed old)
   IsRefused Closed = (old.closed ≡ true) × (new ≡ old)
   IsRefused Memory = (old.closed ≡ false) × (new ≡ old)
 
@@ -110,7 +117,9 @@ pair_watched draft (watch.Child c) = option_and_then pair_of (made_of draft c)
 module _ (draft : Draft) (get : Watch) (old new : DraftState) where
   -- A get's answer. It never takes memory; a misuse closes the draft.
   abbrev pub IsWatched : Result PairNo DraftFault → Type 0
-  IsWatched (Ok pair) = (old.closed ≡ false) × (first_reason (get_tests draft get) ≡ None) × (pair_watched draft get ≡ Some pair) × (new ≡ old)
-  IsWatched (Err (Bad reason)) = (old.closed ≡ false) × (first_reason (get_tests draft get) ≡ Some reason) × (new ≡ closed old)
+  IsWatched (Ok pair) = (old.closed ≡ false) × (first_reason (get_tests draft get) ≡ None)
+      × (pair_watched draft get ≡ Some pair) × (new ≡ old)
+  IsWatched (Err (Bad reason)) = (old.closed ≡ false) × (first_reason (get_tests draft get) ≡ Some reason)
+      × (new ≡ closed old)
   IsWatched (Err Closed) = (old.closed ≡ true) × (new ≡ old)
   IsWatched (Err Memory) = ⊥

@@ -48,7 +48,8 @@ laid make (Some node ∷ slots) = more (make node) (laid make slots)
 unfoldable pub shown_nodes : GraphState → TableState → ℕ → Bool → List ℕ → Children
 shown_nodes graph table zero is_root keys = Empty
 shown_nodes graph table (suc levels) is_root keys =
-    laid (λ node. with_children (leaf table is_root node) (shown_nodes graph table levels false node.children)) (map (node_at graph) keys)
+    laid (λ node. with_children (leaf table is_root node) (shown_nodes graph table levels false node.children))
+    (map (node_at graph) keys)
 
 -- the nodes of the paths from the root
 abbrev pub all_shown : GraphState → TableState → Children
@@ -56,7 +57,11 @@ all_shown graph table = shown_nodes graph table PATH_NODES_MAX true (option_to_l
 
 -- the tree of a graph and a table, with a view
 abbrev pub shown_tree : Option PairNo → GraphState → TableState → Tree
-shown_tree view graph table = record { view = view; root = head_of (all_shown graph table); viewports = filter_map (use_at table) table.viewports }
+shown_tree view graph table = record {
+  view = view;
+  root = head_of (all_shown graph table);
+  viewports = filter_map (use_at table) table.viewports;
+}
 
 -- a forest's paths have so few nodes, and there is room for it
 pub record HasRoom (forest : Forest) (levels room : ℕ) : Type 0 where

@@ -2,7 +2,8 @@
 use Rattle.std.proofs.Common.{◌≡◌, ◌+◌, ◌*◌, ℕ, ℤ, zero, suc, pos, negsuc, List, [], ◌∷◌, ◌++◌, Option, Some, None, refl}
 use Rattle.std.specs.Prelude.{replicate}
 use Rattle.flat_base.specs.declared.errors.Reason.{Reason}
-use Rattle.flat_base.specs.declared.errors.Reason.TheVariants.{ZeroId, UnknownTransform, BadScale, BadOpacity, BadRect, BadSize, NoView, TokenNotHeld, TreeTooLarge, ViewportTwice, TooManyNamed, TooManyChildren, TooManyFences}
+use Rattle.flat_base.specs.declared.errors.Reason.TheVariants.{ZeroId, UnknownTransform, BadScale, BadOpacity, BadRect, BadSize, NoView, TokenNotHeld}
+use Rattle.flat_base.specs.declared.errors.Reason.TheVariants.{TreeTooLarge, ViewportTwice, TooManyNamed, TooManyChildren, TooManyFences}
 use Rattle.flat_base.specs.declared.ids.BufferNo.{BufferNo}
 use Rattle.flat_base.specs.declared.ids.TransformId.{TransformId}
 use Rattle.flat_base.specs.declared.shapes.IntRect.{IntRect}

@@ -16,7 +16,9 @@ use Rattle.flat_scene.specs.Journals.{seat_number}
 use Rattle.flat_scene.specs.Interleave.{Next, IsNext, Interleaves}
 use Rattle.flat_rules.specs.Legal.{Legal, time_of}
 use Rattle.flat_examples.specs.Refused.{home}
-use Rattle.flat_examples.specs.Misread.{ended, view_then_poll, in_order, begin_then_done, frame, two_polls, backwards, skipped, half_ended, miscounted, left_with, closed_for, good_call, call_then_leave, half_framed, written, crossed, swapped, LinesGoBack, LineIsSkipped, EndIsMissing, OtherCount, CloseWithoutMisuse, DisplayStopsEarly, OtherTime, OthersComeFirst, EndsCross}
+use Rattle.flat_examples.specs.Misread.{ended, view_then_poll, in_order, begin_then_done, frame, two_polls, backwards, skipped, half_ended, miscounted}
+use Rattle.flat_examples.specs.Misread.{left_with, closed_for, good_call, call_then_leave, half_framed, written, crossed, swapped, LinesGoBack, LineIsSkipped}
+use Rattle.flat_examples.specs.Misread.{EndIsMissing, OtherCount, CloseWithoutMisuse, DisplayStopsEarly, OtherTime, OthersComeFirst, EndsCross}
 use Rattle.flat_examples.proofs.RefusedEntries.{all-entered}
 
 -- an entry is the next one, whatever its reply

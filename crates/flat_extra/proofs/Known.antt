@@ -44,7 +44,8 @@ known-line before line found is =
 -- ---- all lines
 
 -- a test that each value passes
-module _ {A : Type 0} (test : A → Bool) (read : ℕ → ExtraLine → Result A FaultKind) (each : (before : ℕ) (line : ExtraLine) (found : A) → read before line ≡ Ok found → test found ≡ true) where
+module _ {A : Type 0} (test : A → Bool) (read : ℕ → ExtraLine → Result A FaultKind)
+    (each : (before : ℕ) (line : ExtraLine) (found : A) → read before line ≡ Ok found → test found ≡ true) where
   one-read : (n : ℕ) (one : Result A FaultKind) (later : Result (List A) ScriptFault) (values : List A) → ((found : A) → one ≡ Ok found → test found ≡ true)
       → ((rest : List A) → later ≡ Ok rest → list_all test rest ≡ true) → then_read n one later ≡ Ok values → list_all test values ≡ true
   one-read n (Ok value) (Ok rest) values first others is =
@@ -60,7 +61,8 @@ module _ {A : Type 0} (test : A → Bool) (read : ℕ → ExtraLine → Result A
 
 -- ---- a whole text
 
-pub pointers-known : (bytes : List ℕ) (read : WithPointers) → pointers_read bytes ≡ Ok read → IsTrue (list_all (λ line. nat_lt line.pointer POINTERS) read.lines)
+pub pointers-known : (bytes : List ℕ) (read : WithPointers) → pointers_read bytes ≡ Ok read
+    → IsTrue (list_all (λ line. nat_lt line.pointer POINTERS) read.lines)
 pointers-known bytes read is =
     let found : Result (List PointerLine) ScriptFault = all_read pointer_line 0 (extra_of Pointer bytes) in
     let whole : Script → Result WithPointers ScriptFault = λ script. and_then found (λ lines. Ok (record { script = script; lines = lines })) in
@@ -69,5 +71,6 @@ pointers-known bytes read is =
     let second : List PointerLine → Result WithPointers ScriptFault = λ ls. Ok (record { script = parts.0; lines = ls }) in
     let lines = both-read found second read parts.2 in
     let same : ◌≡◌ {A = WithPointers} (record { script = parts.0; lines = lines.0 }) read = let ok = lines.2 in cc in
-    let known : list_all (λ line. nat_lt line.pointer 16) lines.0 ≡ true = all-values (λ (line : PointerLine). nat_lt line.pointer 16) pointer_line known-line 0 (extra_of Pointer bytes) lines.0 lines.1 in
+    let known : list_all (λ line. nat_lt line.pointer 16) lines.0 ≡ true =
+    all-values (λ (line : PointerLine). nat_lt line.pointer 16) pointer_line known-line 0 (extra_of Pointer bytes) lines.0 lines.1 in
     subst (λ (w : WithPointers). list_all (λ line. nat_lt line.pointer 16) w.lines ≡ true) same known

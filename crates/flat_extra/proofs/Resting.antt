@@ -1,5 +1,6 @@
 -- The lines of the rest.
-use Rattle.std.proofs.Common.{ℕ, suc, ◌≤◌, ◌≡◌, ◌==◌, refl, sym, ap, ◌∙◌, Bool, true, false, not, ◌&&◌, ◌||◌, cond, List, [], ◌∷◌, ◌++◌, length, arith, length-append}
+use Rattle.std.proofs.Common.{ℕ, suc, ◌≤◌, ◌≡◌, ◌==◌, refl, sym, ap, ◌∙◌, Bool, true, false, not, ◌&&◌, ◌||◌, cond, List, [], ◌∷◌, ◌++◌, length, arith}
+use Rattle.std.proofs.Common.{length-append}
 use Rattle.std.specs.List.{list_any, slice_split, onto_first, join_with_byte}
 use Rattle.std.proofs.lemmas.Bool.{and_parts, not-true, or_parts}
 use Rattle.std.proofs.lemmas.Bool.Decides.{nat_tests}
@@ -30,11 +31,13 @@ split-last (b ∷ piece) free =
     let other : is_feed b ≡ false = both.0 in
     rw (other, split-last piece both.1) refl
 
-split-join : (piece : List ℕ) (pieces : List (List ℕ)) → no_feeds (piece ∷ pieces) ≡ true → slice_split is_feed (join_with_byte 10 (piece ∷ pieces)) ≡ piece ∷ pieces
+split-join : (piece : List ℕ) (pieces : List (List ℕ)) → no_feeds (piece ∷ pieces) ≡ true
+    → slice_split is_feed (join_with_byte 10 (piece ∷ pieces)) ≡ piece ∷ pieces
 split-join piece [] free = split-last piece (not-true (list_any is_feed piece) (and_parts (not (list_any is_feed piece)) true free).0)
 split-join piece (other ∷ pieces) free =
     let both = and_parts (not (list_any is_feed piece)) (no_feeds (other ∷ pieces)) free in
-    split-piece piece (join_with_byte 10 (other ∷ pieces)) (not-true (list_any is_feed piece) both.0) ∙ ap (λ (ps : List (List ℕ)). piece ∷ ps) (split-join other pieces both.1)
+    split-piece piece (join_with_byte 10 (other ∷ pieces)) (not-true (list_any is_feed piece) both.0)
+    ∙ ap (λ (ps : List (List ℕ)). piece ∷ ps) (split-join other pieces both.1)
 
 -- ---- no line has a line feed
 
@@ -46,7 +49,8 @@ pieces-free : (text : List ℕ) → no_feeds (slice_split is_feed text) ≡ true
 pieces-free [] = refl
 pieces-free (b ∷ text) = by_test (is_feed b) refl (pieces-free text)
   where
-    by_test : (c : Bool) → is_feed b ≡ c → no_feeds (slice_split is_feed text) ≡ true → no_feeds (cond c ([] ∷ slice_split is_feed text) (onto_first b (slice_split is_feed text))) ≡ true
+    by_test : (c : Bool) → is_feed b ≡ c → no_feeds (slice_split is_feed text) ≡ true
+        → no_feeds (cond c ([] ∷ slice_split is_feed text) (onto_first b (slice_split is_feed text))) ≡ true
     by_test true e free = free
     by_test false e free = onto-free b (slice_split is_feed text) e free
 
@@ -73,7 +77,8 @@ some-rest false b bytes = grind (arith, nat_tests)
 some-line : (b : ℕ) (bytes : List ℕ) → (length (b ∷ bytes) == 0) ≡ false
 some-line b bytes = grind (arith, nat_tests)
 
-rest-end : (set : ExtraSet) (begun : Bool) (lines : List (List ℕ)) → without_empty_end (rest_lines set begun lines) ≡ rest_lines set begun (without_empty_end lines)
+rest-end : (set : ExtraSet) (begun : Bool) (lines : List (List ℕ))
+    → without_empty_end (rest_lines set begun lines) ≡ rest_lines set begun (without_empty_end lines)
 rest-end set begun [] = refl
 rest-end set begun ([] ∷ []) = rw (empty-rest set begun) refl
 rest-end set begun ((b ∷ bytes) ∷ []) =
@@ -86,10 +91,12 @@ rest-end set begun (line ∷ other ∷ lines) =
 
 -- ---- the rest
 
-joined : (set : ExtraSet) (lines : List (List ℕ)) → no_feeds lines ≡ true → without_empty_end (slice_split is_feed (join_with_byte 10 (rest_lines set false lines))) ≡ rest_lines set false (without_empty_end lines)
+joined : (set : ExtraSet) (lines : List (List ℕ)) → no_feeds lines ≡ true
+    → without_empty_end (slice_split is_feed (join_with_byte 10 (rest_lines set false lines))) ≡ rest_lines set false (without_empty_end lines)
 joined set [] free = refl
 joined set (line ∷ lines) free =
-    ap without_empty_end (split-join (rest_line (false && is_extra set line) line) (rest_lines set (false || is_run line) lines) (rest-free set false (line ∷ lines) free)) ∙ rest-end set false (line ∷ lines)
+    ap without_empty_end (split-join (rest_line (false && is_extra set line) line) (rest_lines set (false || is_run line) lines)
+    (rest-free set false (line ∷ lines) free)) ∙ rest-end set false (line ∷ lines)
 
 pub rest-has-its-lines : RestHasItsLines
 rest-has-its-lines set text = joined set (slice_split is_feed text) (pieces-free text)
@@ -111,7 +118,8 @@ length-rest set begun (b ∷ bytes) = by_extra (begun && is_extra set (b ∷ byt
     by_extra true = omega arith
     by_extra false = omega arith
 
-length-joined : (set : ExtraSet) (begun : Bool) (lines : List (List ℕ)) → length (join_with_byte 10 (rest_lines set begun lines)) ≤ length (join_with_byte 10 lines)
+length-joined : (set : ExtraSet) (begun : Bool) (lines : List (List ℕ))
+    → length (join_with_byte 10 (rest_lines set begun lines)) ≤ length (join_with_byte 10 lines)
 length-joined set begun [] = omega arith
 length-joined set begun (line ∷ []) = length-rest set begun line
 length-joined set begun (line ∷ other ∷ lines) =

@@ -8,7 +8,9 @@ use Rattle.flat_extra.specs.Extra.{rest_of}
 use Rattle.flat_extra.specs.Whole.{focus_read, pointers_read}
 
 abbrev pub FocusRestIsRead : Type 0
-FocusRestIsRead = (bytes : List ℕ) (read : WithFocus) → focus_read bytes ≡ Ok read → text_read (rest_of Focus bytes) ≡ Ok read.script
+FocusRestIsRead = (bytes : List ℕ) (read : WithFocus) → focus_read bytes ≡ Ok read
+    → text_read (rest_of Focus bytes) ≡ Ok read.script
 
 abbrev pub PointerRestIsRead : Type 0
-PointerRestIsRead = (bytes : List ℕ) (read : WithPointers) → pointers_read bytes ≡ Ok read → text_read (rest_of Pointer bytes) ≡ Ok read.script
+PointerRestIsRead = (bytes : List ℕ) (read : WithPointers) → pointers_read bytes ≡ Ok read
+    → text_read (rest_of Pointer bytes) ≡ Ok read.script

@@ -1,13 +1,20 @@
 -- No transform and no image of a draft has too great an opacity.
-use Rattle.std.proofs.Common.{◌≡◌, ℕ, ◌-◌, Bool, true, false, cond, ◌==◌, nat_lt, nat_le, List, [], ◌∷◌, ◌++◌, map, refl, sym, ap, ◌∙◌, subst, arith, Option, Some, None, Ok, Err}
+use Rattle.std.proofs.Common.{◌≡◌, ℕ, ◌-◌, Bool, true, false, cond, ◌==◌, nat_lt, nat_le, List, [], ◌∷◌, ◌++◌, map, refl, sym, ap, ◌∙◌, subst, arith, Option}
+use Rattle.std.proofs.Common.{Some, None, Ok, Err}
 use Rattle.std.specs.List.{list_all}
 use Rattle.std.proofs.lemmas.Bool.Decides.{nat_tests}
 use Rattle.flat_base.specs.declared.errors.Reason.{Reason}
 use Rattle.flat_base.specs.declared.limits.TheConstants.{OPACITY_MAX}
 use Rattle.flat_scene.specs.declared.calls.Call.{Call}
-use Rattle.flat_scene.specs.declared.calls.Call.TheVariants.{CreateView, ReleaseView, CreateTransform, ReleaseTransform, SetTranslation, SetOrientation, SetScale, SetOpacity, SetClipBoundary, AddChild, RemoveChild, ReplaceChildren, SetRootTransform, CreateViewport, SetViewportProperties, ReleaseViewport, CreateImage, SetImageSampleRegion, SetImageDestinationSize, SetImageBlendingFunction, SetImageFlip, SetImageOpacity, ReleaseImage, CreateFilledRect, SetSolidFill, ReleaseFilledRect, SetHitRegions, SetInfiniteHitRegion, SetContent, Clear}
+use Rattle.flat_scene.specs.declared.calls.Call.TheVariants.{CreateView, ReleaseView, CreateTransform, ReleaseTransform, SetTranslation, SetOrientation}
+use Rattle.flat_scene.specs.declared.calls.Call.TheVariants.{SetScale, SetOpacity, SetClipBoundary, AddChild, RemoveChild, ReplaceChildren, SetRootTransform}
+use Rattle.flat_scene.specs.declared.calls.Call.TheVariants.{CreateViewport, SetViewportProperties, ReleaseViewport, CreateImage, SetImageSampleRegion}
+use Rattle.flat_scene.specs.declared.calls.Call.TheVariants.{SetImageDestinationSize, SetImageBlendingFunction, SetImageFlip, SetImageOpacity, ReleaseImage}
+use Rattle.flat_scene.specs.declared.calls.Call.TheVariants.{CreateFilledRect, SetSolidFill, ReleaseFilledRect, SetHitRegions, SetInfiniteHitRegion, SetContent}
+use Rattle.flat_scene.specs.declared.calls.Call.TheVariants.{Clear}
 use Rattle.flat_scene.specs.declared.setup.Setup.{Setup}
-use Rattle.flat_scene.specs.Draft.{Draft, Transform, Image, Solid, Made, an_image, a_fill, a_viewport, changed_at, empty_draft, transform_of, content_of, new_transform}
+use Rattle.flat_scene.specs.Draft.{Draft, Transform, Image, Solid, Made, an_image, a_fill, a_viewport, changed_at, empty_draft, transform_of, content_of}
+use Rattle.flat_scene.specs.Draft.{new_transform}
 use Rattle.flat_scene.specs.declared.calls.ViewportProps.{ViewportProps}
 use Rattle.flat_scene.specs.Effect.{effect, on_image, on_viewport, on_fill, draft_of, after_calls, unless, changed_if}
 use Rattle.flat_scene.specs.Misuse.{misuse, first_reason, Test, names_transform, names_content, is_image}
@@ -32,14 +39,16 @@ pub record IsLowDraft (draft : Draft) : Type 0 where
   pub transforms : list_all is_dim draft.transforms ≡ true
 
 module _ {A : Type 0} (p : A → Bool) (f : A → A) (keeps : (x : A) → p x ≡ true → p (f x) ≡ true) where
-  pick : (b : Bool) (x : A) (xs changed : List A) → p x ≡ true → list_all p xs ≡ true → list_all p changed ≡ true → list_all p (cond b (f x ∷ xs) (x ∷ changed)) ≡ true
+  pick : (b : Bool) (x : A) (xs changed : List A) → p x ≡ true → list_all p xs ≡ true → list_all p changed ≡ true
+      → list_all p (cond b (f x ∷ xs) (x ∷ changed)) ≡ true
   pick true x xs changed here all more = and_from _ _ (keeps x here) all
   pick false x xs changed here all more = and_from _ _ here more
 
   all_changed : (n : ℕ) (xs : List A) → list_all p xs ≡ true → list_all p (changed_at n f xs) ≡ true
   all_changed n [] all = refl
   all_changed n (x ∷ xs) all =
-      pick (n == 1) x xs (changed_at (n - 1) f xs) (and-left (p x) (list_all p xs) all) (and-right (p x) (list_all p xs) all) (all_changed (n - 1) xs (and-right (p x) (list_all p xs) all))
+      pick (n == 1) x xs (changed_at (n - 1) f xs) (and-left (p x) (list_all p xs) all) (and-right (p x) (list_all p xs) all)
+      (all_changed (n - 1) xs (and-right (p x) (list_all p xs) all))
 
   pub all_changed_if : (serial : Option ℕ) (xs : List A) → list_all p xs ≡ true → list_all p (changed_if serial f xs) ≡ true
   all_changed_if None xs all = all
@@ -64,11 +73,13 @@ not_above v low = grind (arith, nat_tests)
 
 module _ (setup : Setup) (d : Draft) (good : IsLowDraft d) where
   -- a change of one transform that leaves its opacity
-  same_opacity : (serial : Option ℕ) (f : Transform → Transform) → ((t : Transform) → is_dim t ≡ true → is_dim (f t) ≡ true) → IsLowDraft (record d { transforms = changed_if serial f d.transforms })
+  same_opacity : (serial : Option ℕ) (f : Transform → Transform) → ((t : Transform) → is_dim t ≡ true → is_dim (f t) ≡ true)
+      → IsLowDraft (record d { transforms = changed_if serial f d.transforms })
   same_opacity serial f keeps = record { contents = good.contents; transforms = all_changed_if is_dim f keeps serial d.transforms good.transforms }
 
   -- a change of one content that leaves it low
-  same_content : (serial : Option ℕ) (f : Made → Made) → ((m : Made) → is_low m ≡ true → is_low (f m) ≡ true) → IsLowDraft (record d { contents = changed_if serial f d.contents })
+  same_content : (serial : Option ℕ) (f : Made → Made) → ((m : Made) → is_low m ≡ true → is_low (f m) ≡ true)
+      → IsLowDraft (record d { contents = changed_if serial f d.contents })
   same_content serial f keeps = record { contents = all_changed_if is_low f keeps serial d.contents good.contents; transforms = good.transforms }
 
   on_low : (f : Image → Image) → ((i : Image) → (f i).opacity ≡ i.opacity) → (m : Made) → is_low m ≡ true → is_low (on_image f m) ≡ true
@@ -126,10 +137,12 @@ module _ (setup : Setup) (d : Draft) (good : IsLowDraft d) where
 
 -- ---- drafts of calls
 
-step_good : (setup : Setup) (start draft : Draft) (call : Call) (calls : List Call) (m : Option Reason) → misuse setup start call ≡ m → after_calls setup (unless m (effect start call)) calls ≡ Ok draft
+step_good : (setup : Setup) (start draft : Draft) (call : Call) (calls : List Call) (m : Option Reason) → misuse setup start call ≡ m
+    → after_calls setup (unless m (effect start call)) calls ≡ Ok draft
     → (misuse setup start call ≡ None → after_calls setup (Ok (effect start call)) calls ≡ Ok draft → IsLowDraft draft) → IsLowDraft draft
 step_good setup start draft call calls None is made follows = follows is made
-step_good setup start draft call calls (Some reason) is made follows = absurd (let e : Err reason ≡ Ok draft = sym (after_error setup reason calls) ∙ made in cc)
+step_good setup start draft call calls (Some reason) is made follows =
+    absurd (let e : Err reason ≡ Ok draft = sym (after_error setup reason calls) ∙ made in cc)
 
 good_from : (setup : Setup) (start draft : Draft) (calls : List Call) → IsLowDraft start → after_calls setup (Ok start) calls ≡ Ok draft → IsLowDraft draft
 good_from setup start draft [] good made = let same : start ≡ draft = cc in subst IsLowDraft same good

@@ -1,5 +1,6 @@
 -- The tree of a draft shows nothing of too great an opacity, and isn't too large where it may be presented.
-use Rattle.std.proofs.Common.{◌≡◌, ℕ, zero, suc, ◌-◌, ◌≤◌, Bool, true, false, cond, ◌==◌, nat_lt, nat_le, List, [], ◌∷◌, filter_map, refl, sym, ap, ◌∙◌, subst, arith, Option, Some, None}
+use Rattle.std.proofs.Common.{◌≡◌, ℕ, zero, suc, ◌-◌, ◌≤◌, Bool, true, false, cond, ◌==◌, nat_lt, nat_le, List, [], ◌∷◌, filter_map, refl, sym, ap, ◌∙◌, subst}
+use Rattle.std.proofs.Common.{arith, Option, Some, None}
 use Rattle.std.specs.List.{list_all}
 use Rattle.std.specs.Option.{option_map, option_and_then}
 use Rattle.std.specs.Prelude.{option_to_list}
@@ -37,14 +38,17 @@ shown_low serial (a_fill (Some solid)) low = record { opacity = omega arith }
 shown_low serial (a_fill None) low = record { opacity = omega arith }
 shown_low serial (a_viewport pair props) low = record { opacity = omega arith }
 
-pick_low : (b : Bool) (serial : ℕ) (made : Made) (rest : Option Made) → is_low made ≡ true → IsLowContent (option_and_then (shown_content serial) rest) → IsLowContent (option_and_then (shown_content serial) (cond b (Some made) rest))
+pick_low : (b : Bool) (serial : ℕ) (made : Made) (rest : Option Made) → is_low made ≡ true → IsLowContent (option_and_then (shown_content serial) rest)
+    → IsLowContent (option_and_then (shown_content serial) (cond b (Some made) rest))
 pick_low true serial made rest low others = shown_low serial made low
 pick_low false serial made rest low others = others
 
-found_low : (serial n : ℕ) (contents : List Made) → list_all is_low contents ≡ true → IsLowContent (option_and_then (shown_content serial) (of_serial contents n))
+found_low : (serial n : ℕ) (contents : List Made) → list_all is_low contents ≡ true
+    → IsLowContent (option_and_then (shown_content serial) (of_serial contents n))
 found_low serial n [] all = record { opacity = omega arith }
 found_low serial n (made ∷ contents) all =
-    pick_low (n == 1) serial made (of_serial contents (n - 1)) (and-left (is_low made) (list_all is_low contents) all) (found_low serial (n - 1) contents (and-right (is_low made) (list_all is_low contents) all))
+    pick_low (n == 1) serial made (of_serial contents (n - 1)) (and-left (is_low made) (list_all is_low contents) all)
+    (found_low serial (n - 1) contents (and-right (is_low made) (list_all is_low contents) all))
 
 held_low : (d : Draft) (held : Option ℕ) → list_all is_low d.contents ≡ true → IsLowContent (content_held d held)
 held_low d None all = record { opacity = omega arith }
@@ -95,9 +99,11 @@ pick_dim false t rest dim others = others
 
 found_dim : (n : ℕ) (transforms : List Transform) → list_all is_dim transforms ≡ true → MayBeDim (of_serial transforms n)
 found_dim n [] all = tt
-found_dim n (t ∷ transforms) all = pick_dim (n == 1) t (of_serial transforms (n - 1)) (and-left (is_dim t) (list_all is_dim transforms) all) (found_dim (n - 1) transforms (and-right (is_dim t) (list_all is_dim transforms) all))
+found_dim n (t ∷ transforms) all = pick_dim (n == 1) t (of_serial transforms (n - 1)) (and-left (is_dim t) (list_all is_dim transforms) all)
+    (found_dim (n - 1) transforms (and-right (is_dim t) (list_all is_dim transforms) all))
 
-low_made : (d : Draft) (is_root : Bool) (serial : ℕ) (below : List ℕ → Option Children) → list_all is_low d.contents ≡ true → ((serials : List ℕ) → AreLow (below serials)) → (o : Option Transform) → MayBeDim o
+low_made : (d : Draft) (is_root : Bool) (serial : ℕ) (below : List ℕ → Option Children) → list_all is_low d.contents ≡ true
+    → ((serials : List ℕ) → AreLow (below serials)) → (o : Option Transform) → MayBeDim o
     → MayBeLow (option_and_then (λ t. option_map (node d is_root serial t) (below t.children)) o)
 low_made d is_root serial below contents low None dim = tt
 low_made d is_root serial below contents low (Some t) dim = with_children (below t.children) (low t.children)
@@ -106,11 +112,13 @@ low_made d is_root serial below contents low (Some t) dim = with_children (below
     with_children None all = tt
     with_children (Some children) all = record { content = held_low d t.content contents; opacity = dim; below = all }
 
-low_within : (levels : ℕ) (d : Draft) (is_root : Bool) (serial : ℕ) → list_all is_low d.contents ≡ true → list_all is_dim d.transforms ≡ true → MayBeLow (node_within levels d is_root serial)
+low_within : (levels : ℕ) (d : Draft) (is_root : Bool) (serial : ℕ) → list_all is_low d.contents ≡ true → list_all is_dim d.transforms ≡ true
+    → MayBeLow (node_within levels d is_root serial)
 low_within zero d is_root serial contents transforms = tt
 low_within (suc levels) d is_root serial contents transforms =
     low_made d is_root serial (each (node_within levels d false)) contents
-    (low_each (node_within levels d false) (λ one. low_within levels d false one contents transforms)) (of_serial d.transforms serial) (found_dim serial d.transforms transforms)
+    (low_each (node_within levels d false) (λ one. low_within levels d false one contents transforms)) (of_serial d.transforms serial)
+    (found_dim serial d.transforms transforms)
 
 -- ---- trees
 
@@ -128,21 +136,25 @@ module _ (view : Option PairNo) (uses : List ViewportUse) where
       → IsLow (nodes_of (Some t)) × (option_and_then (λ n. option_map (more n) (Some Empty)) o ≡ Some (nodes_of (Some t))) × (t.view ≡ view)
   of_root None t low is = absurd (cc)
   of_root (Some n) t low is =
-      let tree_is : record { view = view; root = Some n; viewports = uses } ≡ t = let same : Some (record { view = view; root = Some n; viewports = uses }) ≡ Some t = is in cc in
+      let tree_is : record { view = view; root = Some n; viewports = uses } ≡ t =
+      let same : Some (record { view = view; root = Some n; viewports = uses }) ≡ Some t = is in cc in
       let P : Tree → Type 0 = λ u. IsLow (nodes_of (Some u)) × (Some (more n Empty) ≡ Some (nodes_of (Some u))) × (u.view ≡ view) in
       subst P tree_is (low_more n Empty low low_empty, refl, refl)
 
-  of_roots : (node_of : ℕ → Option Node) (root : Option ℕ) (t : Tree) → ((serial : ℕ) → MayBeLow (node_of serial)) → shown_as (each node_of (option_to_list root)) ≡ Some t
+  of_roots : (node_of : ℕ → Option Node) (root : Option ℕ) (t : Tree) → ((serial : ℕ) → MayBeLow (node_of serial))
+      → shown_as (each node_of (option_to_list root)) ≡ Some t
       → IsLow (nodes_of (Some t)) × (each node_of (option_to_list root) ≡ Some (nodes_of (Some t))) × (t.view ≡ view)
   of_roots node_of None t low is =
-      let tree_is : record { view = view; root = None; viewports = uses } ≡ t = let same : Some (record { view = view; root = None; viewports = uses }) ≡ Some t = is in cc in
+      let tree_is : record { view = view; root = None; viewports = uses } ≡ t =
+      let same : Some (record { view = view; root = None; viewports = uses }) ≡ Some t = is in cc in
       let P : Tree → Type 0 = λ u. IsLow (nodes_of (Some u)) × (Some Empty ≡ Some (nodes_of (Some u))) × (u.view ≡ view) in
       subst P tree_is (low_empty, refl, refl)
   of_roots node_of (Some serial) t low is = of_root (node_of serial) t (low serial) is
 
 pub tree_low : (d : Draft) (t : Tree) → IsLowDraft d → tree d ≡ Some t → ShowsLow d t
 tree_low d t good is =
-    let parts = of_roots d.view (filter_map (use_of d) d.viewports) (node_within PATH_NODES_MAX d true) d.root t (λ serial. low_within PATH_NODES_MAX d true serial good.contents good.transforms) (tree-unfolded d t is) in
+    let parts = of_roots d.view (filter_map (use_of d) d.viewports) (node_within PATH_NODES_MAX d true) d.root t
+    (λ serial. low_within PATH_NODES_MAX d true serial good.contents good.transforms) (tree-unfolded d t is) in
     record { low = parts.0; all = parts.1; view = parts.2 }
 
 not_large : (all : Option Children) (children : Children) → all ≡ Some children → is_too_large all ≡ false → node_count children ≤ TREE_NODES_MAX

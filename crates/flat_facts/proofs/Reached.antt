@@ -1,5 +1,6 @@
 -- What the root and the names of a draft reach holds no viewport but a live one.
-use Rattle.std.proofs.Common.{◌≡◌, ◌∙◌, sym, ℕ, zero, suc, ◌+◌, ◌-◌, ◌≤◌, Bool, true, false, cond, List, [], ◌∷◌, ◌++◌, length, filter, map, drop, refl, arith, ap, Some, None}
+use Rattle.std.proofs.Common.{◌≡◌, ◌∙◌, sym, ℕ, zero, suc, ◌+◌, ◌-◌, ◌≤◌, Bool, true, false, cond, List, [], ◌∷◌, ◌++◌, length, filter, map, drop, refl, arith}
+use Rattle.std.proofs.Common.{ap, Some, None}
 use Rattle.std.specs.Prelude.{not, ◌&&◌, ◌||◌, ◌==◌, nat_lt, Option, option_and_then, option_to_list, is_some}
 use Rattle.std.specs.List.{list_all, list_any, cons_option}
 use Rattle.std.proofs.lemmas.Bool.Decides.{nat_tests}
@@ -50,32 +51,42 @@ pub all-also : {A : Type 0} (p q : A → Bool) → ((x : A) → p x ≡ true →
 all-also p q also [] all = refl
 all-also p q also (x ∷ xs) all = rw (also x (and-left (p x) (list_all p xs) all), all-also p q also xs (and-right (p x) (list_all p xs) all)) refl
 
-pick : {A : Type 0} (p : A → Bool) (f : A → A) → ((x : A) → p x ≡ true → p (f x) ≡ true) → (b : Bool) (x : A) (xs changed : List A) → p x ≡ true → list_all p xs ≡ true → list_all p changed ≡ true → list_all p (cond b (f x ∷ xs) (x ∷ changed)) ≡ true
+pick : {A : Type 0} (p : A → Bool) (f : A → A) → ((x : A) → p x ≡ true → p (f x) ≡ true) → (b : Bool) (x : A) (xs changed : List A) → p x ≡ true
+    → list_all p xs ≡ true → list_all p changed ≡ true → list_all p (cond b (f x ∷ xs) (x ∷ changed)) ≡ true
 pick p f keeps true x xs changed here all more = rw (keeps x here, all) refl
 pick p f keeps false x xs changed here all more = rw (here, more) refl
 
-pub changed-all : {A : Type 0} (p : A → Bool) (f : A → A) → ((x : A) → p x ≡ true → p (f x) ≡ true) → (n : ℕ) (xs : List A) → list_all p xs ≡ true → list_all p (changed_at n f xs) ≡ true
+pub changed-all : {A : Type 0} (p : A → Bool) (f : A → A) → ((x : A) → p x ≡ true → p (f x) ≡ true) → (n : ℕ) (xs : List A) → list_all p xs ≡ true
+    → list_all p (changed_at n f xs) ≡ true
 changed-all p f keeps n [] all = refl
 changed-all p f keeps n (x ∷ xs) all =
-    pick p f keeps (n == 1) x xs (changed_at (n - 1) f xs) (and-left (p x) (list_all p xs) all) (and-right (p x) (list_all p xs) all) (changed-all p f keeps (n - 1) xs (and-right (p x) (list_all p xs) all))
+    pick p f keeps (n == 1) x xs (changed_at (n - 1) f xs) (and-left (p x) (list_all p xs) all) (and-right (p x) (list_all p xs) all)
+    (changed-all p f keeps (n - 1) xs (and-right (p x) (list_all p xs) all))
 
 -- all but the first so many
-pub changed-later : {A : Type 0} (p : A → Bool) (f : A → A) → ((x : A) → p x ≡ true → p (f x) ≡ true) → (k n : ℕ) (xs : List A) → list_all p (drop k xs) ≡ true → list_all p (drop k (changed_at n f xs)) ≡ true
+pub changed-later : {A : Type 0} (p : A → Bool) (f : A → A) → ((x : A) → p x ≡ true → p (f x) ≡ true) → (k n : ℕ) (xs : List A) → list_all p (drop k xs) ≡ true
+    → list_all p (drop k (changed_at n f xs)) ≡ true
 changed-later p f keeps zero n xs all = changed-all p f keeps n xs all
 changed-later p f keeps (suc k) n [] all = refl
 changed-later p f keeps (suc k) n (x ∷ xs) all = by_place (changed-later p f keeps k (n - 1) xs all) (n == 1)
   where
-    by_place : list_all p (drop k (changed_at (n - 1) f xs)) ≡ true → (b : Bool) → list_all p (drop (suc k) (cond b (f x ∷ xs) (x ∷ changed_at (n - 1) f xs))) ≡ true
+    by_place : list_all p (drop k (changed_at (n - 1) f xs)) ≡ true → (b : Bool)
+        → list_all p (drop (suc k) (cond b (f x ∷ xs) (x ∷ changed_at (n - 1) f xs))) ≡ true
     by_place rest true = all
     by_place rest false = rest
 
-pub mapped-later : {A : Type 0} (p q : A → Bool) (f : A → A) → ((x : A) → p x ≡ true → q (f x) ≡ true) → (k : ℕ) (xs : List A) → list_all p (drop k xs) ≡ true → list_all q (drop k (map f xs)) ≡ true
+pub mapped-later : {A : Type 0} (p q : A → Bool) (f : A → A) → ((x : A) → p x ≡ true → q (f x) ≡ true) → (k : ℕ) (xs : List A) → list_all p (drop k xs) ≡ true
+    → list_all q (drop k (map f xs)) ≡ true
 mapped-later p q f keeps zero [] all = refl
-mapped-later p q f keeps zero (x ∷ xs) all = rw (keeps x (and-left (p x) (list_all p xs) all), mapped-later p q f keeps zero xs (and-right (p x) (list_all p xs) all)) refl
+mapped-later p q f keeps zero (x ∷ xs) all = rw (
+  keeps x (and-left (p x) (list_all p xs) all),
+  mapped-later p q f keeps zero xs (and-right (p x) (list_all p xs) all),
+) refl
 mapped-later p q f keeps (suc k) [] all = refl
 mapped-later p q f keeps (suc k) (x ∷ xs) all = mapped-later p q f keeps k xs all
 
-pub one-later : {A : Type 0} (p : A → Bool) (k : ℕ) (xs : List A) (x : A) → k ≤ length xs → list_all p (drop k xs) ≡ true → p x ≡ true → list_all p (drop k (xs ++ x ∷ [])) ≡ true
+pub one-later : {A : Type 0} (p : A → Bool) (k : ℕ) (xs : List A) (x : A) → k ≤ length xs → list_all p (drop k xs) ≡ true → p x ≡ true
+    → list_all p (drop k (xs ++ x ∷ [])) ≡ true
 one-later p zero xs x fits all here = list_all-append p xs (x ∷ []) ∙ rw (all, here) refl
 one-later p (suc k) [] x fits all here = absurd (omega (arith, fits))
 one-later p (suc k) (y ∷ xs) x fits all here = one-later p k xs x (omega (arith, fits)) all here
@@ -99,7 +110,8 @@ module _ (d : Draft) (r : IsReached d) where
   test = is_reached r.first (pair_at d.contents) d.viewports
 
   -- the transforms may change, where each stays reached
-  pub with-changed : (serial : Option ℕ) (f : Transform → Transform) → ((t : Transform) → test t ≡ true → test (f t) ≡ true) → IsReached (record d { transforms = changed_if serial f d.transforms })
+  pub with-changed : (serial : Option ℕ) (f : Transform → Transform) → ((t : Transform) → test t ≡ true → test (f t) ≡ true)
+      → IsReached (record d { transforms = changed_if serial f d.transforms })
   with-changed None f keeps = record { first = r.first; fits = r.fits; names = r.names; root = r.root; later = r.later }
   with-changed (Some n) f keeps = record {
     first = r.first;
@@ -119,11 +131,15 @@ module _ (d : Draft) (r : IsReached d) where
     root = rw root r.root;
     later = rw transforms
         (all-also test (is_reached r.first (pair_at e.contents) e.viewports)
-        (λ t here. rw (alive t.content (and-left (is_alive (pair_at d.contents) d.viewports t.content) (list_all (nat_lt r.first) t.children) here), and-right (is_alive (pair_at d.contents) d.viewports t.content) (list_all (nat_lt r.first) t.children) here) refl)
+        (λ t here. rw (
+          alive t.content (and-left (is_alive (pair_at d.contents) d.viewports t.content) (list_all (nat_lt r.first) t.children) here),
+          and-right (is_alive (pair_at d.contents) d.viewports t.content) (list_all (nat_lt r.first) t.children) here,
+        ) refl)
         (drop r.first d.transforms) r.later);
   }
 
-  pub child-after : (o : Option ℕ) (xs : List ℕ) → is_root_after r.first o ≡ true → list_all (nat_lt r.first) xs ≡ true → list_all (nat_lt r.first) (xs ++ option_to_list o) ≡ true
+  pub child-after : (o : Option ℕ) (xs : List ℕ) → is_root_after r.first o ≡ true → list_all (nat_lt r.first) xs ≡ true
+      → list_all (nat_lt r.first) (xs ++ option_to_list o) ≡ true
   child-after None xs here all = list_all-append (nat_lt r.first) xs [] ∙ rw all refl
   child-after (Some k) xs here all = list_all-append (nat_lt r.first) xs (k ∷ []) ∙ rw (all, here) refl
 
@@ -132,7 +148,8 @@ module _ (d : Draft) (r : IsReached d) where
   named-children [] = refl
   named-children (k ∷ ks) = by_name (named-children ks) (transform_of d k) (named-all r.first d.transform_names k.0 r.names)
     where
-      by_name : list_all (nat_lt r.first) (serials_of d ks) ≡ true → (o : Option ℕ) → is_root_after r.first o ≡ true → list_all (nat_lt r.first) (cons_option o (serials_of d ks)) ≡ true
+      by_name : list_all (nat_lt r.first) (serials_of d ks) ≡ true → (o : Option ℕ) → is_root_after r.first o ≡ true
+          → list_all (nat_lt r.first) (cons_option o (serials_of d ks)) ≡ true
       by_name rest None here = rest
       by_name rest (Some n) here = rw (here, rest) refl
 
@@ -145,7 +162,10 @@ module _ (d : Draft) (r : IsReached d) where
       by_test rest false = rest
 
   pub parts : (t : Transform) → test t ≡ true → (is_alive (pair_at d.contents) d.viewports t.content ≡ true) × (list_all (nat_lt r.first) t.children ≡ true)
-  parts t here = (and-left (is_alive (pair_at d.contents) d.viewports t.content) (list_all (nat_lt r.first) t.children) here, and-right (is_alive (pair_at d.contents) d.viewports t.content) (list_all (nat_lt r.first) t.children) here)
+  parts t here = (
+    and-left (is_alive (pair_at d.contents) d.viewports t.content) (list_all (nat_lt r.first) t.children) here,
+    and-right (is_alive (pair_at d.contents) d.viewports t.content) (list_all (nat_lt r.first) t.children) here,
+  )
 
 -- ---- what is alive
 
@@ -170,8 +190,10 @@ new-serial (x ∷ ms) m k b is = by_first (k == 1) refl (nat_lt 0 k) refl (λ e.
     rest : List Made
     rest = ms ++ m ∷ []
 
-    by_first : (c : Bool) → (k == 1) ≡ c → (z : Bool) → nat_lt 0 k ≡ z → ((k - 1 == length ms + 1) ≡ b → pair_at rest (k - 1) ≡ cond b (pair_made m) (pair_at ms (k - 1)))
-        → option_and_then pair_made (cond c (Some x) (of_serial rest (k - 1))) ≡ cond b (pair_made m) (option_and_then pair_made (cond c (Some x) (of_serial ms (k - 1))))
+    by_first : (c : Bool) → (k == 1) ≡ c → (z : Bool) → nat_lt 0 k ≡ z
+        → ((k - 1 == length ms + 1) ≡ b → pair_at rest (k - 1) ≡ cond b (pair_made m) (pair_at ms (k - 1)))
+        → option_and_then pair_made (cond c (Some x) (of_serial rest (k - 1)))
+        ≡ cond b (pair_made m) (option_and_then pair_made (cond c (Some x) (of_serial ms (k - 1))))
     by_first true one z some later =
         let other : b ≡ false = sym is ∙ grind (arith, nat_tests) in
         rw other refl
@@ -190,7 +212,8 @@ new-serial (x ∷ ms) m k b is = by_first (k == 1) refl (nat_lt 0 k) refl (λ e.
             let no : b ≡ false = sym is ∙ grind (arith, nat_tests) in
             rw (none rest, none ms, no) refl
 
-pub alive-made : (ms : List Made) (m : Made) (lives more : List ℕ) → (is_some (pair_made m) ≡ true → has (lives ++ more) (length ms + 1) ≡ true) → (o : Option ℕ) → is_alive (pair_at ms) lives o ≡ true → is_alive (pair_at (ms ++ m ∷ [])) (lives ++ more) o ≡ true
+pub alive-made : (ms : List Made) (m : Made) (lives more : List ℕ) → (is_some (pair_made m) ≡ true → has (lives ++ more) (length ms + 1) ≡ true)
+    → (o : Option ℕ) → is_alive (pair_at ms) lives o ≡ true → is_alive (pair_at (ms ++ m ∷ [])) (lives ++ more) o ≡ true
 alive-made ms m lives more new None here = refl
 alive-made ms m lives more new (Some k) here = by_place (k == length ms + 1) refl
   where
@@ -207,4 +230,5 @@ alive-made ms m lives more new (Some k) here = by_place (k == length ms + 1) ref
     by_place true is =
         let number : k ≡ length ms + 1 = grind (arith, nat_tests) in
         rw (new-serial ms m k true is) (by_some (is_some (pair_made m)) (λ some. ap (has (lives ++ more)) number ∙ new some))
-    by_place false is = rw (new-serial ms m k false is, list_any-append (λ x. x == k) lives more) (kept (is_some (pair_at ms k)) (has lives k) (has more k) here)
+    by_place false is = rw (new-serial ms m k false is, list_any-append (λ x. x == k) lives more)
+        (kept (is_some (pair_at ms k)) (has lives k) (has more k) here)

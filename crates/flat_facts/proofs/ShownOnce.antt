@@ -1,5 +1,6 @@
 -- Where no two viewports of a pair live, a tree shows no pair twice.
-use Rattle.std.proofs.Common.{◌≡◌, ◌∙◌, sym, subst, ℕ, zero, suc, ◌-◌, ◌≤◌, Bool, true, false, cond, List, [], ◌∷◌, ◌++◌, map, drop, refl, arith, ap, Some, None, inl, inr}
+use Rattle.std.proofs.Common.{◌≡◌, ◌∙◌, sym, subst, ℕ, zero, suc, ◌-◌, ◌≤◌, Bool, true, false, cond, List, [], ◌∷◌, ◌++◌, map, drop, refl, arith, ap, Some}
+use Rattle.std.proofs.Common.{None, inl, inr}
 use Rattle.std.specs.Prelude.{not, ◌||◌, ◌==◌, nat_lt, Option, option_map, option_and_then, option_to_list, is_some, unwrap_or}
 use Rattle.std.specs.List.{list_all, list_any}
 use Rattle.std.proofs.lemmas.Bool.Decides.{nat_tests}
@@ -54,7 +55,8 @@ module _ (d : Draft) (r : IsReached d) where
     pub content : KnownContent n.content
     pub below : KnownChildren n.children
 
-  made-known : (k : ℕ) (m : Option Made) → of_serial d.contents k ≡ m → (not (is_some (pair_at d.contents k)) || has d.viewports k) ≡ true → KnownContent (option_and_then (shown_content k) m)
+  made-known : (k : ℕ) (m : Option Made) → of_serial d.contents k ≡ m → (not (is_some (pair_at d.contents k)) || has d.viewports k) ≡ true
+      → KnownContent (option_and_then (shown_content k) m)
   made-known k None at alive = known-none
   made-known k (Some (an_image i)) at alive = known-none
   made-known k (Some (a_fill None)) at alive = known-none
@@ -73,11 +75,13 @@ module _ (d : Draft) (r : IsReached d) where
       known-more (viewport_in n.content ++ viewports_in n.children) (pair_in n.content ++ pairs_in n.children) (viewports_in rest) (pairs_in rest)
       (known-more (viewport_in n.content) (pair_in n.content) (viewports_in n.children) (pairs_in n.children) here.content here.below) after
 
-  each-known : (f : ℕ → Option Node) → ((k : ℕ) → nat_lt r.first k ≡ true → (n : Node) → f k ≡ Some n → IsKnownNode n) → (ks : List ℕ) → list_all (nat_lt r.first) ks ≡ true → (all : Children) → each f ks ≡ Some all
+  each-known : (f : ℕ → Option Node) → ((k : ℕ) → nat_lt r.first k ≡ true → (n : Node) → f k ≡ Some n → IsKnownNode n) → (ks : List ℕ)
+      → list_all (nat_lt r.first) ks ≡ true → (all : Children) → each f ks ≡ Some all
       → KnownChildren all
   each-known f known [] later all is = let empty : Empty ≡ all = cc in subst KnownChildren empty known-none
   each-known f known (k ∷ ks) later all is =
-      one-more (known k (and-left (nat_lt r.first k) (list_all (nat_lt r.first) ks) later)) (λ rest e. each-known f known ks (and-right (nat_lt r.first k) (list_all (nat_lt r.first) ks) later) rest e) (f k) refl (each f ks) refl is
+      one-more (known k (and-left (nat_lt r.first k) (list_all (nat_lt r.first) ks) later))
+      (λ rest e. each-known f known ks (and-right (nat_lt r.first k) (list_all (nat_lt r.first) ks) later) rest e) (f k) refl (each f ks) refl is
     where
       one-more : ((n : Node) → f k ≡ Some n → IsKnownNode n) → ((rest : Children) → each f ks ≡ Some rest → KnownChildren rest)
           → (n : Option Node) → f k ≡ n → (rest : Option Children) → each f ks ≡ rest
@@ -89,7 +93,8 @@ module _ (d : Draft) (r : IsReached d) where
           subst KnownChildren same (known-node n rest (first n e) (after rest e2))
 
   -- a transform behind the first so many
-  later-one : (p : Transform → Bool) (n k : ℕ) (xs : List Transform) (t : Transform) → list_all p (drop n xs) ≡ true → nat_lt n k ≡ true → of_serial xs k ≡ Some t → p t ≡ true
+  later-one : (p : Transform → Bool) (n k : ℕ) (xs : List Transform) (t : Transform) → list_all p (drop n xs) ≡ true → nat_lt n k ≡ true
+      → of_serial xs k ≡ Some t → p t ≡ true
   later-one p n k [] t all less is = cc
   later-one p zero k (x ∷ xs) t all less is =
       by_place (λ e. rest e) (k == 1) refl is
@@ -116,28 +121,39 @@ module _ (d : Draft) (r : IsReached d) where
   within-known : (levels : ℕ) (is_root : Bool) (k : ℕ) → nat_lt r.first k ≡ true → (n : Node) → node_within levels d is_root k ≡ Some n → IsKnownNode n
   within-known zero is_root k later n is = cc
   within-known (suc levels) is_root k later n is =
-      of_transform (λ ks ok all e. each-known (node_within levels d false) (λ j l m e'. within-known levels false j l m e') ks ok all e) (of_serial d.transforms k) refl is
+      of_transform (λ ks ok all e. each-known (node_within levels d false) (λ j l m e'. within-known levels false j l m e') ks ok all e)
+      (of_serial d.transforms k) refl is
     where
-      of_children : (t : Transform) → is_reached r.first (pair_at d.contents) d.viewports t ≡ true → (all : Option Children) → ((c : Children) → all ≡ Some c → KnownChildren c)
+      of_children : (t : Transform) → is_reached r.first (pair_at d.contents) d.viewports t ≡ true → (all : Option Children)
+          → ((c : Children) → all ≡ Some c → KnownChildren c)
           → option_map (node d is_root k t) all ≡ Some n → IsKnownNode n
       of_children t fine None below h = cc
       of_children t fine (Some all) below h =
           let same : node d is_root k t all ≡ n = cc in
-          subst IsKnownNode same (record { content = held-known t.content (and-left (is_alive (pair_at d.contents) d.viewports t.content) (list_all (nat_lt r.first) t.children) fine); below = below all refl })
+          subst IsKnownNode same (record {
+            content = held-known t.content
+                (and-left (is_alive (pair_at d.contents) d.viewports t.content) (list_all (nat_lt r.first) t.children) fine);
+            below = below all refl;
+          })
 
-      of_transform : ((ks : List ℕ) → list_all (nat_lt r.first) ks ≡ true → (all : Children) → each (node_within levels d false) ks ≡ Some all → KnownChildren all)
-          → (t : Option Transform) → of_serial d.transforms k ≡ t → option_and_then (λ t. option_map (node d is_root k t) (each (node_within levels d false) t.children)) t ≡ Some n → IsKnownNode n
+      of_transform : ((ks : List ℕ) → list_all (nat_lt r.first) ks ≡ true → (all : Children) → each (node_within levels d false) ks ≡ Some all
+          → KnownChildren all)
+          → (t : Option Transform) → of_serial d.transforms k ≡ t
+          → option_and_then (λ t. option_map (node d is_root k t) (each (node_within levels d false) t.children)) t ≡ Some n → IsKnownNode n
       of_transform below None at h = cc
       of_transform below (Some t) at h =
-          let fine : is_reached r.first (pair_at d.contents) d.viewports t ≡ true = later-one (is_reached r.first (pair_at d.contents) d.viewports) r.first k d.transforms t r.later later at in
-          of_children t fine (each (node_within levels d false) t.children) (below t.children (and-right (is_alive (pair_at d.contents) d.viewports t.content) (list_all (nat_lt r.first) t.children) fine)) h
+          let fine : is_reached r.first (pair_at d.contents) d.viewports t ≡ true =
+          later-one (is_reached r.first (pair_at d.contents) d.viewports) r.first k d.transforms t r.later later at in
+          of_children t fine (each (node_within levels d false) t.children)
+          (below t.children (and-right (is_alive (pair_at d.contents) d.viewports t.content) (list_all (nat_lt r.first) t.children) fine)) h
 
   root-after : (root : Option ℕ) → is_root_after r.first root ≡ true → list_all (nat_lt r.first) (option_to_list root) ≡ true
   root-after None is = refl
   root-after (Some k) is = rw is refl
 
   pub all-known : (all : Children) → all_nodes d ≡ Some all → KnownChildren all
-  all-known all is = each-known (node_within PATH_NODES_MAX d true) (λ k later n e. within-known PATH_NODES_MAX true k later n e) (option_to_list d.root) (root-after d.root r.root) all is
+  all-known all is = each-known (node_within PATH_NODES_MAX d true) (λ k later n e. within-known PATH_NODES_MAX true k later n e) (option_to_list d.root)
+      (root-after d.root r.root) all is
 
 -- ---- one viewport for each pair
 
@@ -146,7 +162,8 @@ serial-pair : (f : ℕ → Option PairNo) (names : List Name) (k : ℕ) → has 
 serial-pair f [] k is = cc
 serial-pair f (x ∷ xs) k is = by_pair (λ h. serial-pair f xs k h) (f x.serial) refl is
   where
-    by_pair : (has (serials_by f xs) k ≡ true → (p : PairNo) × (f k ≡ Some p)) → (o : Option PairNo) → f x.serial ≡ o → has (serial_at x o ++ serials_by f xs) k ≡ true → (p : PairNo) × (f k ≡ Some p)
+    by_pair : (has (serials_by f xs) k ≡ true → (p : PairNo) × (f k ≡ Some p)) → (o : Option PairNo) → f x.serial ≡ o
+        → has (serial_at x o ++ serials_by f xs) k ≡ true → (p : PairNo) × (f k ≡ Some p)
     by_pair rest None at h = rest h
     by_pair rest (Some q) at h = by_test (x.serial == k) refl h
       where
@@ -154,11 +171,13 @@ serial-pair f (x ∷ xs) k is = by_pair (λ h. serial-pair f xs k h) (f x.serial
         by_test true same h' = let number : x.serial ≡ k = grind (arith, nat_tests) in (q, ap f (sym number) ∙ at)
         by_test false other h' = rest h'
 
-one-held : (f : ℕ → Option PairNo) (names : List Name) (k : ℕ) (p q : PairNo) → has (serials_by f names) k ≡ true → f k ≡ Some q → (q.0 == p.0) ≡ true → 1 ≤ held_of p (lives_by f names)
+one-held : (f : ℕ → Option PairNo) (names : List Name) (k : ℕ) (p q : PairNo) → has (serials_by f names) k ≡ true → f k ≡ Some q → (q.0 == p.0) ≡ true
+    → 1 ≤ held_of p (lives_by f names)
 one-held f [] k p q is at same = cc
 one-held f (x ∷ xs) k p q is at same = by_pair (λ h. one-held f xs k p q h at same) (f x.serial) refl is
   where
-    by_pair : (has (serials_by f xs) k ≡ true → 1 ≤ held_of p (lives_by f xs)) → (o : Option PairNo) → f x.serial ≡ o → has (serial_at x o ++ serials_by f xs) k ≡ true
+    by_pair : (has (serials_by f xs) k ≡ true → 1 ≤ held_of p (lives_by f xs)) → (o : Option PairNo) → f x.serial ≡ o
+        → has (serial_at x o ++ serials_by f xs) k ≡ true
         → 1 ≤ held_of p (live_at x o ++ lives_by f xs)
     by_pair rest None here h = rest h
     by_pair rest (Some r) here h = by_test (x.serial == k) refl h
@@ -172,14 +191,18 @@ one-held f (x ∷ xs) k p q is at same = by_pair (λ h. one-held f xs k p q h at
             rw mine (omega arith)
         by_test false e h' = omega (arith, rest h')
 
-two-held : (f : ℕ → Option PairNo) (names : List Name) (k j : ℕ) (p q r : PairNo) → has (serials_by f names) k ≡ true → has (serials_by f names) j ≡ true → (k == j) ≡ false → f k ≡ Some q → f j ≡ Some r
+two-held : (f : ℕ → Option PairNo) (names : List Name) (k j : ℕ) (p q r : PairNo) → has (serials_by f names) k ≡ true → has (serials_by f names) j ≡ true
+    → (k == j) ≡ false → f k ≡ Some q → f j ≡ Some r
     → (q.0 == p.0) ≡ true → (r.0 == p.0) ≡ true → 2 ≤ held_of p (lives_by f names)
 two-held f [] k j p q r here there other at at' same same' = cc
 two-held f (x ∷ xs) k j p q r here there other at at' same same' =
-    by_pair (λ h h'. two-held f xs k j p q r h h' other at at' same same') (λ h. one-held f xs k p q h at same) (λ h. one-held f xs j p r h at' same') (f x.serial) refl here there
+    by_pair (λ h h'. two-held f xs k j p q r h h' other at at' same same') (λ h. one-held f xs k p q h at same) (λ h. one-held f xs j p r h at' same')
+    (f x.serial) refl here there
   where
-    by_pair : (has (serials_by f xs) k ≡ true → has (serials_by f xs) j ≡ true → 2 ≤ held_of p (lives_by f xs)) → (has (serials_by f xs) k ≡ true → 1 ≤ held_of p (lives_by f xs))
-        → (has (serials_by f xs) j ≡ true → 1 ≤ held_of p (lives_by f xs)) → (o : Option PairNo) → f x.serial ≡ o → has (serial_at x o ++ serials_by f xs) k ≡ true → has (serial_at x o ++ serials_by f xs) j ≡ true
+    by_pair : (has (serials_by f xs) k ≡ true → has (serials_by f xs) j ≡ true → 2 ≤ held_of p (lives_by f xs))
+        → (has (serials_by f xs) k ≡ true → 1 ≤ held_of p (lives_by f xs))
+        → (has (serials_by f xs) j ≡ true → 1 ≤ held_of p (lives_by f xs)) → (o : Option PairNo) → f x.serial ≡ o
+        → has (serial_at x o ++ serials_by f xs) k ≡ true → has (serial_at x o ++ serials_by f xs) j ≡ true
         → 2 ≤ held_of p (live_at x o ++ lives_by f xs)
     by_pair both first second None is h h' = both h h'
     by_pair both first second (Some y) is h h' = by_tests (x.serial == k) refl (x.serial == j) refl h h'
@@ -191,7 +214,8 @@ two-held f (x ∷ xs) k j p q r here there other at at' same same' =
             let pair : y ≡ z = cc in
             ap (λ (v : PairNo). v.0 == p.0) pair ∙ same-z
 
-        by_tests : (b : Bool) → (x.serial == k) ≡ b → (c : Bool) → (x.serial == j) ≡ c → (b || has (serials_by f xs) k) ≡ true → (c || has (serials_by f xs) j) ≡ true
+        by_tests : (b : Bool) → (x.serial == k) ≡ b → (c : Bool) → (x.serial == j) ≡ c → (b || has (serials_by f xs) k) ≡ true
+            → (c || has (serials_by f xs) j) ≡ true
             → 2 ≤ held_of p (live_at x (Some y) ++ lives_by f xs)
         by_tests true e true e' i i' = absurd (grind (arith, nat_tests))
         by_tests true e false e' i i' = rw (mine k q e at same) (omega (arith, second i'))
@@ -212,7 +236,10 @@ in-twice (y ∷ ys) x (inr on) none = in-twice ys x on (or_parts (x == y) (list_
 
 once-distinct : (xs : List ℕ) → has_twice xs ≡ false → Distinct xs
 once-distinct [] none = tt
-once-distinct (x ∷ xs) none = (λ on. in-twice xs x on (or_parts (list_any (λ y. x == y) xs) (has_twice xs) none).0, once-distinct xs (or_parts (list_any (λ y. x == y) xs) (has_twice xs) none).1)
+once-distinct (x ∷ xs) none = (
+  λ on. in-twice xs x on (or_parts (list_any (λ y. x == y) xs) (has_twice xs) none).0,
+  once-distinct xs (or_parts (list_any (λ y. x == y) xs) (has_twice xs) none).1,
+)
 
 in-map : (g : ℕ → ℕ) (ks : List ℕ) (y : ℕ) → In y (map g ks) → (k : ℕ) × (In k ks × (y ≡ g k))
 in-map g [] y on = absurd on
@@ -230,23 +257,27 @@ distinct-map g (k ∷ ks) d apart = (
 )
 
 -- a tree whose pairs have one live viewport each shows no pair twice
-pub pairs-once : (d : Draft) → IsTidy d → (r : IsReached d) → ((k : ℕ) (p : PairNo) → pair_at d.contents k ≡ Some p → held_of p (lives_of d) ≤ 1) → (all : Children) → all_nodes d ≡ Some all → has_twice (viewports_in all) ≡ false
+pub pairs-once : (d : Draft) → IsTidy d → (r : IsReached d) → ((k : ℕ) (p : PairNo) → pair_at d.contents k ≡ Some p → held_of p (lives_of d) ≤ 1)
+    → (all : Children) → all_nodes d ≡ Some all → has_twice (viewports_in all) ≡ false
     → Distinct (pairs_in all)
 pairs-once d tidy r single all is once =
     let known = all-known d r all is in
     let f : ℕ → Option PairNo = pair_at d.contents in
     let vs : List ℕ = viewports_in all in
-    let alive : (k : ℕ) → In k vs → has (serials_by f d.content_names) k ≡ true = λ k on. ap (λ (l : List ℕ). has l k) (sym tidy.viewports) ∙ in-has vs k on d.viewports known.live in
+    let alive : (k : ℕ) → In k vs → has (serials_by f d.content_names) k ≡ true =
+    λ k on. ap (λ (l : List ℕ). has l k) (sym tidy.viewports) ∙ in-has vs k on d.viewports known.live in
     subst Distinct (sym known.named)
     (distinct-map (number_of d r) vs (once-distinct vs once)
     (λ k j on on' e.
     let p = serial-pair f d.content_names k (alive k on) in
     let q = serial-pair f d.content_names j (alive j on') in
     apart f d.content_names k j p.0 q.0 (alive k on) (alive j on') p.1 q.1
-    (ap (λ (o : Option PairNo). unwrap_or (option_map (λ (x : PairNo). x.0) o) 0) (sym p.1) ∙ e ∙ ap (λ (o : Option PairNo). unwrap_or (option_map (λ (x : PairNo). x.0) o) 0) q.1)
+    (ap (λ (o : Option PairNo). unwrap_or (option_map (λ (x : PairNo). x.0) o) 0) (sym p.1) ∙ e
+    ∙ ap (λ (o : Option PairNo). unwrap_or (option_map (λ (x : PairNo). x.0) o) 0) q.1)
     (single k p.0 p.1) (k == j) refl))
   where
-    apart : (f : ℕ → Option PairNo) (names : List Name) (k j : ℕ) (p q : PairNo) → has (serials_by f names) k ≡ true → has (serials_by f names) j ≡ true → f k ≡ Some p → f j ≡ Some q → p.0 ≡ q.0
+    apart : (f : ℕ → Option PairNo) (names : List Name) (k j : ℕ) (p q : PairNo) → has (serials_by f names) k ≡ true → has (serials_by f names) j ≡ true
+        → f k ≡ Some p → f j ≡ Some q → p.0 ≡ q.0
         → held_of p (lives_by f names) ≤ 1 → (b : Bool) → (k == j) ≡ b → k ≡ j
     apart f names k j p q here there at at' same few true is = grind (arith, nat_tests)
     apart f names k j p q here there at at' same few false is =

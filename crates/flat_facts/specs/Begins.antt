@@ -45,4 +45,5 @@ post_of place s event = record { entry = place; session = s; event = event }
 
 -- the posts that an entry makes to the first sessions
 abbrev pub posts_to : Setup → List Entry → Entry → ℕ → List Post
-posts_to setup history entry n = flat_map (λ s. map (post_of (length history) s) (events_to setup history entry s)) (sessions_to n)
+posts_to setup history entry n = flat_map (λ s. map (post_of (length history) s) (events_to setup history entry s))
+    (sessions_to n)

@@ -16,12 +16,15 @@ use Rattle.flat_rules.specs.Posts.{releases_seen}
 -- while its owner is open, the token of a viewport end is held exactly where frames that are finished have seen as
 -- many releases as there were uses
 abbrev pub TokensFollowReleases : Type 0
-TokensFollowReleases = (setup : Setup) (history : List Entry) → Legal setup history → (s : SessionNo) (p : PairNo) → is_declared setup s ≡ true → owns_viewport setup s p ≡ true → is_closed s history ≡ false
-    → has_token setup p history ≡ nat_le (length (viewport_uses p history)) (releases_seen setup (to_finished history) s p)
+TokensFollowReleases = (setup : Setup) (history : List Entry) → Legal setup history → (s : SessionNo) (p : PairNo)
+    → is_declared setup s ≡ true → owns_viewport setup s p ≡ true → is_closed s history ≡ false
+    → has_token setup p history ≡ nat_le (length (viewport_uses p history))
+    (releases_seen setup (to_finished history) s p)
 
 -- and one viewport of the pair lives at most
 abbrev pub OneViewportLives : Type 0
-OneViewportLives = (setup : Setup) (history : List Entry) → Legal setup history → (s : SessionNo) (p : PairNo) → is_declared setup s ≡ true → owns_viewport setup s p ≡ true → is_closed s history ≡ false
+OneViewportLives = (setup : Setup) (history : List Entry) → Legal setup history → (s : SessionNo) (p : PairNo)
+    → is_declared setup s ≡ true → owns_viewport setup s p ≡ true → is_closed s history ≡ false
     → held_of p (lives_after [] (calls s history)) ≤ 1
 
 -- whether there is a view, and its end isn't lost
@@ -33,8 +36,10 @@ is_standing setup history (Some p) = not (is_view_lost setup history p)
 -- lost
 abbrev pub LastViewStands : Type 0
 LastViewStands = (setup : Setup) (history : List Entry) → Legal setup history
-    → (s : SessionNo) → has_view setup history s ≡ (not (is_closed s history) && is_standing setup history (last_view s history))
+    → (s : SessionNo) → has_view setup history s
+    ≡ (not (is_closed s history) && is_standing setup history (last_view s history))
 
 -- the display's pixel ratio is one that a display may have, where the head gives such a one
 abbrev pub RatiosAreAllowed : Type 0
-RatiosAreAllowed = (setup : Setup) (history : List Entry) → Legal setup history → is_ratio setup.ratio ≡ true → is_ratio (ratio setup history) ≡ true
+RatiosAreAllowed = (setup : Setup) (history : List Entry) → Legal setup history → is_ratio setup.ratio ≡ true
+    → is_ratio (ratio setup history) ≡ true

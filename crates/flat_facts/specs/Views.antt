@@ -27,7 +27,8 @@ view_made _ _ = None
 -- the pair of the last view that a session made
 abbrev pub last_view : SessionNo → List Entry → Option PairNo
 last_view s [] = None
-last_view s (before ▹ entry) = cond (is_session s entry.actor) (option_or (view_made entry.kind entry.reply) (last_view s before)) (last_view s before)
+last_view s (before ▹ entry) = cond (is_session s entry.actor)
+    (option_or (view_made entry.kind entry.reply) (last_view s before)) (last_view s before)
 
 -- the last view, where it still stands: a session's calls leave it no other
 abbrev pub if_unended : Option PairNo → (PairNo → Bool) → Option PairNo

@@ -35,7 +35,8 @@ found-passes test (y ∷ xs) x is = by_test (test y) refl (found-passes test xs 
 
 root-is-node : (nodes : List ViewNode) (r : SessionNo) → root_of nodes ≡ Some r → is_node nodes r ≡ true
 root-is-node [] r is = absurd (cc)
-root-is-node (node ∷ nodes) r is = let same : node.session ≡ r = cc in let test : (node.session.0 == r.0) ≡ true = eq-eqb node.session.0 r.0 (ap (λ (s : SessionNo). s.0) same) in rw test refl
+root-is-node (node ∷ nodes) r is = let same : node.session ≡ r = cc in let test : (node.session.0 == r.0) ≡ true =
+    eq-eqb node.session.0 r.0 (ap (λ (s : SessionNo). s.0) same) in rw test refl
 
 chain-to : (nodes : List ViewNode) (s : SessionNo) → is_tree nodes ≡ true → is_node nodes s ≡ true → IsChain nodes (path_to nodes s)
 chain-to nodes s tree there = let lead = paths-lead nodes s tree there in record { path = lead.path; root = lead.root }
@@ -44,7 +45,8 @@ chain-to nodes s tree there = let lead = paths-lead nodes s tree there in record
 chain-framed : (nodes : List ViewNode) (chain : List SessionNo) → is_tree nodes ≡ true → IsChain nodes (chain_in nodes chain)
 chain-framed nodes chain tree = by_found (find (is_node nodes) (reverse chain)) refl (root_of nodes) refl
   where
-    by_found : (found : Option SessionNo) → find (is_node nodes) (reverse chain) ≡ found → (root : Option SessionNo) → root_of nodes ≡ root → IsChain nodes (option_map_or (path_to nodes) (option_or found root) [])
+    by_found : (found : Option SessionNo) → find (is_node nodes) (reverse chain) ≡ found → (root : Option SessionNo) → root_of nodes ≡ root
+        → IsChain nodes (option_map_or (path_to nodes) (option_or found root) [])
     by_found (Some s) is root at = chain-to nodes s tree (found-passes (is_node nodes) (reverse chain) s is)
     by_found None is (Some r) at = chain-to nodes r tree (root-is-node nodes r at)
     by_found None is None at = record { path = refl; root = sym at }
@@ -93,7 +95,8 @@ on-path (node ∷ earlier) s t on = by_test (node.session.0 == s.0) refl (on-pat
             by_own (inl e) = rw e refl
             by_own (inr e) = absurd (cc)
 
-    by_test : (b : Bool) → (node.session.0 == s.0) ≡ b → ((p t : SessionNo) → stands_on (path_in earlier p) t ≡ true → is_node earlier t ≡ true) → is_node (node ∷ earlier) t ≡ true
+    by_test : (b : Bool) → (node.session.0 == s.0) ≡ b → ((p t : SessionNo) → stands_on (path_in earlier p) t ≡ true → is_node earlier t ≡ true)
+        → is_node (node ∷ earlier) t ≡ true
     by_test true e up =
         let spread = list_any-append (λ (one : SessionNo). one.0 == t.0) (option_map_or (λ p. path_in earlier p) node.parent []) (node.session ∷ []) in
         by_parent node.parent up (sym spread ∙ (rw e at on))
@@ -108,7 +111,8 @@ trees-after [] trees = refl
 trees-after (frame nodes ∷ before) trees = (and_parts (is_tree nodes) (are_trees before) trees).0
 trees-after (ask by of ∷ before) trees = trees-after before trees
 
-chain-asked : (nodes : List ViewNode) (by of : SessionNo) (chain : List SessionNo) → is_tree nodes ≡ true → IsChain nodes chain → IsChain nodes (cond (is_granted nodes by of) (path_to nodes of) chain)
+chain-asked : (nodes : List ViewNode) (by of : SessionNo) (chain : List SessionNo) → is_tree nodes ≡ true → IsChain nodes chain
+    → IsChain nodes (cond (is_granted nodes by of) (path_to nodes of) chain)
 chain-asked nodes by of chain tree is = by_test (is_granted nodes by of) refl
   where
     by_test : (b : Bool) → is_granted nodes by of ≡ b → IsChain nodes (cond b (path_to nodes of) chain)
@@ -118,4 +122,5 @@ chain-asked nodes by of chain tree is = by_test (is_granted nodes by of) refl
 pub chains-are-paths : ChainsArePaths
 chains-are-paths [] trees = record { path = refl; root = refl }
 chains-are-paths (frame nodes ∷ before) trees = chain-framed nodes (chain_after before) (and_parts (is_tree nodes) (are_trees before) trees).0
-chains-are-paths (ask by of ∷ before) trees = chain-asked (nodes_after before) by of (chain_after before) (trees-after before trees) (chains-are-paths before trees)
+chains-are-paths (ask by of ∷ before) trees = chain-asked (nodes_after before) by of (chain_after before) (trees-after before trees)
+    (chains-are-paths before trees)

@@ -1,5 +1,6 @@
 -- The way up from a session to the root, node by node, and lists turned round.
-use Rattle.std.proofs.Common.{ℕ, zero, suc, ◌+◌, ◌-◌, ◌<◌, ◌≤◌, ◌≡◌, ◌==◌, refl, sym, ap, ◌∙◌, Bool, true, false, List, [], ◌∷◌, ◌++◌, length, take, drop, reverse, get_or, slice_get, Option, Some, None, arith, append_assoc, append-nil}
+use Rattle.std.proofs.Common.{ℕ, zero, suc, ◌+◌, ◌-◌, ◌<◌, ◌≤◌, ◌≡◌, ◌==◌, refl, sym, ap, ◌∙◌, Bool, true, false, List, [], ◌∷◌, ◌++◌, length, take, drop}
+use Rattle.std.proofs.Common.{reverse, get_or, slice_get, Option, Some, None, arith, append_assoc, append-nil}
 use Rattle.std.specs.Option.{option_map_or}
 use Rattle.std.proofs.lemmas.List.{drop_more, take_more, get_or-reverse, length-reverse, reverse-append, length-take-le}
 use Rattle.std.proofs.lemmas.Option.{slice_get_within, slice_get-get_or}
@@ -22,7 +23,8 @@ step_up : (node : ViewNode) (earlier : List ViewNode) (next : Option SessionNo) 
 step_up node earlier None items = rw (append-nil items) refl
 step_up node earlier (Some s) items = by_test (node.session.0 == s.0) refl
   where
-    by_test : (b : Bool) → (node.session.0 == s.0) ≡ b → path_for (node ∷ earlier) (Some s) ++ reverse items ≡ path_for earlier (way_on node (Some s)) ++ reverse (items ++ on_the_way node (Some s))
+    by_test : (b : Bool) → (node.session.0 == s.0) ≡ b → path_for (node ∷ earlier) (Some s) ++ reverse items ≡ path_for earlier (way_on node (Some s))
+        ++ reverse (items ++ on_the_way node (Some s))
     by_test true e = rw (e, reverse-append items (node.session ∷ [])) (append_assoc (path_for earlier node.parent) (node.session ∷ []) (reverse items))
     by_test false e = rw (e, append-nil items) refl
 
@@ -35,7 +37,8 @@ climbs nodes i node next way items new whole within is on more so_far =
     let read : Some (get_or nodes (length nodes - 1 - i) node) ≡ Some node = sym (slice_get-get_or nodes (length nodes - 1 - i) node (omega arith)) ∙ is in
     let same : get_or nodes (length nodes - 1 - i) node ≡ node = cc in
     let here : get_or (reverse nodes) i node ≡ node = get_or-reverse nodes i node within ∙ same in
-    let at : drop i (reverse nodes) ≡ node ∷ drop (i + 1) (reverse nodes) = drop_more (reverse nodes) i node low ∙ ap (λ n. n ∷ drop (i + 1) (reverse nodes)) here in
+    let at : drop i (reverse nodes) ≡ node ∷ drop (i + 1) (reverse nodes) =
+    drop_more (reverse nodes) i node low ∙ ap (λ n. n ∷ drop (i + 1) (reverse nodes)) here in
     rw (on, more) (sym (step_up node (drop (i + 1) (reverse nodes)) next items) ∙ ap (λ ns. path_for ns next ++ reverse items) (sym at) ∙ so_far)
 
 -- at the end nothing is left to be looked for
@@ -50,7 +53,8 @@ climbed nodes i next items whole all so_far =
     sym (ap (λ ns. path_for ns next ++ reverse items) none ∙ ap (λ front. front ++ reverse items) (nowhere next)) ∙ so_far
 
 -- the last item of a list, taken off and put on another
-pub pours : {A : Type 0} (from into all : List A) (x : A) → Some x ≡ last_item from → into ++ reverse from ≡ all → (into ++ x ∷ []) ++ reverse (take (length from - 1) from) ≡ all
+pub pours : {A : Type 0} (from into all : List A) (x : A) → Some x ≡ last_item from → into ++ reverse from ≡ all
+    → (into ++ x ∷ []) ++ reverse (take (length from - 1) from) ≡ all
 pours from into all x is so_far =
     let low : length from - 1 < length from = slice_get_within from (length from - 1) x (sym is) in
     let e : length from - 1 + 1 ≡ length from = omega arith in
@@ -71,9 +75,11 @@ take_none : {A : Type 0} (n : ℕ) → take {A = A} n [] ≡ []
 take_none zero = refl
 take_none (suc n) = refl
 
-pub none_left : {A : Type 0} (from into rest all : List A) → None ≡ last_item from → rest ≡ take (length from - 1) from → into ++ reverse from ≡ all → (into ≡ all) × (rest ≡ [])
+pub none_left : {A : Type 0} (from into rest all : List A) → None ≡ last_item from → rest ≡ take (length from - 1) from → into ++ reverse from ≡ all
+    → (into ≡ all) × (rest ≡ [])
 none_left {A = A} [] into rest all is left so_far = (sym (append-nil into) ∙ so_far, left ∙ take_none (length {A = A} [] - 1))
-none_left (x ∷ xs) into rest all is left so_far = absurd (let low : length (x ∷ xs) - 1 < length (x ∷ xs) = omega arith in let e = slice_get-get_or (x ∷ xs) (length (x ∷ xs) - 1) x low in cc)
+none_left (x ∷ xs) into rest all is left so_far = absurd
+    (let low : length (x ∷ xs) - 1 < length (x ∷ xs) = omega arith in let e = slice_get-get_or (x ∷ xs) (length (x ∷ xs) - 1) x low in cc)
 
 -- a test passes somewhere in a list, or in the list turned round
 pub any-reverse : {A : Type 0} (test : A → Bool) (xs : List A) → list_any test (reverse xs) ≡ list_any test xs

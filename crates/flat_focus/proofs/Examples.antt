@@ -96,9 +96,11 @@ abbrev asks : ℕ → ℕ → ℕ → FocusLine
 asks number by of = record { number = number; by = session by; of = session of }
 
 abbrev text_lines : List ℕ → List FrameOut → List FocusLine → List (List ℕ)
-text_lines dones frames lines = map line_of (all_lines (lines_at names) (λ one before. event_of one ∷ before) [] (merged (λ line. line.number) dones frames lines) ++ end_line (length lines) ∷ [])
+text_lines dones frames lines = map line_of (all_lines (lines_at names) (λ one before. event_of one ∷ before) []
+    (merged (λ line. line.number) dones frames lines) ++ end_line (length lines) ∷ [])
 
-granted_and_denied : text_lines (48 ∷ 51 ∷ 57 ∷ []) (shown 1 (shell ∷ clock ∷ []) ∷ shown 2 (shell ∷ mail ∷ clock ∷ []) ∷ shown 3 (shell ∷ mail ∷ clock ∷ []) ∷ []) (asks 58 1 2 ∷ asks 59 2 3 ∷ asks 60 1 3 ∷ []) ≡
+granted_and_denied : text_lines (48 ∷ 51 ∷ 57 ∷ []) (shown 1 (shell ∷ clock ∷ []) ∷ shown 2 (shell ∷ mail ∷ clock ∷ []) ∷ shown 3 (shell ∷ mail ∷ clock ∷ [])
+    ∷ []) (asks 58 1 2 ∷ asks 59 2 3 ∷ asks 60 1 3 ∷ []) ≡
     codes "frame 1 chain shell"
     ∷ codes "frame 2 chain shell"
     ∷ codes "frame 3 chain shell"
@@ -120,6 +122,7 @@ unfolding digits
 focus_goes_with_its_view = refl
 
 -- an empty chain has no space at its end
-no_view : text_lines (9 ∷ []) (shown 1 [] ∷ []) (asks 8 1 1 ∷ []) ≡ codes "focus 8 shell shell denied chain" ∷ codes "frame 1 chain" ∷ codes "focus ends requests 1" ∷ []
+no_view : text_lines (9 ∷ []) (shown 1 [] ∷ []) (asks 8 1 1 ∷ []) ≡ codes "focus 8 shell shell denied chain" ∷ codes "frame 1 chain"
+    ∷ codes "focus ends requests 1" ∷ []
 unfolding digits
 no_view = refl

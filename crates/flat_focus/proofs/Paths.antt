@@ -20,7 +20,8 @@ same_number n = eq-eqb n n refl
 
 -- ---- nodes
 
-child-more : (node : ViewNode) (ns : List ViewNode) (above : Option SessionNo) (s : SessionNo) → is_child ns above s ≡ true → is_child (node ∷ ns) above s ≡ true
+child-more : (node : ViewNode) (ns : List ViewNode) (above : Option SessionNo) (s : SessionNo) → is_child ns above s ≡ true
+    → is_child (node ∷ ns) above s ≡ true
 child-more node ns above s h = rw h (or-true (node.session.0 == s.0 && same_session node.parent above))
 
 -- a node is a child of its parent
@@ -38,20 +39,23 @@ root-end [] more r e = absurd (cc)
 root-end (node ∷ ns) more r e = e
 
 -- the root stays where a node comes behind others
-pub root-more : (node : ViewNode) (earlier : List ViewNode) (s : SessionNo) → is_node earlier s ≡ true → root_of (reverse (node ∷ earlier)) ≡ root_of (reverse earlier)
+pub root-more : (node : ViewNode) (earlier : List ViewNode) (s : SessionNo) → is_node earlier s ≡ true
+    → root_of (reverse (node ∷ earlier)) ≡ root_of (reverse earlier)
 root-more node earlier s h =
     let found = rooted (reverse earlier) s (any-reverse (λ (one : ViewNode). one.session.0 == s.0) earlier ∙ h) in
     ap root_of (reverse-append (node ∷ []) earlier) ∙ root-end (reverse earlier) (node ∷ []) found.0 found.1 ∙ sym found.1
 
 -- ---- paths
 
-path-more : (node : ViewNode) (ns : List ViewNode) (above : Option SessionNo) (xs : List SessionNo) → is_path_below ns above xs ≡ true → is_path_below (node ∷ ns) above xs ≡ true
+path-more : (node : ViewNode) (ns : List ViewNode) (above : Option SessionNo) (xs : List SessionNo) → is_path_below ns above xs ≡ true
+    → is_path_below (node ∷ ns) above xs ≡ true
 path-more node ns above [] h = refl
 path-more node ns above (s ∷ xs) h =
     let both = and_parts (is_child ns above s) (is_path_below ns (Some s) xs) h in
     rw (child-more node ns above s both.0) (path-more node ns (Some s) xs both.1)
 
-path-end : (ns : List ViewNode) (above : Option SessionNo) (xs : List SessionNo) (s : SessionNo) → is_path_below ns above xs ≡ true → is_child ns (last_of above xs) s ≡ true
+path-end : (ns : List ViewNode) (above : Option SessionNo) (xs : List SessionNo) (s : SessionNo) → is_path_below ns above xs ≡ true
+    → is_child ns (last_of above xs) s ≡ true
     → is_path_below ns above (xs ++ s ∷ []) ≡ true
 path-end ns above [] s p c = rw c refl
 path-end ns above (x ∷ xs) s p c = let both = and_parts (is_child ns above x) (is_path_below ns (Some x) xs) p in rw both.0 (path-end ns (Some x) xs s both.1 c)
@@ -72,7 +76,8 @@ pub record Leads (ns : List ViewNode) (s : SessionNo) (way : List SessionNo) : T
 
 -- to a node through its parent
 own_path : (node : ViewNode) (earlier : List ViewNode) (parent : Option SessionNo) → node.parent ≡ parent → is_below parent earlier ≡ true
-    → ((p : SessionNo) → is_node earlier p ≡ true → Leads earlier p (path_in earlier p)) → Leads (node ∷ earlier) node.session (path_for earlier parent ++ node.session ∷ [])
+    → ((p : SessionNo) → is_node earlier p ≡ true → Leads earlier p (path_in earlier p))
+    → Leads (node ∷ earlier) node.session (path_for earlier parent ++ node.session ∷ [])
 own_path node [] None is below up = record { path = rw (child-own node [] None is) refl; root = refl; end = refl }
 own_path node (other ∷ earlier) None is below up = absurd (cc)
 own_path node earlier (Some p) is below up =
@@ -91,23 +96,31 @@ leads [] s tree there = absurd (cc)
 leads (node ∷ earlier) s tree there = by_test (node.session.0 == s.0) refl (λ p. leads earlier p parts.1)
   where
     parts : (is_below node.parent earlier ≡ true) × (is_tree_in earlier ≡ true)
-    parts = and_parts (is_below node.parent earlier) (is_tree_in earlier) (and_parts (not (is_node earlier node.session)) (is_below node.parent earlier && is_tree_in earlier) tree).1
+    parts = and_parts (is_below node.parent earlier) (is_tree_in earlier)
+        (and_parts (not (is_node earlier node.session)) (is_below node.parent earlier && is_tree_in earlier) tree).1
 
-    by_test : (b : Bool) → (node.session.0 == s.0) ≡ b → ((p : SessionNo) → is_node earlier p ≡ true → Leads earlier p (path_in earlier p)) → Leads (node ∷ earlier) s (path_in (node ∷ earlier) s)
+    by_test : (b : Bool) → (node.session.0 == s.0) ≡ b → ((p : SessionNo) → is_node earlier p ≡ true → Leads earlier p (path_in earlier p))
+        → Leads (node ∷ earlier) s (path_in (node ∷ earlier) s)
     by_test true e up =
         let own = own_path node earlier node.parent refl parts.0 up in
         rw e (subst (λ (t : SessionNo). Leads (node ∷ earlier) t (path_for earlier node.parent ++ node.session ∷ [])) (numbered node.session s e) own)
     by_test false e up =
         let there_too : is_node earlier s ≡ true = rw e at there in
         let lead = up s there_too in
-        rw e (record { path = path-more node earlier None (path_in earlier s) lead.path; root = lead.root ∙ sym (root-more node earlier s there_too); end = lead.end })
+        rw e (record {
+          path = path-more node earlier None (path_in earlier s) lead.path;
+          root = lead.root ∙ sym (root-more node earlier s there_too);
+          end = lead.end;
+        })
 
 -- ---- nodes in their order
 
-pub path-turned : (nodes : List ViewNode) (above : Option SessionNo) (xs : List SessionNo) → is_path_below (reverse nodes) above xs ≡ is_path_below nodes above xs
+pub path-turned : (nodes : List ViewNode) (above : Option SessionNo) (xs : List SessionNo)
+    → is_path_below (reverse nodes) above xs ≡ is_path_below nodes above xs
 path-turned nodes above [] = refl
 path-turned nodes above (s ∷ xs) =
-    rw (any-reverse (λ (node : ViewNode). node.session.0 == s.0 && same_session node.parent above) nodes) (ap (λ (b : Bool). is_child nodes above s && b) (path-turned nodes (Some s) xs))
+    rw (any-reverse (λ (node : ViewNode). node.session.0 == s.0 && same_session node.parent above) nodes)
+    (ap (λ (b : Bool). is_child nodes above s && b) (path-turned nodes (Some s) xs))
 
 pub paths-lead : PathsLead
 paths-lead nodes s tree there =

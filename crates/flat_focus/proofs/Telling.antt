@@ -20,15 +20,18 @@ sessions-stay [] focus = refl
 sessions-stay (finished out ∷ xs) focus = sessions-stay xs (framed out.tree.nodes focus)
 sessions-stay (said line ∷ xs) focus = sessions-stay xs (asked line.by line.of focus)
 
-line-follows : (names : List Word) (sessions : ℕ) (before : List FocusEvent) (one : Happening FocusLine) → lines_with names (kept_after sessions before) one ≡ lines_at names before one
+line-follows : (names : List Word) (sessions : ℕ) (before : List FocusEvent) (one : Happening FocusLine)
+    → lines_with names (kept_after sessions before) one ≡ lines_at names before one
 line-follows names sessions before one =
     ap (λ (f : Focusing). lines_with names f one) (calls-follow sessions before) ∙ by_case one
   where
-    by_case : (one : Happening FocusLine) → lines_with names (record { sessions = sessions; nodes = nodes_after before; chain = chain_after before }) one ≡ lines_at names before one
+    by_case : (one : Happening FocusLine) → lines_with names (record { sessions = sessions; nodes = nodes_after before; chain = chain_after before }) one
+        ≡ lines_at names before one
     by_case (finished out) = refl
     by_case (said line) = refl
 
-after-follows : (sessions : ℕ) (before : List FocusEvent) (one : Happening FocusLine) → after one (kept_after sessions before) ≡ kept_after sessions (event_of one ∷ before)
+after-follows : (sessions : ℕ) (before : List FocusEvent) (one : Happening FocusLine)
+    → after one (kept_after sessions before) ≡ kept_after sessions (event_of one ∷ before)
 after-follows sessions before (finished out) = refl
 after-follows sessions before (said line) = refl
 
@@ -50,4 +53,5 @@ lines-follow names sessions xs =
 pub items-play-no-part : ItemsPlayNoPart
 items-play-no-part names dones frames lines =
     ap (λ (written : List (List Word)). text_of (written ++ end_line (length lines) ∷ []))
-    (told.lines-left (lines_at names) (λ one before. event_of one ∷ before) (λ line. line.number) without_items (λ before out. refl) (λ before out. refl) dones frames lines [])
+    (told.lines-left (lines_at names) (λ one before. event_of one ∷ before) (λ line. line.number) without_items (λ before out. refl) (λ before out. refl) dones
+    frames lines [])

@@ -25,24 +25,28 @@ trees-more : (happenings : List (Happening FocusLine)) (before : List FocusEvent
     → are_trees (after_all (λ one before. event_of one ∷ before) happenings before) ≡ true
 trees-more [] before all trees = trees
 trees-more (finished out ∷ later) before all trees =
-    trees-more later (frame out.tree.nodes ∷ before) (and-right (has_tree out) (list_all may_be_tree later) all) (and-true (and-left (has_tree out) (list_all may_be_tree later) all) trees)
+    trees-more later (frame out.tree.nodes ∷ before) (and-right (has_tree out) (list_all may_be_tree later) all)
+    (and-true (and-left (has_tree out) (list_all may_be_tree later) all) trees)
 trees-more (said line ∷ later) before all trees = trees-more later (ask line.by line.of ∷ before) (and-right true (list_all may_be_tree later) all) trees
 
 all-said : (lines : List FocusLine) → list_all may_be_tree (map said lines) ≡ true
 all-said [] = refl
 all-said (line ∷ lines) = all-said lines
 
-all-merged : (number : FocusLine → ℕ) (dones : List ℕ) (frames : List FrameOut) (lines : List FocusLine) → list_all has_tree frames ≡ true → list_all may_be_tree (merged number dones frames lines) ≡ true
+all-merged : (number : FocusLine → ℕ) (dones : List ℕ) (frames : List FrameOut) (lines : List FocusLine) → list_all has_tree frames ≡ true
+    → list_all may_be_tree (merged number dones frames lines) ≡ true
 all-merged number [] frames lines all = all-said lines
 all-merged number (done ∷ dones) [] lines all = all-said lines
 all-merged number (done ∷ dones) (out ∷ frames) lines all =
     let n : ℕ = count_before number done lines in
-    let later : list_all may_be_tree (merged number dones frames (drop n lines)) ≡ true = all-merged number dones frames (drop n lines) (and-right (has_tree out) (list_all has_tree frames) all) in
+    let later : list_all may_be_tree (merged number dones frames (drop n lines)) ≡ true =
+    all-merged number dones frames (drop n lines) (and-right (has_tree out) (list_all has_tree frames) all) in
     list_all-append may_be_tree (map said (take n lines)) (finished out ∷ merged number dones frames (drop n lines))
     ∙ and-true (all-said (take n lines)) (and-true (and-left (has_tree out) (list_all has_tree frames) all) later)
 
 pub chains-in-texts : ChainsInTexts
 chains-in-texts dones frames lines all early late parted =
-    let whole : list_all may_be_tree (early ++ late) ≡ true = ap (list_all may_be_tree) (sym parted) ∙ all-merged (λ line. line.number) dones frames lines all in
+    let whole : list_all may_be_tree (early ++ late) ≡ true =
+    ap (list_all may_be_tree) (sym parted) ∙ all-merged (λ line. line.number) dones frames lines all in
     let both : (list_all may_be_tree early && list_all may_be_tree late) ≡ true = sym (list_all-append may_be_tree early late) ∙ whole in
     chains-are-paths (events_of early) (trees-more early [] (and-left (list_all may_be_tree early) (list_all may_be_tree late) both) refl)

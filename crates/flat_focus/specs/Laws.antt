@@ -26,7 +26,12 @@ kept_after sessions (ask by of ∷ before) = asked by of (kept_after sessions be
 
 -- the calls keep the nodes of the last frame, and the chain
 abbrev pub CallsFollow : Type 0
-CallsFollow = (sessions : ℕ) (events : List FocusEvent) → kept_after sessions events ≡ record { sessions = sessions; nodes = nodes_after events; chain = chain_after events }
+CallsFollow = (sessions : ℕ) (events : List FocusEvent)
+    → kept_after sessions events ≡ record {
+      sessions = sessions;
+      nodes = nodes_after events;
+      chain = chain_after events;
+    }
 
 -- ---- paths
 
@@ -66,11 +71,13 @@ pub record LeadsTo (nodes : List ViewNode) (s : SessionNo) (way : List SessionNo
 
 -- in a view tree there is such a path to each node
 abbrev pub PathsLead : Type 0
-PathsLead = (nodes : List ViewNode) (s : SessionNo) → IsTrue (is_tree nodes) → IsTrue (is_node nodes s) → LeadsTo nodes s (path_to nodes s)
+PathsLead = (nodes : List ViewNode) (s : SessionNo) → IsTrue (is_tree nodes) → IsTrue (is_node nodes s)
+    → LeadsTo nodes s (path_to nodes s)
 
 -- and no other
 abbrev pub PathsAreOne : Type 0
-PathsAreOne = (nodes : List ViewNode) (s : SessionNo) (path : List SessionNo) → IsTrue (is_tree nodes) → IsTrue (is_path nodes path) → last_of None path ≡ Some s → path ≡ path_to nodes s
+PathsAreOne = (nodes : List ViewNode) (s : SessionNo) (path : List SessionNo) → IsTrue (is_tree nodes)
+    → IsTrue (is_path nodes path) → last_of None path ≡ Some s → path ≡ path_to nodes s
 
 -- ---- chains
 
@@ -86,7 +93,8 @@ pub record IsChain (nodes : List ViewNode) (chain : List SessionNo) : Type 0 whe
   pub root : first_of chain ≡ root_of nodes
 
 abbrev pub ChainsArePaths : Type 0
-ChainsArePaths = (events : List FocusEvent) → IsTrue (are_trees events) → IsChain (nodes_after events) (chain_after events)
+ChainsArePaths = (events : List FocusEvent) → IsTrue (are_trees events)
+    → IsChain (nodes_after events) (chain_after events)
 
 -- the events of what happens in a text, the newest first
 abbrev pub events_of : List (Happening FocusLine) → List FocusEvent
@@ -94,13 +102,17 @@ events_of happenings = after_all (λ one before. event_of one ∷ before) happen
 
 -- so in a text whose frames have view trees, wherever it stands
 abbrev pub ChainsInTexts : Type 0
-ChainsInTexts = (dones : List ℕ) (frames : List FrameOut) (lines : List FocusLine) → IsTrue (list_all (λ out. is_tree out.tree.nodes) frames)
-    → (early late : List (Happening FocusLine)) → merged (λ line. line.number) dones frames lines ≡ early ++ late → IsChain (nodes_after (events_of early)) (chain_after (events_of early))
+ChainsInTexts = (dones : List ℕ) (frames : List FrameOut) (lines : List FocusLine)
+    → IsTrue (list_all (λ out. is_tree out.tree.nodes) frames)
+    → (early late : List (Happening FocusLine)) → merged (λ line. line.number) dones frames lines ≡ early ++ late
+    → IsChain (nodes_after (events_of early)) (chain_after (events_of early))
 
 -- a text hangs on the numbers and the view trees of its frames alone: draw items play no part
 abbrev pub ItemsPlayNoPart : Type 0
-ItemsPlayNoPart = (names : List Word) (dones : List ℕ) (frames : List FrameOut) (lines : List FocusLine) → focus_text names dones (map without_items frames) lines ≡ focus_text names dones frames lines
+ItemsPlayNoPart = (names : List Word) (dones : List ℕ) (frames : List FrameOut) (lines : List FocusLine)
+    → focus_text names dones (map without_items frames) lines ≡ focus_text names dones frames lines
 
 -- the focus is given by a node to a node
 abbrev pub NodesGive : Type 0
-NodesGive = (nodes : List ViewNode) (by of : SessionNo) → IsTrue (is_granted nodes by of) → IsTrue (is_node nodes by) × IsTrue (is_node nodes of)
+NodesGive = (nodes : List ViewNode) (by of : SessionNo) → IsTrue (is_granted nodes by of)
+    → IsTrue (is_node nodes by) × IsTrue (is_node nodes of)

@@ -29,7 +29,10 @@ framed nodes focus = record focus { nodes = nodes; chain = chain_in nodes focus.
 
 -- after it asked
 abbrev pub asked : SessionNo → SessionNo → Focusing → Focusing
-asked by of focus = record focus { chain = if is_granted focus.nodes by of then path_to focus.nodes of else focus.chain }
+asked by of focus = record focus {
+  chain = if is_granted focus.nodes by of then path_to focus.nodes of else
+      focus.chain;
+}
 
 -- what is kept after one thing more
 abbrev pub after : Happening FocusLine → Focusing → Focusing
@@ -39,4 +42,5 @@ after (said line) focus = asked line.by line.of focus
 -- what is written of it
 abbrev pub lines_with : List Word → Focusing → Happening FocusLine → List (List Word)
 lines_with names focus (finished out) = frame_line names out.frame.0 (framed out.tree.nodes focus).chain ∷ []
-lines_with names focus (said line) = ask_line names line (answer_to focus.nodes line.by line.of) (asked line.by line.of focus).chain ∷ []
+lines_with names focus (said line) = ask_line names line (answer_to focus.nodes line.by line.of)
+    (asked line.by line.of focus).chain ∷ []

@@ -12,7 +12,8 @@ use Rattle.flat_places.specs.Slots.{IsCounted}
 use Rattle.flat_forms.specs.Ahead.{IsSaid, SaysAhead, with_lines}
 use Rattle.flat_forms.specs.Body.{body_line, counted_line, lines_of_actor, with_line}
 
-pub said : (s : Script) (line : List Word) (w : Word) (rest : List Word) (a : Actor) (b : Body) → line ≡ w ∷ rest → Some a ≡ actor_named s w → IsCounted a → SaysAhead s a rest b → IsSaid s line a b
+pub said : (s : Script) (line : List Word) (w : Word) (rest : List Word) (a : Actor) (b : Body) → line ≡ w ∷ rest → Some a ≡ actor_named s w → IsCounted a
+    → SaysAhead s a rest b → IsSaid s line a b
 said s line w rest a b begins named counted says = record {
   counted = counted;
   reads = λ n lines.

@@ -1,5 +1,6 @@
 -- What a head line that was read says of the name that it declares, and the script with it.
-use Rattle.std.proofs.Common.{◌≡◌, ℕ, ◌<◌, ◌≤◌, Bool, true, nat_lt, cond, List, [], ◌∷◌, ◌++◌, length, Option, Some, None, Ok, sym, ◌∙◌, ap, arith, length-append, subst}
+use Rattle.std.proofs.Common.{◌≡◌, ℕ, ◌<◌, ◌≤◌, Bool, true, nat_lt, cond, List, [], ◌∷◌, ◌++◌, length, Option, Some, None, Ok, sym, ◌∙◌, ap, arith}
+use Rattle.std.proofs.Common.{length-append, subst}
 use Rattle.std.proofs.lemmas.Bool.Decides.{nat_tests}
 use Rattle.std.specs.Str.{bytes_eq}
 use Rattle.flat_base.specs.declared.ids.Actor.{Actor}
@@ -32,7 +33,8 @@ name_declares s words room v is =
 fresh_at : (s : Script) (v w : Word) → v ≡ w → IsFresh s v → IsFresh s w
 fresh_at s v w e fresh = let P : Word → Type 0 = λ x. IsFresh s x in subst P e fresh
 
-pub fence_declares : (s : Script) (words : List Word) (room : Bool) (v : Word × FenceDecl) → unless_kind Limit room (whole (fence s) words) ≡ Ok v → Declares s room v.0
+pub fence_declares : (s : Script) (words : List Word) (room : Bool) (v : Word × FenceDecl) → unless_kind Limit room (whole (fence s) words) ≡ Ok v
+    → Declares s room v.0
 fence_declares s words room v is =
     let h : Word → List Actor → Word × FenceDecl = λ name actors. (name, record { owners = actors }) in
     let tested = unless_ok Limit room (whole (fence s) words) v is in
@@ -41,7 +43,8 @@ fence_declares s words room v is =
     let same : first.a ≡ v.0 = ap (λ g. (g last.a).0) first.value ∙ ap (λ d. d.0) last.value in
     record { allowed = tested.passed; fresh = fresh_at s first.a v.0 same (new_name_ok s words first.a last.mid first.given) }
 
-pub pair_declares : (s : Script) (words : List Word) (room : Bool) (v : Word × PairDecl) → Ok v ≡ unless_kind Limit room (whole (pair s) words) → Declares s room v.0
+pub pair_declares : (s : Script) (words : List Word) (room : Bool) (v : Word × PairDecl) → Ok v ≡ unless_kind Limit room (whole (pair s) words)
+    → Declares s room v.0
 pair_declares s words room v is =
     let h : Word → Actor → SessionNo → Word × PairDecl = λ name x y. (name, record { viewport = x; view = y }) in
     let tested = unless_ok Limit room (whole (pair s) words) v (sym is) in
@@ -51,7 +54,8 @@ pair_declares s words room v is =
     let same : first.a ≡ v.0 = ap (λ g. (g next.a last.a).0) first.value ∙ ap (λ g. (g last.a).0) next.value ∙ ap (λ d. d.0) last.value in
     record { allowed = tested.passed; fresh = fresh_at s first.a v.0 same (new_name_ok s words first.a next.mid first.given) }
 
-pub buffers_declares : (s : Script) (words : List Word) (room : Bool) (v : Word × BufferDecl) → Ok v ≡ unless_kind Limit room (whole (buffers s) words) → Declares s room v.0
+pub buffers_declares : (s : Script) (words : List Word) (room : Bool) (v : Word × BufferDecl) → Ok v ≡ unless_kind Limit room (whole (buffers s) words)
+    → Declares s room v.0
 buffers_declares s words room v is =
     let h : Word → SessionNo → ℕ → ℕ → ℕ → Word × BufferDecl = λ name a n x y. (name, record { owner = a; count = n; w = x; h = y }) in
     let tested = unless_ok Limit room (whole (buffers s) words) v (sym is) in
@@ -60,7 +64,8 @@ buffers_declares s words room v is =
     let three = apply_ok (h <$> new_name s <*> session s) (number_from 1 64) words four.g four.mid four.first in
     let two = apply_ok (h <$> new_name s) (session s) words three.g three.mid three.first in
     let first = map_ok h (new_name s) words two.g two.mid two.first in
-    let same : first.a ≡ v.0 = ap (λ g. (g two.a three.a four.a five.a).0) first.value ∙ ap (λ g. (g three.a four.a five.a).0) two.value ∙ ap (λ g. (g four.a five.a).0) three.value
+    let same : first.a ≡ v.0 = ap (λ g. (g two.a three.a four.a five.a).0) first.value ∙ ap (λ g. (g three.a four.a five.a).0) two.value
+    ∙ ap (λ g. (g four.a five.a).0) three.value
     ∙ ap (λ g. (g five.a).0) four.value ∙ ap (λ d. d.0) five.value in
     record { allowed = tested.passed; fresh = fresh_at s first.a v.0 same (new_name_ok s words first.a two.mid first.given) }
 
@@ -71,7 +76,8 @@ one_longer xs ys x n most is count room = let below : n < most = grind (arith, n
 
 -- the meaning of words, at a script with the same names
 
-pub means_at : (s t : Script) (o : Option Meaning) (w : Word) → t.sessions ≡ s.sessions → t.probes ≡ s.probes → t.buffers ≡ s.buffers → t.pairs ≡ s.pairs → t.fences ≡ s.fences → Means o s w → Means o t w
+pub means_at : (s t : Script) (o : Option Meaning) (w : Word) → t.sessions ≡ s.sessions → t.probes ≡ s.probes → t.buffers ≡ s.buffers → t.pairs ≡ s.pairs
+    → t.fences ≡ s.fences → Means o s w → Means o t w
 means_at s t o w a b c d e m = record {
   sessions = ap (λ names. place_of names w) a ∙ m.sessions;
   probes = ap (λ names. place_of names w) b ∙ m.probes;
@@ -86,31 +92,36 @@ numbered f b n m o o' e is = is ∙ ap (λ k. cond b (Some (f k)) o) e
 more : (names all : List Word) (name made : Word) → all ≡ names ++ made ∷ [] → made ≡ name → all ≡ names ++ name ∷ []
 more names all name made is same = is ∙ ap (λ n. names ++ n ∷ []) same
 
-pub sessions_found : (s t : Script) (name made w : Word) (n : ℕ) (o o' : Option Meaning) → t.sessions ≡ s.sessions ++ made ∷ [] → made ≡ name → t.probes ≡ s.probes → t.buffers ≡ s.buffers → t.pairs ≡ s.pairs → t.fences ≡ s.fences → n ≡ length s.sessions → IsFresh s name
+pub sessions_found : (s t : Script) (name made w : Word) (n : ℕ) (o o' : Option Meaning) → t.sessions ≡ s.sessions ++ made ∷ [] → made ≡ name
+    → t.probes ≡ s.probes → t.buffers ≡ s.buffers → t.pairs ≡ s.pairs → t.fences ≡ s.fences → n ≡ length s.sessions → IsFresh s name
     → o' ≡ cond (bytes_eq w name) (Some (Session n)) o → Means o s w → Means o' t w
 sessions_found s t name made w n o o' is same same_probes same_buffers same_pairs same_fences count fresh meaning m =
     means_at (with_session s name) t o' w (more s.sessions t.sessions name made is same) same_probes same_buffers same_pairs same_fences
     (finds_sessions s name w o o' fresh (numbered (λ k. Session k) (bytes_eq w name) n (length s.sessions) o o' count meaning) m)
 
-pub probes_found : (s t : Script) (name made w : Word) (n : ℕ) (o o' : Option Meaning) → t.probes ≡ s.probes ++ made ∷ [] → made ≡ name → t.sessions ≡ s.sessions → t.buffers ≡ s.buffers → t.pairs ≡ s.pairs → t.fences ≡ s.fences → n ≡ length s.probes → IsFresh s name
+pub probes_found : (s t : Script) (name made w : Word) (n : ℕ) (o o' : Option Meaning) → t.probes ≡ s.probes ++ made ∷ [] → made ≡ name
+    → t.sessions ≡ s.sessions → t.buffers ≡ s.buffers → t.pairs ≡ s.pairs → t.fences ≡ s.fences → n ≡ length s.probes → IsFresh s name
     → o' ≡ cond (bytes_eq w name) (Some (Probe n)) o → Means o s w → Means o' t w
 probes_found s t name made w n o o' is same same_sessions same_buffers same_pairs same_fences count fresh meaning m =
     means_at (with_probe s name) t o' w same_sessions (more s.probes t.probes name made is same) same_buffers same_pairs same_fences
     (finds_probes s name w o o' fresh (numbered (λ k. Probe k) (bytes_eq w name) n (length s.probes) o o' count meaning) m)
 
-pub buffers_found : (s t : Script) (name made w : Word) (d : BufferDecl) (n : ℕ) (o o' : Option Meaning) → t.buffers ≡ s.buffers ++ made ∷ [] → made ≡ name → t.sessions ≡ s.sessions → t.probes ≡ s.probes → t.pairs ≡ s.pairs → t.fences ≡ s.fences → n ≡ length s.buffers → IsFresh s name
+pub buffers_found : (s t : Script) (name made w : Word) (d : BufferDecl) (n : ℕ) (o o' : Option Meaning) → t.buffers ≡ s.buffers ++ made ∷ [] → made ≡ name
+    → t.sessions ≡ s.sessions → t.probes ≡ s.probes → t.pairs ≡ s.pairs → t.fences ≡ s.fences → n ≡ length s.buffers → IsFresh s name
     → o' ≡ cond (bytes_eq w name) (Some (Buffers n)) o → Means o s w → Means o' t w
 buffers_found s t name made w d n o o' is same same_sessions same_probes same_pairs same_fences count fresh meaning m =
     means_at (with_buffers s name d) t o' w same_sessions same_probes (more s.buffers t.buffers name made is same) same_pairs same_fences
     (finds_buffers s name w d o o' fresh (numbered (λ k. Buffers k) (bytes_eq w name) n (length s.buffers) o o' count meaning) m)
 
-pub pairs_found : (s t : Script) (name made w : Word) (d : PairDecl) (n : ℕ) (o o' : Option Meaning) → t.pairs ≡ s.pairs ++ made ∷ [] → made ≡ name → t.sessions ≡ s.sessions → t.probes ≡ s.probes → t.buffers ≡ s.buffers → t.fences ≡ s.fences → n ≡ length s.pairs → IsFresh s name
+pub pairs_found : (s t : Script) (name made w : Word) (d : PairDecl) (n : ℕ) (o o' : Option Meaning) → t.pairs ≡ s.pairs ++ made ∷ [] → made ≡ name
+    → t.sessions ≡ s.sessions → t.probes ≡ s.probes → t.buffers ≡ s.buffers → t.fences ≡ s.fences → n ≡ length s.pairs → IsFresh s name
     → o' ≡ cond (bytes_eq w name) (Some (Pair n)) o → Means o s w → Means o' t w
 pairs_found s t name made w d n o o' is same same_sessions same_probes same_buffers same_fences count fresh meaning m =
     means_at (with_pair s name d) t o' w same_sessions same_probes same_buffers (more s.pairs t.pairs name made is same) same_fences
     (finds_pairs s name w d o o' fresh (numbered (λ k. Pair k) (bytes_eq w name) n (length s.pairs) o o' count meaning) m)
 
-pub fences_found : (s t : Script) (name made w : Word) (d : FenceDecl) (n : ℕ) (o o' : Option Meaning) → t.fences ≡ s.fences ++ made ∷ [] → made ≡ name → t.sessions ≡ s.sessions → t.probes ≡ s.probes → t.buffers ≡ s.buffers → t.pairs ≡ s.pairs → n ≡ length s.fences → IsFresh s name
+pub fences_found : (s t : Script) (name made w : Word) (d : FenceDecl) (n : ℕ) (o o' : Option Meaning) → t.fences ≡ s.fences ++ made ∷ [] → made ≡ name
+    → t.sessions ≡ s.sessions → t.probes ≡ s.probes → t.buffers ≡ s.buffers → t.pairs ≡ s.pairs → n ≡ length s.fences → IsFresh s name
     → o' ≡ cond (bytes_eq w name) (Some (Fence n)) o → Means o s w → Means o' t w
 fences_found s t name made w d n o o' is same same_sessions same_probes same_buffers same_pairs count fresh meaning m =
     means_at (with_fence s name d) t o' w same_sessions same_probes same_buffers same_pairs (more s.fences t.fences name made is same)

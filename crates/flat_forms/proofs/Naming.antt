@@ -22,7 +22,8 @@ named-of-length : (w : Word) (names : List CallName) → named_of w (filter (is_
 named-of-length w [] = refl
 named-of-length w (name ∷ names) = by_tests (is_of_length (length w) name) refl (bytes_eq w (text name)) refl (named-of-length w names)
   where
-    by_tests : (b : Bool) → is_of_length (length w) name ≡ b → (c : Bool) → bytes_eq w (text name) ≡ c → named_of w (filter (is_of_length (length w)) names) ≡ named_of w names
+    by_tests : (b : Bool) → is_of_length (length w) name ≡ b → (c : Bool) → bytes_eq w (text name) ≡ c
+        → named_of w (filter (is_of_length (length w)) names) ≡ named_of w names
         → named_of w (cond b (name ∷ filter (is_of_length (length w)) names) (filter (is_of_length (length w)) names)) ≡ cond c (Some name) (named_of w names)
     by_tests true long c is rest = ap (λ d. cond d (Some name) (named_of w (filter (is_of_length (length w)) names))) is ∙ ap (cond c (Some name)) rest
     by_tests false long true is rest = absurd (let wrong : true ≡ false = sym (same_length w name is) ∙ long in cc)

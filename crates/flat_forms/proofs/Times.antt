@@ -1,5 +1,6 @@
 -- A time that isn't before another one, case by case.
-use Rattle.std.proofs.Common.{◌≡◌, ℕ, ◌<◌, ◌≤◌, ◌+◌, true, false, Option, Some, None, Ok, Err, ◌∙◌, ap, arith, nat_le, nat_lt, refl, Bool, if◌then◌else◌, option_and_then}
+use Rattle.std.proofs.Common.{◌≡◌, ℕ, ◌<◌, ◌≤◌, ◌+◌, true, false, Option, Some, None, Ok, Err, ◌∙◌, ap, arith, nat_le, nat_lt, refl, Bool, if◌then◌else◌}
+use Rattle.std.proofs.Common.{option_and_then}
 use Rattle.std.proofs.lemmas.Bool.Decides.{nat_tests}
 use Rattle.flat_base.specs.declared.limits.TheConstants.{TIME_MAX}
 use Rattle.flat_places.specs.declared.kinds.FaultKind.TheVariants.{BadNumber, BadOrder}
@@ -8,7 +9,8 @@ use Rattle.flat_forms.specs.Body.{in_order}
 
 -- the time of the number, where one was read
 abbrev timed : ℕ → Option ℕ → Reading ℕ
-timed least number = in_order least (both (λ v _. v) (or_kind BadNumber (option_and_then (λ n. if nat_lt n (TIME_MAX + 1) then Some n else None) number)) (Ok (tt {0})))
+timed least number = in_order least (both (λ v _. v) (or_kind BadNumber (option_and_then (λ n. if nat_lt n (TIME_MAX + 1) then Some n else None) number))
+    (Ok (tt {0})))
 
 -- the same, where its tests are known
 abbrev tested : ℕ → ℕ → Bool → Reading ℕ

@@ -12,7 +12,8 @@ abbrev pub ends_list : Bool → Word → Bool
 ends_list follows w = follows && bytes_eq w (codes "release")
 
 -- a list was read: the words up to its end were taken, those from there on are left
-pub record ReadsList (reading : List Word → Reading (List FenceNo)) (follows : Bool) (old new : Places) (found : List FenceNo) : Type 0 where
+pub record ReadsList (reading : List Word → Reading (List FenceNo)) (follows : Bool) (old new : Places)
+    (found : List FenceNo) : Type 0 where
   pub read : lower (sofar old) (reading (before_first (ends_list follows) (left old))) ≡ giving found (sofar new)
   pub stops : before_first (ends_list follows) (left new) ≡ []
   pub more : list_any (ends_list follows) (left new) ≡ list_any (ends_list follows) (left old)
@@ -20,4 +21,8 @@ pub record ReadsList (reading : List Word → Reading (List FenceNo)) (follows :
 
 -- a list behind the end of another, if one stands there, to the end of the line
 abbrev pub behind_end : (List Word → Reading (List FenceNo)) → List Word → Reading (List FenceNo) × List Word
-behind_end reading words = (if list_any (ends_list true) words then reading (after_first (ends_list true) words) else Ok [], [])
+behind_end reading words = (
+  if list_any (ends_list true) words then reading (after_first (ends_list true) words) else
+      Ok [],
+  [],
+)

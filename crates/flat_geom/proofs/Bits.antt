@@ -8,7 +8,8 @@ use Rattle.flat_base.specs.Fixed.{fixed_product}
 pub moved_fits : (scale number offset : ℤ) → FitsSigned w64 scale → FitsSigned w64 number → FitsSigned w64 offset
     → FitsSigned w128 (fixed_product scale number +ℤ offset)
 moved_fits scale number offset f g h =
-    let product : FitsSigned w128 (scale *ℤ number) = fits_signed_mul w128 scale number (2 ^ 63) (2 ^ 63) (omega (arith, ints)) (omega (arith, ints)) (lit< tt) in
+    let product : FitsSigned w128 (scale *ℤ number) = fits_signed_mul w128 scale number (2 ^ 63) (2 ^ 63) (omega (arith, ints)) (omega (arith, ints))
+    (lit< tt) in
     omega (arith, ints)
 
 -- a number of 32 bits times 65,536 fits 64 bits
@@ -17,7 +18,8 @@ bound_read_back n f = omega (arith, ints)
 
 -- and so does the sum of two
 pub sum_read_back : (n m : ℤ) → FitsSigned w32 n → FitsSigned w32 m
-    → to_z w64 (of_z w64 (to_z w64 (of_z w64 (to_z w64 (of_z w64 (to_z w32 (of_z w32 n))) +ℤ to_z w64 (of_z w64 (to_z w32 (of_z w32 m))))) *ℤ pos 65536)) ≡ (n +ℤ m) *ℤ pos 65536
+    → to_z w64 (of_z w64 (to_z w64 (of_z w64 (to_z w64 (of_z w64 (to_z w32 (of_z w32 n))) +ℤ to_z w64 (of_z w64 (to_z w32 (of_z w32 m))))) *ℤ pos 65536))
+    ≡ (n +ℤ m) *ℤ pos 65536
 sum_read_back n m f g = omega (arith, ints)
 
 -- a number of 32 bits, in 128 bits, is that number

@@ -32,8 +32,10 @@ use Rattle.flat_gets.proofs.WatchedPairs.{formers-same, formers-settled, quiet-s
 -- ---- of other histories
 
 -- what is kept of a pair stands for other histories in which its watchers are the same
-pub at-moved : (setup : Setup) (a b a' b' : List Entry) (p : PairNo) (x : PairWatchers) → watching setup (layout_of p) a ≡ watching setup (layout_of p) a' → watching setup (status_of p) a ≡ watching setup (status_of p) a'
-    → ((j : ℕ) → watching setup (child_of p j) b ≡ watching setup (child_of p j) b') → length (viewport_uses p b) ≡ length (viewport_uses p b') → AreAt setup a b p x → AreAt setup a' b' p x
+pub at-moved : (setup : Setup) (a b a' b' : List Entry) (p : PairNo) (x : PairWatchers) → watching setup (layout_of p) a ≡ watching setup (layout_of p) a'
+    → watching setup (status_of p) a ≡ watching setup (status_of p) a'
+    → ((j : ℕ) → watching setup (child_of p j) b ≡ watching setup (child_of p j) b') → length (viewport_uses p b) ≡ length (viewport_uses p b')
+    → AreAt setup a b p x → AreAt setup a' b' p x
 at-moved setup a b a' b' p x layout status child uses is = record {
   layout = is.layout ∙ layout;
   status = is.status ∙ status;
@@ -55,7 +57,8 @@ reached-none (Some (Session s)) k h = by_test (nat_lt 0 s.0) (nat_le s.0 0) refl
     by_test false c some few = refl
 
 -- the last use is as it was, whoever was told
-pub reached-uses : (setup : Setup) (n : ℕ) (o : Option Actor) (k h : List Entry) (p : PairNo) → length (viewport_uses p k) ≡ length (viewport_uses p h) → length (viewport_uses p (reached n o k h)) ≡ length (viewport_uses p h)
+pub reached-uses : (setup : Setup) (n : ℕ) (o : Option Actor) (k h : List Entry) (p : PairNo) → length (viewport_uses p k) ≡ length (viewport_uses p h)
+    → length (viewport_uses p (reached n o k h)) ≡ length (viewport_uses p h)
 reached-uses setup n None k h p same = refl
 reached-uses setup n (Some Display) k h p same = refl
 reached-uses setup n (Some (Probe m)) k h p same = refl
@@ -96,45 +99,59 @@ module _ (setup : Setup) (h : List Entry) (line : ℕ) (legal : Legal setup (fin
 
       by_declared : (b : Bool) → (nat_lt 0 s.0 && nat_le s.0 setup.sessions) ≡ b → watching setup w (cond b k h) ≡ watching setup w k
       by_declared true within = refl
-      by_declared false out = sym (unheld-stays setup w h (finish_entry line) (undeclared-waits setup h legal.0 s out w (ap (λ (x : Option Actor). unwrap_or (option_map (is_session s) x) false) is ∙ itself)) (idle w))
+      by_declared false out = sym (unheld-stays setup w h (finish_entry line)
+          (undeclared-waits setup h legal.0 s out w (ap (λ (x : Option Actor). unwrap_or (option_map (is_session s) x) false) is ∙ itself)) (idle w))
 
-  pub at-last : (p : PairNo) (x : PairWatchers) → AreAt setup (reached setup.sessions (listener setup (layout_of p)) k h) (reached setup.sessions (viewport_owner setup p) k h) p x → AreAt setup k k p x
+  pub at-last : (p : PairNo) (x : PairWatchers) → AreAt setup (reached setup.sessions (listener setup (layout_of p)) k h)
+      (reached setup.sessions (viewport_owner setup p) k h) p x → AreAt setup k k p x
   at-last p x is =
-      at-moved setup (reached setup.sessions (listener setup (layout_of p)) k h) (reached setup.sessions (viewport_owner setup p) k h) k k p x (reach-last (layout_of p) (listener setup (layout_of p)) refl) (reach-last (status_of p) (listener setup (status_of p)) refl)
-      (λ j. reach-last (child_of p j) (listener setup (child_of p j)) refl) (reached-uses setup setup.sessions (viewport_owner setup p) k h p (same-uses p) ∙ sym (same-uses p)) is
+      at-moved setup (reached setup.sessions (listener setup (layout_of p)) k h) (reached setup.sessions (viewport_owner setup p) k h) k k p x
+      (reach-last (layout_of p) (listener setup (layout_of p)) refl) (reach-last (status_of p) (listener setup (status_of p)) refl)
+      (λ j. reach-last (child_of p j) (listener setup (child_of p j)) refl)
+      (reached-uses setup setup.sessions (viewport_owner setup p) k h p (same-uses p) ∙ sym (same-uses p)) is
 
   -- ---- the next one
 
   module _ (n : ℕ) (s : SessionNo) (next : s.0 ≡ n + 1) where
     -- it is closed
-    pass-one : is_closed s h ≡ true → (w : Watcher) → watching setup w (reached n (listener setup w) k h) ≡ watching setup w (reached (n + 1) (listener setup w) k h)
+    pass-one : is_closed s h ≡ true → (w : Watcher) → watching setup w (reached n (listener setup w) k h)
+        ≡ watching setup w (reached (n + 1) (listener setup w) k h)
     pass-one closed w = by_heard (hears setup s w) refl
       where
-        by_heard : (b : Bool) → hears setup s w ≡ b → watching setup w (reached n (listener setup w) k h) ≡ watching setup w (reached (n + 1) (listener setup w) k h)
+        by_heard : (b : Bool) → hears setup s w ≡ b → watching setup w (reached n (listener setup w) k h)
+            ≡ watching setup w (reached (n + 1) (listener setup w) k h)
         by_heard true heard =
-            ap (watching setup w) (reach-before n s next k h (listener setup w) heard) ∙ sym (rests-shut setup h (finish_entry line) w (heard-shut (listener setup w) s k heard closed setup) (idle w))
+            ap (watching setup w) (reach-before n s next k h (listener setup w) heard)
+            ∙ sym (rests-shut setup h (finish_entry line) w (heard-shut (listener setup w) s k heard closed setup) (idle w))
             ∙ ap (watching setup w) (sym (reach-after n s next k h (listener setup w) heard))
         by_heard false other = ap (watching setup w) (reach-other n s next k h (listener setup w) other)
 
-    pub at-passed : is_closed s h ≡ true → (p : PairNo) (x : PairWatchers) → AreAt setup (reached n (listener setup (layout_of p)) k h) (reached n (viewport_owner setup p) k h) p x
+    pub at-passed : is_closed s h ≡ true → (p : PairNo) (x : PairWatchers)
+        → AreAt setup (reached n (listener setup (layout_of p)) k h) (reached n (viewport_owner setup p) k h) p x
         → AreAt setup (reached (n + 1) (listener setup (layout_of p)) k h) (reached (n + 1) (viewport_owner setup p) k h) p x
     at-passed closed p x is =
-        at-moved setup (reached n (listener setup (layout_of p)) k h) (reached n (viewport_owner setup p) k h) (reached (n + 1) (listener setup (layout_of p)) k h) (reached (n + 1) (viewport_owner setup p) k h) p x
+        at-moved setup (reached n (listener setup (layout_of p)) k h) (reached n (viewport_owner setup p) k h)
+        (reached (n + 1) (listener setup (layout_of p)) k h) (reached (n + 1) (viewport_owner setup p) k h) p x
         (pass-one closed (layout_of p)) (pass-one closed (status_of p)) (λ j. pass-one closed (child_of p j))
         (reached-uses setup n (viewport_owner setup p) k h p (same-uses p) ∙ sym (reached-uses setup (n + 1) (viewport_owner setup p) k h p (same-uses p))) is
 
     -- or is told nothing anew
-    keep-one : TellsTheSame setup h k s → (w : Watcher) → watching setup w (reached n (listener setup w) k h) ≡ watching setup w (reached (n + 1) (listener setup w) k h)
+    keep-one : TellsTheSame setup h k s → (w : Watcher) → watching setup w (reached n (listener setup w) k h)
+        ≡ watching setup w (reached (n + 1) (listener setup w) k h)
     keep-one same w = by_heard (hears setup s w) refl
       where
-        by_heard : (b : Bool) → hears setup s w ≡ b → watching setup w (reached n (listener setup w) k h) ≡ watching setup w (reached (n + 1) (listener setup w) k h)
-        by_heard true heard = ap (watching setup w) (reach-before n s next k h (listener setup w) heard) ∙ sym (rests-told s same w heard) ∙ ap (watching setup w) (sym (reach-after n s next k h (listener setup w) heard))
+        by_heard : (b : Bool) → hears setup s w ≡ b → watching setup w (reached n (listener setup w) k h)
+            ≡ watching setup w (reached (n + 1) (listener setup w) k h)
+        by_heard true heard = ap (watching setup w) (reach-before n s next k h (listener setup w) heard) ∙ sym (rests-told s same w heard)
+            ∙ ap (watching setup w) (sym (reach-after n s next k h (listener setup w) heard))
         by_heard false other = ap (watching setup w) (reach-other n s next k h (listener setup w) other)
 
-    pub at-kept : TellsTheSame setup h k s → (p : PairNo) (x : PairWatchers) → AreAt setup (reached n (listener setup (layout_of p)) k h) (reached n (viewport_owner setup p) k h) p x
+    pub at-kept : TellsTheSame setup h k s → (p : PairNo) (x : PairWatchers)
+        → AreAt setup (reached n (listener setup (layout_of p)) k h) (reached n (viewport_owner setup p) k h) p x
         → AreAt setup (reached (n + 1) (listener setup (layout_of p)) k h) (reached (n + 1) (viewport_owner setup p) k h) p x
     at-kept same p x is =
-        at-moved setup (reached n (listener setup (layout_of p)) k h) (reached n (viewport_owner setup p) k h) (reached (n + 1) (listener setup (layout_of p)) k h) (reached (n + 1) (viewport_owner setup p) k h) p x
+        at-moved setup (reached n (listener setup (layout_of p)) k h) (reached n (viewport_owner setup p) k h)
+        (reached (n + 1) (listener setup (layout_of p)) k h) (reached (n + 1) (viewport_owner setup p) k h) p x
         (keep-one same (layout_of p)) (keep-one same (status_of p)) (λ j. keep-one same (child_of p j))
         (reached-uses setup n (viewport_owner setup p) k h p (same-uses p) ∙ sym (reached-uses setup (n + 1) (viewport_owner setup p) k h p (same-uses p))) is
 
@@ -142,21 +159,28 @@ module _ (setup : Setup) (h : List Entry) (line : ℕ) (legal : Legal setup (fin
     module _ (opened : is_closed s h ≡ false) where
       pub settles : (w : Watcher) → hears setup s w ≡ true → watching setup w k ≡ settled true (told setup k w) (watching setup w h)
       settles w heard =
-          settled-now setup w h (finish_entry line) (idle w) ∙ ap (λ (b : Bool). settled b (told setup k w) (watching setup w h)) (hears-open setup s w k heard opened)
+          settled-now setup w h (finish_entry line) (idle w)
+          ∙ ap (λ (b : Bool). settled b (told setup k w) (watching setup w h)) (hears-open setup s w k heard opened)
 
-      pub tell-one : (w : Watcher) (b : Bool) (old new : Watching) → new ≡ settled b (told setup k w) old → old ≡ watching setup w (reached n (listener setup w) k h) → (hears setup s w ≡ true → b ≡ false → is_some old.waits ≡ false)
+      pub tell-one : (w : Watcher) (b : Bool) (old new : Watching) → new ≡ settled b (told setup k w) old
+          → old ≡ watching setup w (reached n (listener setup w) k h) → (hears setup s w ≡ true → b ≡ false → is_some old.waits ≡ false)
           → (hears setup s w ≡ false → b ≡ false) → new ≡ watching setup w (reached (n + 1) (listener setup w) k h)
       tell-one w b old new is was quiet foreign = by_heard (hears setup s w) refl
         where
           by_heard : (c : Bool) → hears setup s w ≡ c → new ≡ watching setup w (reached (n + 1) (listener setup w) k h)
           by_heard true heard =
-              is ∙ quiet-settled (told setup k w) old b (quiet heard) ∙ ap (settled true (told setup k w)) (was ∙ ap (watching setup w) (reach-before n s next k h (listener setup w) heard)) ∙ sym (settles w heard)
+              is ∙ quiet-settled (told setup k w) old b (quiet heard)
+              ∙ ap (settled true (told setup k w)) (was ∙ ap (watching setup w) (reach-before n s next k h (listener setup w) heard))
+              ∙ sym (settles w heard)
               ∙ ap (watching setup w) (sym (reach-after n s next k h (listener setup w) heard))
-          by_heard false other = is ∙ ap (λ (c : Bool). settled c (told setup k w) old) (foreign other) ∙ was ∙ ap (watching setup w) (reach-other n s next k h (listener setup w) other)
+          by_heard false other = is ∙ ap (λ (c : Bool). settled c (told setup k w) old) (foreign other) ∙ was
+              ∙ ap (watching setup w) (reach-other n s next k h (listener setup w) other)
 
       -- the gets of earlier uses of a pair's viewport end
-      pub tell-formers : (p : PairNo) (b : Bool) (m : ℕ) (old new : List FormerGet) → new ≡ cond b (still_waiting (told setup k (child_of p 0)) old) old → old ≡ former_gets (λ j. watching setup (child_of p j) (reached n (viewport_owner setup p) k h)) m
-          → (hears setup s (child_of p 0) ≡ true → b ≡ false → old ≡ []) → (hears setup s (child_of p 0) ≡ false → b ≡ false) → new ≡ former_gets (λ j. watching setup (child_of p j) (reached (n + 1) (viewport_owner setup p) k h)) m
+      pub tell-formers : (p : PairNo) (b : Bool) (m : ℕ) (old new : List FormerGet) → new ≡ cond b (still_waiting (told setup k (child_of p 0)) old) old
+          → old ≡ former_gets (λ j. watching setup (child_of p j) (reached n (viewport_owner setup p) k h)) m
+          → (hears setup s (child_of p 0) ≡ true → b ≡ false → old ≡ []) → (hears setup s (child_of p 0) ≡ false → b ≡ false)
+          → new ≡ former_gets (λ j. watching setup (child_of p j) (reached (n + 1) (viewport_owner setup p) k h)) m
       tell-formers p b m old new is was quiet foreign = by_heard (hears setup s (child_of p 0)) refl
         where
           now : Option Told
@@ -171,7 +195,9 @@ module _ (setup : Setup) (h : List Entry) (line : ℕ) (legal : Legal setup (fin
 
           by_heard : (c : Bool) → hears setup s (child_of p 0) ≡ c → new ≡ former_gets (λ j. watching setup (child_of p j) (reached (n + 1) o k h)) m
           by_heard true heard =
-              is ∙ both b refl heard ∙ ap (still_waiting now) (was ∙ ap (λ (l : List Entry). former_gets (λ j. watching setup (child_of p j) l) m) (reach-before n s next k h o heard))
+              is ∙ both b refl heard ∙ ap (still_waiting now) (was
+              ∙ ap (λ (l : List Entry). former_gets (λ j. watching setup (child_of p j) l) m) (reach-before n s next k h o heard))
               ∙ sym (formers-settled now (λ j. watching setup (child_of p j) h) (λ j. watching setup (child_of p j) k) m (λ j. settles (child_of p j) heard))
               ∙ ap (λ (l : List Entry). former_gets (λ j. watching setup (child_of p j) l) m) (sym (reach-after n s next k h o heard))
-          by_heard false other = is ∙ ap (λ (c : Bool). cond c (still_waiting now old) old) (foreign other) ∙ was ∙ ap (λ (l : List Entry). former_gets (λ j. watching setup (child_of p j) l) m) (reach-other n s next k h o other)
+          by_heard false other = is ∙ ap (λ (c : Bool). cond c (still_waiting now old) old) (foreign other) ∙ was
+              ∙ ap (λ (l : List Entry). former_gets (λ j. watching setup (child_of p j) l) m) (reach-other n s next k h o other)

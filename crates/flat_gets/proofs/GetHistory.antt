@@ -25,7 +25,8 @@ use Rattle.flat_gets.specs.Gets.{held_with, held_of, helds_of, hears, watchers_o
 use Rattle.flat_rules.specs.Legal.{owns_view, owns_viewport}
 use Rattle.flat_rules.specs.Local.{pair_watched}
 use Rattle.flat_rules.specs.Posts.{told_event, event_of, events_to, at_finish, at_begin, up_to}
-use Rattle.flat_rules.specs.Watch.{Watcher, layout_of, status_of, child_of, watching, told, asked, is_open, listener, watcher_of, watcher_in, watcher_of_made, is_watcher}
+use Rattle.flat_rules.specs.Watch.{Watcher, layout_of, status_of, child_of, watching, told, asked, is_open, listener, watcher_of, watcher_in, watcher_of_made}
+use Rattle.flat_rules.specs.Watch.{is_watcher}
 use Rattle.flat_rules.proofs.lemmas.AllOrSome.{all-append, all-every, all-flat, all-map, flat-nested}
 use Rattle.flat_rules.proofs.lemmas.SameWatchers.{nothing-settled}
 use Rattle.std.proofs.lemmas.Grind.{flat_map-append}
@@ -36,11 +37,13 @@ use Rattle.std.proofs.lemmas.List.Folds.{flat_map-map}
 
 -- ---- who hears
 
-pub owner-hears : (s : SessionNo) (o : Option SessionNo) → unwrap_or (option_map (λ t. t.0 == s.0) o) false ≡ true → unwrap_or (option_map (is_session s) (option_map Session o)) false ≡ true
+pub owner-hears : (s : SessionNo) (o : Option SessionNo) → unwrap_or (option_map (λ t. t.0 == s.0) o) false ≡ true
+    → unwrap_or (option_map (is_session s) (option_map Session o)) false ≡ true
 owner-hears s None owned = owned
 owner-hears s (Some t) owned = owned
 
-pub owner-heard : (s : SessionNo) (o : Option SessionNo) → unwrap_or (option_map (is_session s) (option_map Session o)) false ≡ true → unwrap_or (option_map (λ t. t.0 == s.0) o) false ≡ true
+pub owner-heard : (s : SessionNo) (o : Option SessionNo) → unwrap_or (option_map (is_session s) (option_map Session o)) false ≡ true
+    → unwrap_or (option_map (λ t. t.0 == s.0) o) false ≡ true
 owner-heard s None heard = heard
 owner-heard s (Some t) heard = heard
 
@@ -50,15 +53,19 @@ module _ (setup : Setup) where
   watchers-heard h s =
       let o : Watcher → Bool = hears setup s in
       let children : PairNo → List Watcher = λ p. map (child_of p) (up_to (length (viewport_uses p h))) in
-      let views : (p : PairNo) → owns_view setup s p ≡ true → unwrap_or (option_map (is_session s) (option_map Session (view_owner setup p))) false ≡ true = λ p owned. owner-hears s (view_owner setup p) owned in
+      let views : (p : PairNo) → owns_view setup s p ≡ true → unwrap_or (option_map (is_session s) (option_map Session (view_owner setup p))) false ≡ true =
+      λ p owned. owner-hears s (view_owner setup p) owned in
       all-append o (map layout_of (views_of setup s) ++ map status_of (views_of setup s)) _
-      (all-append o (map layout_of (views_of setup s)) _ (all-map o (owns_view setup s) layout_of views (views_of setup s) (views-owned setup s)) (all-map o (owns_view setup s) status_of views (views_of setup s) (views-owned setup s)))
-      (all-flat o (owns_viewport setup s) children (λ p owned. all-map o (λ n. true) (child_of p) (λ n any. owned) (up_to (length (viewport_uses p h))) (all-every (λ n. true) (λ n. refl) (up_to (length (viewport_uses p h))))) (viewports_of setup s) (viewports-owned setup s))
+      (all-append o (map layout_of (views_of setup s)) _ (all-map o (owns_view setup s) layout_of views (views_of setup s) (views-owned setup s))
+      (all-map o (owns_view setup s) status_of views (views_of setup s) (views-owned setup s)))
+      (all-flat o (owns_viewport setup s) children (λ p owned. all-map o (λ n. true) (child_of p) (λ n any. owned) (up_to (length (viewport_uses p h)))
+      (all-every (λ n. true) (λ n. refl) (up_to (length (viewport_uses p h))))) (viewports_of setup s) (viewports-owned setup s))
 
   pub hears-open : (s : SessionNo) (w : Watcher) (h : List Entry) → hears setup s w ≡ true → is_closed s h ≡ false → is_open setup (listener setup w) h ≡ true
   hears-open s w h heard opened = hears-viewport setup (listener setup w) s h heard opened
 
-shaped : (closed ends begins : Bool) (all finish begin : List Event) → closed ≡ false → begins ≡ false → cond closed [] (all ++ cond ends finish [] ++ cond begins begin []) ≡ (all ++ cond ends finish [])
+shaped : (closed ends begins : Bool) (all finish begin : List Event) → closed ≡ false → begins ≡ false
+    → cond closed [] (all ++ cond ends finish [] ++ cond begins begin []) ≡ (all ++ cond ends finish [])
 shaped true ends begins all finish begin opened no_begin = cc
 shaped false ends true all finish begin opened no_begin = cc
 shaped false ends false all finish begin opened no_begin = append-nil (all ++ cond ends finish [])
@@ -88,22 +95,29 @@ module _ (setup : Setup) where
       let views : List PairNo = views_of setup s in
       let uses : PairNo → List ℕ = λ p. up_to (length (viewport_uses p h)) in
       let children : List Watcher = flat_map (λ p. map (child_of p) (uses p)) (viewports_of setup s) in
-      let inner : (p : PairNo) → flat_map t (map (child_of p) (uses p)) ≡ flat_map (λ n. told_event setup p (child_of p n) h e) (uses p) = λ p. flat_map-map t (child_of p) (uses p) in
+      let inner : (p : PairNo) → flat_map t (map (child_of p) (uses p)) ≡ flat_map (λ n. told_event setup p (child_of p n) h e) (uses p) =
+      λ p. flat_map-map t (child_of p) (uses p) in
       let third : flat_map t children ≡ flat_map (λ p. flat_map (λ n. told_event setup p (child_of p n) h e) (uses p)) (viewports_of setup s) =
-      flat-nested t (λ p. map (child_of p) (uses p)) (viewports_of setup s) ∙ flat-each (λ p. flat_map t (map (child_of p) (uses p))) (λ p. flat_map (λ n. told_event setup p (child_of p n) h e) (uses p)) inner (viewports_of setup s) in
+      flat-nested t (λ p. map (child_of p) (uses p)) (viewports_of setup s)
+      ∙ flat-each (λ p. flat_map t (map (child_of p) (uses p))) (λ p. flat_map (λ n. told_event setup p (child_of p n) h e) (uses p)) inner
+      (viewports_of setup s) in
       let whole : flat_map t (watchers_of setup h s)
       ≡ (flat_map (λ p. told_event setup p (layout_of p) h e) views ++ flat_map (λ p. told_event setup p (status_of p) h e) views
       ++ flat_map (λ p. flat_map (λ n. told_event setup p (child_of p n) h e) (uses p)) (viewports_of setup s)) =
-      flat_map-append t (map layout_of views ++ map status_of views) children ∙ ap (λ (l : List Event). l ++ flat_map t children) (flat_map-append t (map layout_of views) (map status_of views))
+      flat_map-append t (map layout_of views ++ map status_of views) children
+      ∙ ap (λ (l : List Event). l ++ flat_map t children) (flat_map-append t (map layout_of views) (map status_of views))
       ∙ three-same (flat_map-map t layout_of views) (flat_map-map t status_of views) third in
-      sym whole ∙ flat-each t f (λ w. event-after w h e) (watchers_of setup h s) ∙ sym (flat-nested (λ one. event_of (pair_watched one.watcher) (Some one.get) (news_of now one)) (held_of setup h) (watchers_of setup h s))
+      sym whole ∙ flat-each t f (λ w. event-after w h e) (watchers_of setup h s)
+      ∙ sym (flat-nested (λ one. event_of (pair_watched one.watcher) (Some one.get) (news_of now one)) (held_of setup h) (watchers_of setup h s))
     where
       three-same : {a a' b b' c c' : List Event} → a ≡ a' → b ≡ b' → c ≡ c' → (a ++ b ++ c) ≡ (a' ++ b' ++ c')
       three-same pa pb pc = cc
 
   -- what an entry of no frame posts to a session that is open
-  pub events-told : (s : SessionNo) (h : List Entry) (e : Entry) → is_finish e.kind ≡ false → is_begin e.kind ≡ false → is_closed s (h ▹ e) ≡ false → events_to setup h e s ≡ answers_to (told setup (h ▹ e)) (helds_of setup h s)
-  events-told s h e no_finish no_begin opened = shaped (is_closed s (h ▹ e)) (is_finish e.kind) (is_begin e.kind) _ (at_finish setup h s) (at_begin setup h e s) opened no_begin ∙ if-finish (is_finish e.kind) no_finish
+  pub events-told : (s : SessionNo) (h : List Entry) (e : Entry) → is_finish e.kind ≡ false → is_begin e.kind ≡ false → is_closed s (h ▹ e) ≡ false
+      → events_to setup h e s ≡ answers_to (told setup (h ▹ e)) (helds_of setup h s)
+  events-told s h e no_finish no_begin opened = shaped (is_closed s (h ▹ e)) (is_finish e.kind) (is_begin e.kind) _ (at_finish setup h s) (at_begin setup h e s)
+      opened no_begin ∙ if-finish (is_finish e.kind) no_finish
     where
       all : List Event
       all =
@@ -115,8 +129,10 @@ module _ (setup : Setup) where
       if-finish false is = append-nil all ∙ told-part s h e
 
   -- and the end of a frame
-  pub events-finished : (s : SessionNo) (h : List Entry) (e : Entry) → is_finish e.kind ≡ true → is_begin e.kind ≡ false → is_closed s (h ▹ e) ≡ false → events_to setup h e s ≡ answers_to (told setup (h ▹ e)) (helds_of setup h s) ++ at_finish setup h s
-  events-finished s h e ends no_begin opened = shaped (is_closed s (h ▹ e)) (is_finish e.kind) (is_begin e.kind) _ (at_finish setup h s) (at_begin setup h e s) opened no_begin ∙ if-finish (is_finish e.kind) ends
+  pub events-finished : (s : SessionNo) (h : List Entry) (e : Entry) → is_finish e.kind ≡ true → is_begin e.kind ≡ false → is_closed s (h ▹ e) ≡ false
+      → events_to setup h e s ≡ answers_to (told setup (h ▹ e)) (helds_of setup h s) ++ at_finish setup h s
+  events-finished s h e ends no_begin opened = shaped (is_closed s (h ▹ e)) (is_finish e.kind) (is_begin e.kind) _ (at_finish setup h s) (at_begin setup h e s)
+      opened no_begin ∙ if-finish (is_finish e.kind) ends
     where
       all : List Event
       all =
@@ -130,7 +146,9 @@ module _ (setup : Setup) where
   -- ---- uses to come
 
   -- the child of a use to come was never asked
-  same-use : (p : PairNo) (m : ℕ) (h : List Entry) (w : Option Watcher) → length (viewport_uses p h) < m → (w ≡ None) ⊎ ((q : PairNo) × (w ≡ Some (child_of q (length (viewport_uses q h))))) ⊎ ((q : PairNo) × ((w ≡ Some (layout_of q)) ⊎ (w ≡ Some (status_of q)))) → is_watcher setup (child_of p m) w ≡ false
+  same-use : (p : PairNo) (m : ℕ) (h : List Entry) (w : Option Watcher) → length (viewport_uses p h) < m
+      → (w ≡ None) ⊎ ((q : PairNo) × (w ≡ Some (child_of q (length (viewport_uses q h)))))
+      ⊎ ((q : PairNo) × ((w ≡ Some (layout_of q)) ⊎ (w ≡ Some (status_of q)))) → is_watcher setup (child_of p m) w ≡ false
   same-use p m h w past (inl none) = rw none refl
   same-use p m h w past (inr (inl (q, is))) = rw is (by_pair (p.0 == q.0) refl)
     where
@@ -145,16 +163,19 @@ module _ (setup : Setup) where
   same-use p m h w past (inr (inr (q, inr is))) = rw is refl
 
 -- what a get watches: a view's, or the child of the last use
-means-in : (setup : Setup) (h : List Entry) (d : Draft) (get : Watch) → (watcher_in setup h d get ≡ None) ⊎ ((q : PairNo) × (watcher_in setup h d get ≡ Some (child_of q (length (viewport_uses q h)))))
+means-in : (setup : Setup) (h : List Entry) (d : Draft) (get : Watch)
+    → (watcher_in setup h d get ≡ None) ⊎ ((q : PairNo) × (watcher_in setup h d get ≡ Some (child_of q (length (viewport_uses q h)))))
     ⊎ ((q : PairNo) × ((watcher_in setup h d get ≡ Some (layout_of q)) ⊎ (watcher_in setup h d get ≡ Some (status_of q))))
 means-in setup h d watch.Layout = by_view d.view
   where
-    by_view : (o : Option PairNo) → (option_map layout_of o ≡ None) ⊎ ((q : PairNo) × (option_map layout_of o ≡ Some (child_of q (length (viewport_uses q h))))) ⊎ ((q : PairNo) × ((option_map layout_of o ≡ Some (layout_of q)) ⊎ (option_map layout_of o ≡ Some (status_of q))))
+    by_view : (o : Option PairNo) → (option_map layout_of o ≡ None) ⊎ ((q : PairNo) × (option_map layout_of o ≡ Some (child_of q (length (viewport_uses q h)))))
+        ⊎ ((q : PairNo) × ((option_map layout_of o ≡ Some (layout_of q)) ⊎ (option_map layout_of o ≡ Some (status_of q))))
     by_view None = inl refl
     by_view (Some q) = inr (inr (q, inl refl))
 means-in setup h d watch.Status = by_view d.view
   where
-    by_view : (o : Option PairNo) → (option_map status_of o ≡ None) ⊎ ((q : PairNo) × (option_map status_of o ≡ Some (child_of q (length (viewport_uses q h))))) ⊎ ((q : PairNo) × ((option_map status_of o ≡ Some (layout_of q)) ⊎ (option_map status_of o ≡ Some (status_of q))))
+    by_view : (o : Option PairNo) → (option_map status_of o ≡ None) ⊎ ((q : PairNo) × (option_map status_of o ≡ Some (child_of q (length (viewport_uses q h)))))
+        ⊎ ((q : PairNo) × ((option_map status_of o ≡ Some (layout_of q)) ⊎ (option_map status_of o ≡ Some (status_of q))))
     by_view None = inl refl
     by_view (Some q) = inr (inr (q, inr refl))
 means-in setup h d (watch.Child c) = by_made (made_of d c)
@@ -162,14 +183,16 @@ means-in setup h d (watch.Child c) = by_made (made_of d c)
     W : Option Made → Option Watcher
     W m = option_and_then (watcher_of_made setup h) m
 
-    by_made : (m : Option Made) → (W m ≡ None) ⊎ ((q : PairNo) × (W m ≡ Some (child_of q (length (viewport_uses q h))))) ⊎ ((q : PairNo) × ((W m ≡ Some (layout_of q)) ⊎ (W m ≡ Some (status_of q))))
+    by_made : (m : Option Made) → (W m ≡ None) ⊎ ((q : PairNo) × (W m ≡ Some (child_of q (length (viewport_uses q h)))))
+        ⊎ ((q : PairNo) × ((W m ≡ Some (layout_of q)) ⊎ (W m ≡ Some (status_of q))))
     by_made None = inl refl
     by_made (Some (an_image i)) = inl refl
     by_made (Some (a_fill x)) = inl refl
     by_made (Some (a_viewport q props)) = inr (inl (q, refl))
 
 module _ (setup : Setup) (p : PairNo) (m : ℕ) where
-  means-other : (h : List Entry) (who : Actor) (carries : List Call) (get : Watch) → length (viewport_uses p h) < m → is_watcher setup (child_of p m) (watcher_of setup h who carries get) ≡ false
+  means-other : (h : List Entry) (who : Actor) (carries : List Call) (get : Watch) → length (viewport_uses p h) < m
+      → is_watcher setup (child_of p m) (watcher_of setup h who carries get) ≡ false
   means-other h Display carries get past = refl
   means-other h (Probe n) carries get past = refl
   means-other h (Session s) carries get past = by_draft (result_ok (draft_of setup (calls s h ++ carries)))
@@ -183,10 +206,12 @@ module _ (setup : Setup) (p : PairNo) (m : ℕ) where
   fewer-uses false e xs past = past
 
   -- the next entry doesn't ask it either
-  pub next-fresh : (h : List Entry) (e : Entry) → length (viewport_uses p h) < m → watching setup (child_of p m) h ≡ record { last = None; waits = None } → watching setup (child_of p m) (h ▹ e) ≡ record { last = None; waits = None }
+  pub next-fresh : (h : List Entry) (e : Entry) → length (viewport_uses p h) < m → watching setup (child_of p m) h ≡ record { last = None; waits = None }
+      → watching setup (child_of p m) (h ▹ e) ≡ record { last = None; waits = None }
   next-fresh h e past old =
       let none : asked setup (child_of p m) h e ≡ None = unasked setup (child_of p m) h e (λ get is. means-other h e.actor e.calls get past) in
-      settled-now setup (child_of p m) h e none ∙ ap (λ (v : Watching). settled (is_open setup (viewport_owner setup p) (h ▹ e)) (told setup (h ▹ e) (child_of p m)) v) old
+      settled-now setup (child_of p m) h e none ∙ ap (λ (v : Watching). settled (is_open setup (viewport_owner setup p) (h ▹ e))
+      (told setup (h ▹ e) (child_of p m)) v) old
       ∙ nothing-settled (is_open setup (viewport_owner setup p) (h ▹ e)) (told setup (h ▹ e) (child_of p m))
 
   pub fresh-use : (h : List Entry) → length (viewport_uses p h) < m → watching setup (child_of p m) h ≡ record { last = None; waits = None }

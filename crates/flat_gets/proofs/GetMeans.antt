@@ -28,7 +28,8 @@ view-some : (s : SessionNo) (o : Option PairDecl) → unwrap_or (option_map (λ 
 view-some s None owned = cc
 view-some s (Some pair) owned = refl
 
-viewport-some : (s : SessionNo) (o : Option PairDecl) → unwrap_or (option_map (is_session s) (option_map (λ pair. pair.viewport) o)) false ≡ true → is_some o ≡ true
+viewport-some : (s : SessionNo) (o : Option PairDecl) → unwrap_or (option_map (is_session s) (option_map (λ pair. pair.viewport) o)) false ≡ true
+    → is_some o ≡ true
 viewport-some s None owned = cc
 viewport-some s (Some pair) owned = refl
 
@@ -40,7 +41,8 @@ pub viewport-within : (setup : Setup) (s : SessionNo) (p : PairNo) → owns_view
 viewport-within setup s p owned = some-within setup p.0 (slice_get setup.pairs p.0) refl (viewport-some s (slice_get setup.pairs p.0) owned)
 
 -- so is the pair of a get
-pub get-within : (setup : Setup) (h : List Entry) → Legal setup h → (s : SessionNo) (carries : List Call) (get : Watch) → MayEnter setup h (Session s) carries (Get get) → (w : Watcher) → watcher_of setup h (Session s) carries get ≡ Some w
+pub get-within : (setup : Setup) (h : List Entry) → Legal setup h → (s : SessionNo) (carries : List Call) (get : Watch)
+    → MayEnter setup h (Session s) carries (Get get) → (w : Watcher) → watcher_of setup h (Session s) carries get ≡ Some w
     → (pair_watched w).0 < length setup.pairs
 get-within setup h legal s carries get may w means =
     let e : Entry = entry_of (Session s) 0 carries (Get get) (reply_to setup h (Session s) carries (Get get)) in

@@ -38,15 +38,18 @@ use Rattle.flat_rules.proofs.lemmas.WatchLocal.{one-viewport}
 
 -- ---- a viewport of a draft was used
 
-some-serial : (p : PairNo) (next : ℕ) (ms : List Made) (n : ℕ) (props : _) → of_serial ms n ≡ Some (a_viewport p props) → 0 < length (serials_in p next (map pair_made ms))
+some-serial : (p : PairNo) (next : ℕ) (ms : List Made) (n : ℕ) (props : _) → of_serial ms n ≡ Some (a_viewport p props)
+    → 0 < length (serials_in p next (map pair_made ms))
 some-serial p next [] n props at = cc
 some-serial p next (m ∷ ms) n props at = by_serial (some-serial p (next + 1) ms (n - 1) props) (n == 1) at
   where
-    by_pair : (b : Bool) → 0 < length (serials_in p (next + 1) (map pair_made ms)) → 0 < length (cond b (next ∷ serials_in p (next + 1) (map pair_made ms)) (serials_in p (next + 1) (map pair_made ms)))
+    by_pair : (b : Bool) → 0 < length (serials_in p (next + 1) (map pair_made ms))
+        → 0 < length (cond b (next ∷ serials_in p (next + 1) (map pair_made ms)) (serials_in p (next + 1) (map pair_made ms)))
     by_pair true some = omega arith
     by_pair false some = some
 
-    by_serial : (of_serial ms (n - 1) ≡ Some (a_viewport p props) → 0 < length (serials_in p (next + 1) (map pair_made ms))) → (b : Bool) → cond b (Some m) (of_serial ms (n - 1)) ≡ Some (a_viewport p props)
+    by_serial : (of_serial ms (n - 1) ≡ Some (a_viewport p props) → 0 < length (serials_in p (next + 1) (map pair_made ms))) → (b : Bool)
+        → cond b (Some m) (of_serial ms (n - 1)) ≡ Some (a_viewport p props)
         → 0 < length (serials_in p next (map pair_made (m ∷ ms)))
     by_serial later true is =
         let itself : m ≡ a_viewport p props = cc in
@@ -68,7 +71,8 @@ meant-heard setup h t w (of_layout q owned) = owner-hears t (view_owner setup q)
 meant-heard setup h t w (of_status q owned) = owner-hears t (view_owner setup q) owned
 meant-heard setup h t w (of_child q owned some) = owned
 
-module _ (setup : Setup) (h : List Entry) (e : Entry) (legal : Legal setup (h ▹ e)) (t : SessionNo) (is : e.actor ≡ Session t) (get : Watch) (asks : e.kind ≡ Get get) where
+module _ (setup : Setup) (h : List Entry) (e : Entry) (legal : Legal setup (h ▹ e)) (t : SessionNo) (is : e.actor ≡ Session t) (get : Watch)
+    (asks : e.kind ≡ Get get) where
   may : MayEnter setup h (Session t) e.calls (Get get)
   may =
       let K : Kind → Type 0 = λ kind. MayEnter setup h e.actor e.calls kind in
@@ -85,21 +89,33 @@ module _ (setup : Setup) (h : List Entry) (e : Entry) (legal : Legal setup (h �
   owned-draft : (d : Draft) → draft_of setup (calls t h ++ e.calls) ≡ Ok d → IsOwned setup t d
   owned-draft d good = draft-owned setup t (calls t h ++ e.calls) (all-calls-owned setup h e legal t mine) d good
 
-  used-viewport : (d : Draft) → draft_of setup (calls t h ++ e.calls) ≡ Ok d → (q : PairNo) → owns_viewport setup t q ≡ true → (n : ℕ) (props : _) → of_serial d.contents n ≡ Some (a_viewport q props) → 0 < length (viewport_uses q h)
+  used-viewport : (d : Draft) → draft_of setup (calls t h ++ e.calls) ≡ Ok d → (q : PairNo) → owns_viewport setup t q ≡ true → (n : ℕ) (props : _)
+      → of_serial d.contents n ≡ Some (a_viewport q props) → 0 < length (viewport_uses q h)
   used-viewport d good q owned n props at =
       let no_link : list_any is_link e.calls ≡ false = not-true (list_any is_link e.calls) may.links in
       let some : 0 < length (serials_in q 1 (map pair_made d.contents)) = some-serial q 1 d.contents n props at in
-      let same : length (serials_in q 1 (map pair_made d.contents)) ≡ length (serials_in q 1 (contents_made (calls t h ++ e.calls))) = ap (λ l. length (serials_in q 1 l)) (draft-contents setup (calls t h ++ e.calls) d good) in
-      omega (arith, some, same, serials-count q 1 (calls t h ++ e.calls), made-append q (calls t h) e.calls, none-made q e.calls no_link, uses-made setup t q owned h legal.0 get-open)
+      let same : length (serials_in q 1 (map pair_made d.contents)) ≡ length (serials_in q 1 (contents_made (calls t h ++ e.calls))) =
+      ap (λ l. length (serials_in q 1 l)) (draft-contents setup (calls t h ++ e.calls) d good) in
+      omega (
+        arith,
+        some,
+        same,
+        serials-count q 1 (calls t h ++ e.calls),
+        made-append q (calls t h) e.calls,
+        none-made q e.calls no_link,
+        uses-made setup t q owned h legal.0 get-open,
+      )
 
   moved : (u w : Watcher) → u ≡ w → IsMeant setup h t u → IsMeant setup h t w
   moved u w same meant = subst (λ (v : Watcher). IsMeant setup h t v) same meant
 
-  by-view : (f : PairNo → Watcher) → ((q : PairNo) → owns_view setup t q ≡ true → IsMeant setup h t (f q)) → (o : Option PairNo) → view_owned setup t o ≡ true → (w : Watcher) → option_map f o ≡ Some w → IsMeant setup h t w
+  by-view : (f : PairNo → Watcher) → ((q : PairNo) → owns_view setup t q ≡ true → IsMeant setup h t (f q)) → (o : Option PairNo) → view_owned setup t o ≡ true
+      → (w : Watcher) → option_map f o ≡ Some w → IsMeant setup h t w
   by-view f of None owned w h = cc
   by-view f of (Some q) owned w h = moved (f q) w (cc) (of q owned)
 
-  by-made : (d : Draft) → draft_of setup (calls t h ++ e.calls) ≡ Ok d → (n : ℕ) (o : Option Made) → of_serial d.contents n ≡ o → (w : Watcher) → option_and_then (watcher_of_made setup h) o ≡ Some w → IsMeant setup h t w
+  by-made : (d : Draft) → draft_of setup (calls t h ++ e.calls) ≡ Ok d → (n : ℕ) (o : Option Made) → of_serial d.contents n ≡ o → (w : Watcher)
+      → option_and_then (watcher_of_made setup h) o ≡ Some w → IsMeant setup h t w
   by-made d good n None at w m = cc
   by-made d good n (Some (an_image i)) at w m = cc
   by-made d good n (Some (a_fill x)) at w m = cc
@@ -107,7 +123,8 @@ module _ (setup : Setup) (h : List Entry) (e : Entry) (legal : Legal setup (h �
       let owned : owns_viewport setup t q ≡ true = at-serial (made_owned setup t) d.contents n (a_viewport q props) (owned-draft d good).contents at in
       moved (child_of q (length (viewport_uses q h))) w (cc) (of_child q owned (used-viewport d good q owned n props at))
 
-  by-content : (d : Draft) → draft_of setup (calls t h ++ e.calls) ≡ Ok d → (o : Option ℕ) → (w : Watcher) → option_and_then (watcher_of_made setup h) (option_and_then (of_serial d.contents) o) ≡ Some w → IsMeant setup h t w
+  by-content : (d : Draft) → draft_of setup (calls t h ++ e.calls) ≡ Ok d → (o : Option ℕ) → (w : Watcher)
+      → option_and_then (watcher_of_made setup h) (option_and_then (of_serial d.contents) o) ≡ Some w → IsMeant setup h t w
   by-content d good None w m = cc
   by-content d good (Some n) w m = by-made d good n (of_serial d.contents n) refl w m
 
@@ -119,7 +136,8 @@ module _ (setup : Setup) (h : List Entry) (e : Entry) (legal : Legal setup (h �
   pub get-meant : (w : Watcher) → watcher_of setup h (Session t) e.calls get ≡ Some w → IsMeant setup h t w
   get-meant w m = by_draft (result_ok (draft_of setup (calls t h ++ e.calls))) refl m
     where
-      by_draft : (o : Option Draft) → result_ok (draft_of setup (calls t h ++ e.calls)) ≡ o → option_and_then (λ d. watcher_in setup h d get) o ≡ Some w → IsMeant setup h t w
+      by_draft : (o : Option Draft) → result_ok (draft_of setup (calls t h ++ e.calls)) ≡ o → option_and_then (λ d. watcher_in setup h d get) o ≡ Some w
+          → IsMeant setup h t w
       by_draft None i a = cc
       by_draft (Some d) i a = in-draft d (ok-is setup (draft_of setup (calls t h ++ e.calls)) d i) get w a
 
@@ -127,7 +145,8 @@ module _ (setup : Setup) (h : List Entry) (e : Entry) (legal : Legal setup (h �
 
 module _ (setup : Setup) where
   -- another session's get asks nothing of a session's watchers
-  pub others-unasked : (h : List Entry) (e : Entry) → Legal setup (h ▹ e) → (s : SessionNo) → is_session s e.actor ≡ false → (w : Watcher) → hears setup s w ≡ true → asked setup w h e ≡ None
+  pub others-unasked : (h : List Entry) (e : Entry) → Legal setup (h ▹ e) → (s : SessionNo) → is_session s e.actor ≡ false → (w : Watcher)
+      → hears setup s w ≡ true → asked setup w h e ≡ None
   others-unasked h e legal s other w heard = unasked setup w h e (λ get asks. by_actor get asks e.actor refl)
     where
       by_actor : (get : Watch) → e.kind ≡ Get get → (who : Actor) → e.actor ≡ who → is_watcher setup w (watcher_of setup h who e.calls get) ≡ false

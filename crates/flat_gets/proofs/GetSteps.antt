@@ -1,5 +1,6 @@
 -- The gets of a session after each kind of entry: kept, settled, or one more.
-use Rattle.std.proofs.Common.{◌≡◌, ◌∙◌, sym, subst, ℕ, zero, suc, ◌+◌, ◌-◌, Bool, true, false, List, [], ◌∷◌, ◌++◌, length, filter, drop, refl, arith, ap, Some, None}
+use Rattle.std.proofs.Common.{◌≡◌, ◌∙◌, sym, subst, ℕ, zero, suc, ◌+◌, ◌-◌, Bool, true, false, List, [], ◌∷◌, ◌++◌, length, filter, drop, refl, arith, ap, Some}
+use Rattle.std.proofs.Common.{None}
 use Rattle.std.specs.Prelude.{cond, Option, flat_map, replicate, ◌==◌, ◌&&◌, nat_lt, nat_le}
 use Rattle.std.proofs.lemmas.Bool.Decides.{nat_tests}
 use Rattle.std.proofs.lemmas.List.{append-nil}
@@ -43,7 +44,8 @@ use Rattle.std.proofs.lemmas.Bool.{and_right}
 
 -- ---- which events tell
 
-told-answer : (p : PairNo) (get : Watch) (o : Option Told) (rest : List Event) → filter is_told rest ≡ rest → filter is_told (event_of p (Some get) o ++ rest) ≡ event_of p (Some get) o ++ rest
+told-answer : (p : PairNo) (get : Watch) (o : Option Told) (rest : List Event) → filter is_told rest ≡ rest
+    → filter is_told (event_of p (Some get) o ++ rest) ≡ event_of p (Some get) o ++ rest
 told-answer p get None rest is = is
 told-answer p get (Some value) rest is = ap (λ (l : List Event). event.Told p get value ∷ l) is
 
@@ -70,7 +72,8 @@ module _ (setup : Setup) where
   untold-finish : (h : List Entry) (s : SessionNo) → filter is_told (at_finish setup h s) ≡ []
   untold-finish h s =
       untold-both (cond (nat_lt 0 (frame_took setup h s)) (event.FramePresented (frame_took setup h s) ∷ []) []) (tokens_back setup h s)
-      (untold-cond (nat_lt 0 (frame_took setup h s)) (event.FramePresented (frame_took setup h s) ∷ []) [] refl refl) (untold-flat (λ p. replicate (came p) (event.TokenBack p)) (λ p. untold-tokens p (came p)) (viewports_of setup s))
+      (untold-cond (nat_lt 0 (frame_took setup h s)) (event.FramePresented (frame_took setup h s) ∷ []) [] refl refl)
+      (untold-flat (λ p. replicate (came p) (event.TokenBack p)) (λ p. untold-tokens p (came p)) (viewports_of setup s))
     where
       came : PairNo → ℕ
       came p = releases_seen setup (to_begin h) s p - releases_seen setup (drop 1 (to_begin h)) s p
@@ -78,36 +81,46 @@ module _ (setup : Setup) where
   untold-begin : (h : List Entry) (e : Entry) (s : SessionNo) → filter is_told (at_begin setup h e s) ≡ []
   untold-begin h e s = untold-cond _ (event.Credits (credits setup (h ▹ e) s - credits setup h s) ∷ []) [] refl refl
 
-  told-by : (closed : Bool) (all finish begin : List Event) → closed ≡ false → filter is_told finish ≡ [] → filter is_told begin ≡ [] → filter is_told (cond closed [] (all ++ finish ++ begin)) ≡ filter is_told all
+  told-by : (closed : Bool) (all finish begin : List Event) → closed ≡ false → filter is_told finish ≡ [] → filter is_told begin ≡ []
+      → filter is_told (cond closed [] (all ++ finish ++ begin)) ≡ filter is_told all
   told-by true all finish begin opened no_finish no_begin = cc
   told-by false all finish begin opened no_finish no_begin =
-      filter-append is_told (all ++ finish) begin ∙ ap (λ (l : List Event). l ++ filter is_told begin) (filter-append is_told all finish) ∙ rw (no_finish, no_begin) (append-nil _ ∙ append-nil _)
+      filter-append is_told (all ++ finish) begin ∙ ap (λ (l : List Event). l ++ filter is_told begin) (filter-append is_told all finish)
+      ∙ rw (no_finish, no_begin) (append-nil _ ∙ append-nil _)
 
   -- what an entry tells a session is the answers to its held gets
-  pub told-to : (h : List Entry) (e : Entry) (s : SessionNo) → is_closed s (h ▹ e) ≡ false → filter is_told (events_to setup h e s) ≡ answers_to (told setup (h ▹ e)) (helds_of setup h s)
+  pub told-to : (h : List Entry) (e : Entry) (s : SessionNo) → is_closed s (h ▹ e) ≡ false
+      → filter is_told (events_to setup h e s) ≡ answers_to (told setup (h ▹ e)) (helds_of setup h s)
   told-to h e s opened =
       told-by (is_closed s (h ▹ e)) _ (cond (is_finish e.kind) (at_finish setup h s) []) (cond (is_begin e.kind) (at_begin setup h e s) []) opened
-      (untold-cond (is_finish e.kind) (at_finish setup h s) [] (untold-finish h s) refl) (untold-cond (is_begin e.kind) (at_begin setup h e s) [] (untold-begin h e s) refl)
+      (untold-cond (is_finish e.kind) (at_finish setup h s) [] (untold-finish h s) refl)
+      (untold-cond (is_begin e.kind) (at_begin setup h e s) [] (untold-begin h e s) refl)
       ∙ ap (filter is_told) (told-part setup s h e) ∙ told-answers (told setup (h ▹ e)) (helds_of setup h s)
 
   pub answers-more : (h : List Entry) (e : Entry) (s : SessionNo) → is_closed s (h ▹ e) ≡ false
-      → answers setup s (h ▹ e) ≡ answers setup s h + number_if (is_session s e.actor && is_now e.reply) + length (answers_to (told setup (h ▹ e)) (helds_of setup h s))
+      → answers setup s (h ▹ e) ≡ answers setup s h + number_if (is_session s e.actor && is_now e.reply) + length
+      (answers_to (told setup (h ▹ e)) (helds_of setup h s))
   answers-more h e s opened = ap (λ (l : List Event). answers setup s h + number_if (is_session s e.actor && is_now e.reply) + length l) (told-to h e s opened)
 
   -- ---- an entry at which all its watchers rest
 
-  pub quiet : (w : Watcher) (h : List Entry) (e : Entry) → asked setup w h e ≡ None → is_open setup (listener setup w) (h ▹ e) ≡ true → watching setup w (h ▹ e) ≡ watching setup w h → answers_to (told setup (h ▹ e)) (held_of setup h w) ≡ []
+  pub quiet : (w : Watcher) (h : List Entry) (e : Entry) → asked setup w h e ≡ None → is_open setup (listener setup w) (h ▹ e) ≡ true
+      → watching setup w (h ▹ e) ≡ watching setup w h → answers_to (told setup (h ▹ e)) (held_of setup h w) ≡ []
   quiet w h e idle listens rests =
       let v : Watching = watching setup w h in
-      let settles : settled true (told setup (h ▹ e) w) v ≡ v = ap (λ (b : Bool). settled b (told setup (h ▹ e) w) v) (sym listens) ∙ sym (settled-now setup w h e idle) ∙ rests in
+      let settles : settled true (told setup (h ▹ e) w) v ≡ v =
+      ap (λ (b : Bool). settled b (told setup (h ▹ e) w) v) (sym listens) ∙ sym (settled-now setup w h e idle) ∙ rests in
       sym (event-after setup w h e) ∙ rest-none (pair_watched w) (answer (told setup (h ▹ e) w) v) v settles
 
-  pub quiet-all : (h : List Entry) (e : Entry) (s : SessionNo) → is_closed s (h ▹ e) ≡ false → ((w : Watcher) → hears setup s w ≡ true → (asked setup w h e ≡ None) × (watching setup w (h ▹ e) ≡ watching setup w h))
+  pub quiet-all : (h : List Entry) (e : Entry) (s : SessionNo) → is_closed s (h ▹ e) ≡ false
+      → ((w : Watcher) → hears setup s w ≡ true → (asked setup w h e ≡ None) × (watching setup w (h ▹ e) ≡ watching setup w h))
       → answers_to (told setup (h ▹ e)) (helds_of setup h s) ≡ []
   quiet-all h e s opened rests =
       let now : Watcher → Option Told = told setup (h ▹ e) in
       flat-nested (λ one. event_of (pair_watched one.watcher) (Some one.get) (news_of now one)) (held_of setup h) (watchers_of setup h s)
-      ∙ flat-none (hears setup s) (λ w. answers_to now (held_of setup h w)) (λ w heard. quiet w h e (rests w heard).0 (hears-open setup s w (h ▹ e) heard opened) (rests w heard).1) (watchers_of setup h s) (watchers-heard setup h s)
+      ∙ flat-none (hears setup s) (λ w. answers_to now (held_of setup h w))
+      (λ w heard. quiet w h e (rests w heard).0 (hears-open setup s w (h ▹ e) heard opened) (rests w heard).1) (watchers_of setup h s)
+      (watchers-heard setup h s)
 
 -- ---- kinds of entry
 
@@ -153,7 +166,8 @@ module _ (setup : Setup) (h : List Entry) (e : Entry) (legal : Legal setup (h �
       kind_is : (p : PairNo) → K p e.kind
       kind_is p = subst (K p) (sym is) (refl, refl, refl)
 
-      of_pair : (v : Watcher) → (p : PairNo) → pair_watched v ≡ p → asked setup v h e ≡ None → (used_in h p ≡ false → (watching setup v h).waits ≡ None) → watching setup v (h ▹ e) ≡ watching setup v h
+      of_pair : (v : Watcher) → (p : PairNo) → pair_watched v ≡ p → asked setup v h e ≡ None → (used_in h p ≡ false → (watching setup v h).waits ≡ None)
+          → watching setup v (h ▹ e) ≡ watching setup v h
       of_pair v p of none unused = by_use (uses_view p e.kind && is_done e.reply) refl
         where
           by_use : (b : Bool) → (uses_view p e.kind && is_done e.reply) ≡ b → watching setup v (h ▹ e) ≡ watching setup v h
@@ -168,15 +182,19 @@ module _ (setup : Setup) (h : List Entry) (e : Entry) (legal : Legal setup (h �
               let R : Kind → Type 0 = λ kind. e.reply ≡ reply_to setup h e.actor e.calls kind in
               let replied : e.reply ≡ cond (length (view_uses q h) == 0) Done refused_token = subst R is legal.1.reply in
               let U : PairNo → Type 0 = λ r. used_in h r ≡ false in
-              unheld-stays setup v h e (unused (subst U pair (fresh-view (length (view_uses q h)) e.reply (length (view_uses q h) == 0) refl replied done))) none
+              unheld-stays setup v h e (unused (subst U pair (fresh-view (length (view_uses q h)) e.reply (length (view_uses q h) == 0) refl replied done)))
+              none
 
       by_watcher : (v : Watcher) → asked setup v h e ≡ None → watching setup v (h ▹ e) ≡ watching setup v h
-      by_watcher (layout_of p) none = of_pair (layout_of p) p refl none (λ unused. ap (λ (x : Watching). x.waits) (unwatched setup p h (layout_of p) is_layout legal.0 unused))
-      by_watcher (status_of p) none = of_pair (status_of p) p refl none (λ unused. ap (λ (x : Watching). x.waits) (unwatched setup p h (status_of p) is_status legal.0 unused))
+      by_watcher (layout_of p) none = of_pair (layout_of p) p refl none
+          (λ unused. ap (λ (x : Watching). x.waits) (unwatched setup p h (layout_of p) is_layout legal.0 unused))
+      by_watcher (status_of p) none = of_pair (status_of p) p refl none
+          (λ unused. ap (λ (x : Watching). x.waits) (unwatched setup p h (status_of p) is_status legal.0 unused))
       by_watcher (child_of p n) none = child-rests setup p n h e (kind_is p).0 none
 
   -- a watcher rests that isn't asked, where no frame ends and no viewport end is used
-  pub rests-between : is_finish e.kind ≡ false → is_viewport e.kind ≡ false → (w : Watcher) → asked setup w h e ≡ None → watching setup w (h ▹ e) ≡ watching setup w h
+  pub rests-between : is_finish e.kind ≡ false → is_viewport e.kind ≡ false → (w : Watcher) → asked setup w h e ≡ None
+      → watching setup w (h ▹ e) ≡ watching setup w h
   rests-between no_finish no_viewport w idle = by_kind e.kind refl no_finish no_viewport
     where
       by_kind : (kind : Kind) → e.kind ≡ kind → is_finish kind ≡ false → is_viewport kind ≡ false → watching setup w (h ▹ e) ≡ watching setup w h
@@ -193,7 +211,8 @@ module _ (setup : Setup) (h : List Entry) (e : Entry) (legal : Legal setup (h �
   join-kind q props is = subst (IsJoin q) (sym is) (refl, refl, λ p. (refl, refl))
 
   -- a watcher rests that isn't of the pair's view
-  pub rests-joined : (q : PairNo) (props : ViewportProps) → e.kind ≡ Viewport q props → (w : Watcher) → (same_watcher w (layout_of q) ≡ false) × (same_watcher w (status_of q) ≡ false) → watching setup w (h ▹ e) ≡ watching setup w h
+  pub rests-joined : (q : PairNo) (props : ViewportProps) → e.kind ≡ Viewport q props → (w : Watcher)
+      → (same_watcher w (layout_of q) ≡ false) × (same_watcher w (status_of q) ≡ false) → watching setup w (h ▹ e) ≡ watching setup w h
   rests-joined q props is w other =
       let k : IsJoin q e.kind = join-kind q props is in
       by_watcher w other (idle-kind setup h e k.1 w)
@@ -204,13 +223,19 @@ module _ (setup : Setup) (h : List Entry) (e : Entry) (legal : Legal setup (h �
           let none : (q.0 == p.0) ≡ false = grind (arith, nat_tests) in
           record { no_finish = k.0; no_view = rw (k.2 p).0 refl; no_viewport = rw ((k.2 p).1, none) refl }
 
-      by_watcher : (v : Watcher) → (same_watcher v (layout_of q) ≡ false) × (same_watcher v (status_of q) ≡ false) → asked setup v h e ≡ None → watching setup v (h ▹ e) ≡ watching setup v h
+      by_watcher : (v : Watcher) → (same_watcher v (layout_of q) ≡ false) × (same_watcher v (status_of q) ≡ false) → asked setup v h e ≡ None
+          → watching setup v (h ▹ e) ≡ watching setup v h
       by_watcher (layout_of p) other' idle = watching-same setup (layout_of p) h e (still p other'.0) idle
       by_watcher (status_of p) other' idle = watching-same setup (status_of p) h e (still p other'.1) idle
       by_watcher (child_of p n) other' idle = child-rests setup p n h e (join-kind q props is).0 idle
 
   -- and all stay where the use is refused
-  pub rests-refused : (q : PairNo) (props : ViewportProps) → e.kind ≡ Viewport q props → is_done e.reply ≡ false → (w : Watcher) → watching setup w (h ▹ e) ≡ watching setup w h
+  pub rests-refused : (q : PairNo) (props : ViewportProps) → e.kind ≡ Viewport q props → is_done e.reply ≡ false → (w : Watcher)
+      → watching setup w (h ▹ e) ≡ watching setup w h
   rests-refused q props is refused w =
       let k : IsJoin q e.kind = join-kind q props is in
-      watching-same setup w h e (record { no_finish = k.0; no_view = rw (k.2 (pair_watched w)).0 refl; no_viewport = and_right (uses_viewport (pair_watched w) e.kind) (is_done e.reply) refused }) (idle-kind setup h e k.1 w)
+      watching-same setup w h e (record {
+        no_finish = k.0;
+        no_view = rw (k.2 (pair_watched w)).0 refl;
+        no_viewport = and_right (uses_viewport (pair_watched w) e.kind) (is_done e.reply) refused;
+      }) (idle-kind setup h e k.1 w)

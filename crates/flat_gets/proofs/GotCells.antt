@@ -86,20 +86,24 @@ watched-pair parts.Status p n = refl
 watched-pair parts.Child p n = refl
 
 -- what is kept of it
-cell-is : (setup : Setup) (h : List Entry) (p : PairNo) (w : PairWatchers) → AreAt setup h h p w → (part : Part) → cell_at part w ≡ watching setup (watcher_at part p (length (viewport_uses p h))) h
+cell-is : (setup : Setup) (h : List Entry) (p : PairNo) (w : PairWatchers) → AreAt setup h h p w → (part : Part)
+    → cell_at part w ≡ watching setup (watcher_at part p (length (viewport_uses p h))) h
 cell-is setup h p w is parts.Layout = is.layout
 cell-is setup h p w is parts.Status = is.status
 cell-is setup h p w is parts.Child = is.child
 
-pub asked-known : (setup : Setup) (h : List Entry) → Legal setup h → (s : SessionNo) (carries : List Call) (get : Watch) → MayEnter setup h (Session s) carries (Get get) → (p : PairNo) → watcher_of setup h (Session s) carries get ≡ Some (watcher_meant h get p)
+pub asked-known : (setup : Setup) (h : List Entry) → Legal setup h → (s : SessionNo) (carries : List Call) (get : Watch)
+    → MayEnter setup h (Session s) carries (Get get) → (p : PairNo) → watcher_of setup h (Session s) carries get ≡ Some (watcher_meant h get p)
     → p.0 < length setup.pairs
 asked-known setup h legal s carries get may p means =
     let L : PairNo → Type 0 = λ r. r.0 < length setup.pairs in
     subst L (watched-pair (part_of get) p (length (viewport_uses p h))) (get-within setup h legal s carries get may (watcher_meant h get p) means)
 
 -- its reply is that of the rules
-pub asked-replied : (setup : Setup) (h : List Entry) → (s : SessionNo) (carries : List Call) (get : Watch) (p : PairNo) → p.0 < length setup.pairs → watcher_of setup h (Session s) carries get ≡ Some (watcher_meant h get p)
-    → (old new : Watchers) (reply : Reply) → IsAsked setup h s p get reply old new → AreWatched setup h old → reply ≡ reply_to setup h (Session s) carries (Get get)
+pub asked-replied : (setup : Setup) (h : List Entry) → (s : SessionNo) (carries : List Call) (get : Watch) (p : PairNo) → p.0 < length setup.pairs
+    → watcher_of setup h (Session s) carries get ≡ Some (watcher_meant h get p)
+    → (old new : Watchers) (reply : Reply) → IsAsked setup h s p get reply old new → AreWatched setup h old
+    → reply ≡ reply_to setup h (Session s) carries (Get get)
 asked-replied setup h s carries get p within means old new reply asked are =
     let w : Watcher = watcher_meant h get p in
     let its : AreAt setup h h p asked.was = subst (AreAt setup h h p) (sym asked.of_was) (are.each p.0 asked.was (omega (arith, within, are.count))) in
@@ -110,25 +114,29 @@ asked-replied setup h s carries get p within means old new reply asked are =
 
 -- ---- how many wait
 
-got-one-due : (get : Watch) (now : Option Told) (w : Watching) → number_if (is_some (after_get get now w).waits) ≤ number_if (is_some w.waits) + number_if (is_held (got (is_some w.waits) (news now w.last)))
+got-one-due : (get : Watch) (now : Option Told) (w : Watching)
+    → number_if (is_some (after_get get now w).waits) ≤ number_if (is_some w.waits) + number_if (is_held (got (is_some w.waits) (news now w.last)))
 got-one-due get now w = by_waits w.waits
   where
     by_news : (o : Option Told) → number_if (is_some (answered_by o (record { last = w.last; waits = Some get })).waits) ≤ 0 + number_if (is_held (got false o))
     by_news (Some value) = omega arith
     by_news None = omega arith
 
-    by_waits : (o : Option Watch) → number_if (is_some (after_get get now (record { last = w.last; waits = o })).waits) ≤ number_if (is_some o) + number_if (is_held (got (is_some o) (news now w.last)))
+    by_waits : (o : Option Watch) → number_if (is_some (after_get get now (record { last = w.last; waits = o })).waits) ≤ number_if (is_some o) + number_if
+        (is_held (got (is_some o) (news now w.last)))
     by_waits (Some other) = omega arith
     by_waits None = by_news (news now w.last)
 
-got-one-few : (get : Watch) (now : Option Told) (w : Watching) → number_if (is_some (after_get get now w).waits) + number_if (is_now (got (is_some w.waits) (news now w.last))) ≤ number_if (is_some w.waits) + 1
+got-one-few : (get : Watch) (now : Option Told) (w : Watching)
+    → number_if (is_some (after_get get now w).waits) + number_if (is_now (got (is_some w.waits) (news now w.last))) ≤ number_if (is_some w.waits) + 1
 got-one-few get now w = by_waits w.waits
   where
     by_news : (o : Option Told) → number_if (is_some (answered_by o (record { last = w.last; waits = Some get })).waits) + number_if (is_now (got false o)) ≤ 1
     by_news (Some value) = omega arith
     by_news None = omega arith
 
-    by_waits : (o : Option Watch) → number_if (is_some (after_get get now (record { last = w.last; waits = o })).waits) + number_if (is_now (got (is_some o) (news now w.last))) ≤ number_if (is_some o) + 1
+    by_waits : (o : Option Watch) → number_if (is_some (after_get get now (record { last = w.last; waits = o })).waits) + number_if
+        (is_now (got (is_some o) (news now w.last))) ≤ number_if (is_some o) + 1
     by_waits (Some other) = omega arith
     by_waits None = by_news (news now w.last)
 
@@ -148,7 +156,8 @@ module _ (get : Watch) (now : Option Told) (was then : PairWatchers) where
 
 -- ---- the entry
 
-module _ (setup : Setup) (h : List Entry) (e : Entry) (legal : Legal setup (h ▹ e)) (s : SessionNo) (is : e.actor ≡ Session s) (get : Watch) (asks : e.kind ≡ Get get) (w : Watcher) (means : watcher_of setup h (Session s) e.calls get ≡ Some w) where
+module _ (setup : Setup) (h : List Entry) (e : Entry) (legal : Legal setup (h ▹ e)) (s : SessionNo) (is : e.actor ≡ Session s) (get : Watch)
+    (asks : e.kind ≡ Get get) (w : Watcher) (means : watcher_of setup h (Session s) e.calls get ≡ Some w) where
   pub meant : IsMeant setup h s w
   meant = get-meant setup h e legal s is get asks w means
 
@@ -163,7 +172,8 @@ module _ (setup : Setup) (h : List Entry) (e : Entry) (legal : Legal setup (h �
   other-idle v other = unasked setup v h e (λ get' asks'.
       let gets : Get get' ≡ Get get = sym asks' ∙ asks in
       let same : get' ≡ get = cc in
-      ap (λ (who : Actor). is_watcher setup v (watcher_of setup h who e.calls get')) is ∙ ap (λ (g : Watch). is_watcher setup v (watcher_of setup h (Session s) e.calls g)) same ∙ ap (is_watcher setup v) means ∙ other)
+      ap (λ (who : Actor). is_watcher setup v (watcher_of setup h who e.calls get')) is
+      ∙ ap (λ (g : Watch). is_watcher setup v (watcher_of setup h (Session s) e.calls g)) same ∙ ap (is_watcher setup v) means ∙ other)
 
   pub other-rests : (v : Watcher) → same_watcher v w ≡ false → watching setup v (h ▹ e) ≡ watching setup v h
   other-rests v other = watching-same setup v h e (still v) (other-idle v other)
@@ -172,14 +182,16 @@ module _ (setup : Setup) (h : List Entry) (e : Entry) (legal : Legal setup (h �
   pub own-asked : is_closed s (h ▹ e) ≡ false → (watching setup w h).waits ≡ None
       → watching setup w (h ▹ e) ≡ after_news get (news (told setup h w) (watching setup w h).last) (watching setup w h).last
   own-asked opened none =
-      got-one setup w h e get asks (ap (λ (who : Actor). watcher_of setup h who e.calls get) is ∙ means) (told-same setup w h e (still w)) (hears-open setup s w (h ▹ e) (meant-heard setup h s w meant) opened) none
+      got-one setup w h e get asks (ap (λ (who : Actor). watcher_of setup h who e.calls get) is ∙ means) (told-same setup w h e (still w))
+      (hears-open setup s w (h ▹ e) (meant-heard setup h s w meant) opened) none
 
   -- it answers no held get
   no-answer : is_closed s (h ▹ e) ≡ false → (watching setup w h).waits ≡ None → answers_to (told setup (h ▹ e)) (helds_of setup h s) ≡ []
   no-answer opened none =
       let now : Watcher → Option Told = told setup (h ▹ e) in
       flat-nested (λ one. event_of (pair_watched one.watcher) (Some one.get) (news_of now one)) (held_of setup h) (watchers_of setup h s)
-      ∙ flat-none (hears setup s) (λ v. answers_to now (held_of setup h v)) (λ v heard. by_same v heard (same_watcher v w) refl) (watchers_of setup h s) (watchers-heard setup h s)
+      ∙ flat-none (hears setup s) (λ v. answers_to now (held_of setup h v)) (λ v heard. by_same v heard (same_watcher v w) refl) (watchers_of setup h s)
+      (watchers-heard setup h s)
     where
       by_same : (v : Watcher) → hears setup s v ≡ true → (b : Bool) → same_watcher v w ≡ b → answers_to (told setup (h ▹ e)) (held_of setup h v) ≡ []
       by_same v heard false other = quiet setup v h e (other-idle v other) (hears-open setup s v (h ▹ e) heard opened) (other-rests v other)
@@ -236,14 +248,16 @@ module _ (setup : Setup) (h : List Entry) (e : Entry) (legal : Legal setup (h �
       by_waits : (o : Option Watch) → (watching setup w h).waits ≡ o → watching setup w (h ▹ e) ≡ after_get get (told setup h w) (watching setup w h)
       by_waits (Some other) at =
           let held : is_some (watching setup w h).waits ≡ true = ap is_some at in
-          got-two setup w h e (heard-shut (listener setup w) s (h ▹ e) (meant-heard setup h s w meant) (held-closes held) setup) held ∙ ap (λ (b : Bool). cond b (watching setup w h) (settled true (told setup h w) (asking (Some get) (watching setup w h)))) (sym held)
+          got-two setup w h e (heard-shut (listener setup w) s (h ▹ e) (meant-heard setup h s w meant) (held-closes held) setup) held
+          ∙ ap (λ (b : Bool). cond b (watching setup w h) (settled true (told setup h w) (asking (Some get) (watching setup w h)))) (sym held)
       by_waits None at =
           let unheld : is_some (watching setup w h).waits ≡ false = ap is_some at in
           let last : Option Told = (watching setup w h).last in
           let now : Option Told = news (told setup h w) last in
           let open_reply : closes e.reply ≡ false = ap closes replied ∙ ap (λ (b : Bool). closes (got b now)) unheld ∙ stays now in
           let opened : is_closed s (h ▹ e) ≡ false = closed-by ∙ ap (λ (b : Bool). b || is_closed s h) open_reply ∙ get-open setup h e legal s is get asks in
-          let itself : watching setup w h ≡ record { last = last; waits = None } = ap (λ (o : Option Watch). let v : Watching = record { last = last; waits = o } in v) at in
+          let itself : watching setup w h ≡ record { last = last; waits = None } =
+          ap (λ (o : Option Watch). let v : Watching = record { last = last; waits = o } in v) at in
           own-asked opened at ∙ as-news now last ∙ sym (ap (after_get get (told setup h w)) itself)
 
   -- how many answers the session has had then
@@ -253,20 +267,23 @@ module _ (setup : Setup) (h : List Entry) (e : Entry) (legal : Legal setup (h �
       by_closed : (b : Bool) → is_closed s (h ▹ e) ≡ b → to ≡ answers setup s (h ▹ e)
       by_closed false opened = omega (arith, was, counted, count-after opened (unheld-open opened))
       by_closed true closed =
-          let none : is_now e.reply ≡ false = closing-untold e.reply (closes-last (is_session s e.actor) e (own s h) (get-open setup h e legal s is get asks) closed) in
+          let none : is_now e.reply ≡ false = closing-untold e.reply
+          (closes-last (is_session s e.actor) e (own s h) (get-open setup h e legal s is get asks) closed) in
           let nothing : number_if (is_now e.reply) ≡ 0 = ap number_if none in
           omega (arith, was, counted, nothing, answers-shut setup h e legal s closed (and_right (is_session s e.actor) (is_now e.reply) none))
 
 -- ---- what waits then
 
-after-none : (get : Watch) (now : Option Told) (w : Watching) → is_held (got (is_some w.waits) (news now w.last)) ≡ false → is_some w.waits ≡ false → is_some (after_get get now w).waits ≡ false
+after-none : (get : Watch) (now : Option Told) (w : Watching) → is_held (got (is_some w.waits) (news now w.last)) ≡ false → is_some w.waits ≡ false
+    → is_some (after_get get now w).waits ≡ false
 after-none get now w silent none = by_waits w.waits silent none
   where
     by_news : (o : Option Told) → is_held (got false o) ≡ false → is_some (answered_by o (record { last = w.last; waits = Some get })).waits ≡ false
     by_news (Some value) h = refl
     by_news None h = cc
 
-    by_waits : (o : Option Watch) → is_held (got (is_some o) (news now w.last)) ≡ false → is_some o ≡ false → is_some (after_get get now (record { last = w.last; waits = o })).waits ≡ false
+    by_waits : (o : Option Watch) → is_held (got (is_some o) (news now w.last)) ≡ false → is_some o ≡ false
+        → is_some (after_get get now (record { last = w.last; waits = o })).waits ≡ false
     by_waits (Some other) h n = cc
     by_waits None h n = by_news (news now w.last) h
 
@@ -283,7 +300,8 @@ module _ (get : Watch) (now : Option Told) (was then : PairWatchers) where
   got-viewports parts.Child child is none = cc
 
   -- and where the get isn't held, all do
-  pub unheld-views : (part : Part) → IsGot part get now was then → is_held (answer_of get now was then part) ≡ false → view_waits was ≡ false → view_waits then ≡ false
+  pub unheld-views : (part : Part) → IsGot part get now was then → is_held (answer_of get now was then part) ≡ false → view_waits was ≡ false
+      → view_waits then ≡ false
   unheld-views parts.Layout is silent none =
       let first : is_some was.layout.waits ≡ false = none-left (is_some was.layout.waits) _ none in
       rw (is.layout, is.status, after-none get now was.layout silent first) (none-right (is_some was.layout.waits) _ none)
@@ -292,7 +310,8 @@ module _ (get : Watch) (now : Option Told) (was then : PairWatchers) where
       rw (is.layout, is.status, none-left (is_some was.layout.waits) _ none) (after-none get now was.status silent second)
   unheld-views parts.Child is silent none = rw (is.layout, is.status) none
 
-  pub unheld-viewports : (part : Part) → IsGot part get now was then → is_held (answer_of get now was then part) ≡ false → viewport_waits was ≡ false → viewport_waits then ≡ false
+  pub unheld-viewports : (part : Part) → IsGot part get now was then → is_held (answer_of get now was then part) ≡ false → viewport_waits was ≡ false
+      → viewport_waits then ≡ false
   unheld-viewports parts.Layout is silent none = rw (is.child, is.former) none
   unheld-viewports parts.Status is silent none = rw (is.child, is.former) none
   unheld-viewports parts.Child is silent none =

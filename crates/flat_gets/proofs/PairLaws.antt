@@ -41,7 +41,8 @@ module _ (setup : Setup) (s : SessionNo) (p : PairNo) (owned : owns_viewport set
   pub used-token : (h : List Entry) → Legal setup h → is_closed s h ≡ false → (stamp : Option ℕ) → IsReleaseStamp (length (viewport_uses p h)) h stamp
       → has_token setup p h ≡ is_seen stamp (taken setup (to_finished h) s)
   used-token h legal opened stamp is =
-      (counted setup s p owned declared h legal opened).token ∙ stamp-taken setup (happens_often setup (releases_viewport p) (length (viewport_uses p h))) s (to_finished h) h stamp (finished-earlier h) is
+      (counted setup s p owned declared h legal opened).token
+      ∙ stamp-taken setup (happens_often setup (releases_viewport p) (length (viewport_uses p h))) s (to_finished h) h stamp (finished-earlier h) is
 
   -- ---- the tokens that the open frame brings back
 
@@ -61,7 +62,8 @@ module _ (setup : Setup) (s : SessionNo) (p : PairNo) (owned : owns_viewport set
       by_tests false false i j = grind (arith, nat_tests)
 
   -- one comes back where that frame has seen the release, and none before it had
-  pub used-came : (h : List Entry) → Legal setup h → is_closed s h ≡ false → is_frame_open h ≡ true → (stamp : Option ℕ) → IsReleaseStamp (length (viewport_uses p h)) h stamp
+  pub used-came : (h : List Entry) → Legal setup h → is_closed s h ≡ false → is_frame_open h ≡ true → (stamp : Option ℕ)
+      → IsReleaseStamp (length (viewport_uses p h)) h stamp
       → came setup p h s p ≡ cond (is_seen stamp (taken setup (to_begin h) s) && not (is_seen stamp (taken setup (to_finished h) s))) 1 0
   used-came h legal opened going stamp is =
       let u : ℕ = length (viewport_uses p h) in
@@ -69,15 +71,18 @@ module _ (setup : Setup) (s : SessionNo) (p : PairNo) (owned : owns_viewport set
       let f : ℕ = releases_seen setup (drop 1 (to_begin h)) s p in
       let test : List Call → Bool = happens_often setup (releases_viewport p) u in
       let last : taken setup (drop 1 (to_begin h)) s ≡ taken setup (to_finished h) s = taken-begun setup s h legal going in
-      let before_it : f ≤ released setup s p h = seen-rises setup s p (drop 1 (to_begin h)) (to_finished h) h (begun-earlier h) (finished-earlier h) (omega (arith, last)) in
-      let after_it : released setup s p h ≤ f = seen-rises setup s p (to_finished h) (drop 1 (to_begin h)) h (finished-earlier h) (begun-earlier h) (omega (arith, last)) in
+      let before_it : f ≤ released setup s p h = seen-rises setup s p (drop 1 (to_begin h)) (to_finished h) h (begun-earlier h) (finished-earlier h)
+      (omega (arith, last)) in
+      let after_it : released setup s p h ≤ f = seen-rises setup s p (to_finished h) (drop 1 (to_begin h)) h (finished-earlier h) (begun-earlier h)
+      (omega (arith, last)) in
       let less : taken setup (drop 1 (to_begin h)) s ≤ taken setup (to_begin h) s = taken-drop setup s (to_begin h) in
       let rises : f ≤ b = seen-rises setup s p (drop 1 (to_begin h)) (to_begin h) h (begun-earlier h) (begin-earlier h) less in
       let seen = seen-then setup s p (to_begin h) h (begin-earlier h) in
       let all = balanced setup s p owned h legal opened in
       let near = (counted setup s p owned declared h legal opened).near in
       let now : nat_le u b ≡ is_seen stamp (taken setup (to_begin h) s) = stamp-taken setup test s (to_begin h) h stamp (begin-earlier h) is in
-      let then : nat_le u f ≡ is_seen stamp (taken setup (to_finished h) s) = stamp-taken setup test s (drop 1 (to_begin h)) h stamp (begun-earlier h) is ∙ ap (is_seen stamp) last in
+      let then : nat_le u f ≡ is_seen stamp (taken setup (to_finished h) s) =
+      stamp-taken setup test s (drop 1 (to_begin h)) h stamp (begun-earlier h) is ∙ ap (is_seen stamp) last in
       counts u f b rises (omega (arith, seen, all)) (omega (arith, near, before_it, after_it)) ∙ rw (now, then) refl
 
   -- ---- a new use
@@ -94,17 +99,20 @@ module _ (setup : Setup) (s : SessionNo) (p : PairNo) (owned : owns_viewport set
       subst (IsStamp test s h) is (stamp-of test lasting s h)
 
 -- the last call of a viewport's entry leaves it alive
-last-pair : (p : PairNo) (props : ViewportProps) (lives : List Live) (call : Call) → makes_viewport p props (Some call) ≡ true → 1 ≤ held_of p (lives_then lives call)
+last-pair : (p : PairNo) (props : ViewportProps) (lives : List Live) (call : Call) → makes_viewport p props (Some call) ≡ true
+    → 1 ≤ held_of p (lives_then lives call)
 last-pair p props lives (CreateViewport c q w h inset) is =
     let same : (q.0 == p.0) ≡ true = and-left (q.0 == p.0) _ (and-left _ _ (and-left _ _ is)) in
     let one : held_of p ((let live : Live = record { name = c; pair = q } in live) ∷ []) ≡ 1 = rw same refl in
     omega (arith, held-append p lives ((let live : Live = record { name = c; pair = q } in live) ∷ []), one)
 last-pair p props lives _ is = cc
 
-pub made-lives : (p : PairNo) (props : ViewportProps) (lives : List Live) (carries : List Call) (last : Option Call) → slice_get carries (length carries - 1) ≡ last → makes_viewport p props last ≡ true → 1 ≤ held_of p (lives_after lives carries)
+pub made-lives : (p : PairNo) (props : ViewportProps) (lives : List Live) (carries : List Call) (last : Option Call)
+    → slice_get carries (length carries - 1) ≡ last → makes_viewport p props last ≡ true → 1 ≤ held_of p (lives_after lives carries)
 made-lives p props lives carries None at is = cc
 made-lives p props lives carries (Some call) at is =
     let split : carries ≡ all_but_last carries ++ call ∷ [] = split-last carries call at in
-    let after : lives_after lives carries ≡ lives_then (lives_after lives (all_but_last carries)) call = ap (lives_after lives) split ∙ lives-append lives (all_but_last carries) (call ∷ []) in
+    let after : lives_after lives carries ≡ lives_then (lives_after lives (all_but_last carries)) call =
+    ap (lives_after lives) split ∙ lives-append lives (all_but_last carries) (call ∷ []) in
     let H : List Live → Type 0 = λ l. 1 ≤ held_of p l in
     subst H (sym after) (last-pair p props (lives_after lives (all_but_last carries)) call is)

@@ -33,26 +33,33 @@ settled-none true now w none = rw none none
 settled-none false now w none = none
 
 -- a get that waits is answered, or waits on
-pub cell-due : (now : Option Told) (w : Watching) → number_if (is_some (settled true now w).waits) + number_if (is_some (answered_get w.waits (answer now w))) ≡ number_if (is_some w.waits)
+pub cell-due : (now : Option Told) (w : Watching) → number_if (is_some (settled true now w).waits) + number_if (is_some (answered_get w.waits (answer now w)))
+    ≡ number_if (is_some w.waits)
 cell-due now w = by_waits w.waits
   where
-    by_news : (get : Watch) (o : Option Told) → number_if (is_some (answered_by o (record { last = w.last; waits = Some get })).waits) + number_if (is_some (answered_get (Some get) o)) ≡ 1
+    by_news : (get : Watch) (o : Option Told) → number_if (is_some (answered_by o (record { last = w.last; waits = Some get })).waits) + number_if
+        (is_some (answered_get (Some get) o)) ≡ 1
     by_news get (Some value) = refl
     by_news get None = refl
 
-    by_waits : (o : Option Watch) → number_if (is_some (settled true now (record { last = w.last; waits = o })).waits) + number_if (is_some (answered_get o (answer now (record { last = w.last; waits = o })))) ≡ number_if (is_some o)
+    by_waits : (o : Option Watch) → number_if (is_some (settled true now (record { last = w.last; waits = o })).waits) + number_if
+        (is_some (answered_get o (answer now (record { last = w.last; waits = o })))) ≡ number_if (is_some o)
     by_waits None = refl
     by_waits (Some get) = by_news get (news now w.last)
 
-pub former-due : (p : PairNo) (now : Option Told) (former : List FormerGet) → length (still_waiting now former) + length (former_events p now former) ≡ length former
+pub former-due : (p : PairNo) (now : Option Told) (former : List FormerGet)
+    → length (still_waiting now former) + length (former_events p now former) ≡ length former
 former-due p now [] = refl
 former-due p now (one ∷ more) = by_news (news now one.last) (former-due p now more)
   where
     by_news : (o : Option Told) → length (still_waiting now more) + length (former_events p now more) ≡ length more
-        → length (cond (not (is_some o)) (one ∷ still_waiting now more) (still_waiting now more)) + length (event_of p (Some one.get) o ++ former_events p now more) ≡ length (one ∷ more)
+        → length (cond (not (is_some o)) (one ∷ still_waiting now more) (still_waiting now more)) + length
+        (event_of p (Some one.get) o ++ former_events p now more) ≡ length (one ∷ more)
     by_news None rest = omega (arith, rest)
     by_news (Some value) rest = omega (arith, rest)
 
-pub two-posted : (f : Event → Post) (old mid new : List Post) (xs ys zs : List Event) → mid ≡ old ++ map f xs → new ≡ mid ++ map f ys → ys ≡ zs → new ≡ old ++ map f (xs ++ zs)
+pub two-posted : (f : Event → Post) (old mid new : List Post) (xs ys zs : List Event) → mid ≡ old ++ map f xs → new ≡ mid ++ map f ys → ys ≡ zs
+    → new ≡ old ++ map f (xs ++ zs)
 two-posted f old mid new xs ys zs first second same =
-    second ∙ ap (λ (l : List Post). l ++ map f ys) first ∙ append_assoc old (map f xs) (map f ys) ∙ ap (λ (l : List Post). old ++ l) (sym (map-append f xs ys)) ∙ ap (λ (l : List Event). old ++ map f (xs ++ l)) same
+    second ∙ ap (λ (l : List Post). l ++ map f ys) first ∙ append_assoc old (map f xs) (map f ys) ∙ ap (λ (l : List Post). old ++ l) (sym (map-append f xs ys))
+    ∙ ap (λ (l : List Event). old ++ map f (xs ++ l)) same

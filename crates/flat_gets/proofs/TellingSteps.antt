@@ -18,7 +18,9 @@ past m n p same over = by_tests (nat_lt p m) (nat_lt p n) refl refl over
     by_tests false b i j none = grind (arith, nat_tests)
 
 -- a pair that isn't known isn't declared
-pub unknown : (kept : Setup) (port : DisplayPort) (ties : Ties) (views : List Bool) (setup : Setup) (history : List Entry) → IsTelling kept port ties views setup history → (p : PairNo) → (nat_lt p.0 (length kept.pairs) && nat_lt p.0 (length ties.pairs.items)) ≡ false → length setup.pairs ≤ p.0
+pub unknown : (kept : Setup) (port : DisplayPort) (ties : Ties) (views : List Bool) (setup : Setup) (history : List Entry)
+    → IsTelling kept port ties views setup history → (p : PairNo) → (nat_lt p.0 (length kept.pairs) && nat_lt p.0 (length ties.pairs.items)) ≡ false
+    → length setup.pairs ≤ p.0
 unknown kept port ties views setup history stands p none =
     let count : length ties.pairs.items ≡ length setup.pairs = stands.tied.count in
     let same : length kept.pairs ≡ length setup.pairs = ap (λ (s : Setup). length s.pairs) stands.same in

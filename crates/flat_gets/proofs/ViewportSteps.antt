@@ -47,12 +47,15 @@ flat-filtered q f (x ∷ xs) = filter-append q (f x) (flat_map f xs) ∙ ap (λ 
 
 module _ (setup : Setup) (s : SessionNo) (declared : is_declared setup s ≡ true) where
   -- no use, and no end of a frame
-  pub still-token : (p : PairNo) (h : List Entry) (e : Entry) → (uses_viewport p e.kind && is_done e.reply) ≡ false → is_finish e.kind ≡ false → has_token setup p (h ▹ e) ≡ has_token setup p h
+  pub still-token : (p : PairNo) (h : List Entry) (e : Entry) → (uses_viewport p e.kind && is_done e.reply) ≡ false → is_finish e.kind ≡ false
+      → has_token setup p (h ▹ e) ≡ has_token setup p h
   still-token p h e none no_finish =
-      token-kept (uses_viewport p e.kind && is_done e.reply) (has_token setup p h) (list_any (λ (sent : Sent). is_token_back p sent.event) (posted setup h e)) none (no-token setup p h e no_finish)
+      token-kept (uses_viewport p e.kind && is_done e.reply) (has_token setup p h) (list_any (λ (sent : Sent). is_token_back p sent.event) (posted setup h e))
+      none (no-token setup p h e no_finish)
 
   -- a token that is out was used
-  pub out-used : (p : PairNo) → owns_viewport setup s p ≡ true → (h : List Entry) → Legal setup h → is_closed s h ≡ false → has_token setup p h ≡ false → 0 < length (viewport_uses p h)
+  pub out-used : (p : PairNo) → owns_viewport setup s p ≡ true → (h : List Entry) → Legal setup h → is_closed s h ≡ false → has_token setup p h ≡ false
+      → 0 < length (viewport_uses p h)
   out-used p owned h legal opened out = by_count (nat_lt 0 (length (viewport_uses p h))) refl
     where
       by_count : (b : Bool) → nat_lt 0 (length (viewport_uses p h)) ≡ b → 0 < length (viewport_uses p h)
@@ -63,7 +66,8 @@ module _ (setup : Setup) (s : SessionNo) (declared : is_declared setup s ≡ tru
 
   -- ---- another's entry
 
-  pub other-out : (p : PairNo) → owns_viewport setup s p ≡ true → (h : List Entry) (e : Entry) → Legal setup (h ▹ e) → is_closed s h ≡ false → is_session s e.actor ≡ false → is_finish e.kind ≡ false
+  pub other-out : (p : PairNo) → owns_viewport setup s p ≡ true → (h : List Entry) (e : Entry) → Legal setup (h ▹ e) → is_closed s h ≡ false
+      → is_session s e.actor ≡ false → is_finish e.kind ≡ false
       → out_of setup (h ▹ e) s p ≡ out_of setup h s p
   other-out p owned h e legal opened other no_finish = by_token (has_token setup p h) refl
     where
@@ -82,19 +86,22 @@ module _ (setup : Setup) (s : SessionNo) (declared : is_declared setup s ≡ tru
           let n : length (viewport_uses p (h ▹ e)) ≡ length (viewport_uses p h) = ap (length {A = Entry}) same in
           let lasting = often-lasts setup (releases_viewport p) (length (viewport_uses p h)) (out-used p owned h legal.0 opened out) in
           let stamp : released_at setup (h ▹ e) s p ≡ released_at setup h s p =
-          ap (λ (k : ℕ). first_at (happens_often setup (releases_viewport p) k) s (h ▹ e)) n ∙ stamp-other (happens_often setup (releases_viewport p) (length (viewport_uses p h))) lasting s h e other in
+          ap (λ (k : ℕ). first_at (happens_often setup (releases_viewport p) k) s (h ▹ e)) n
+          ∙ stamp-other (happens_often setup (releases_viewport p) (length (viewport_uses p h))) lasting s h e other in
           ap (λ (b : Bool). cond b [] ((let o : OutToken = record { pair = p; released = released_at setup (h ▹ e) s p } in o) ∷ [])) (kept ∙ out)
           ∙ ap (λ (r : Option ℕ). let o : OutToken = record { pair = p; released = r } in o ∷ []) stamp ∙ sym (rw out refl)
 
   -- another's entry that ends no frame leaves all as it is
-  pub viewports-other : (h : List Entry) (e : Entry) → Legal setup (h ▹ e) → is_session s e.actor ≡ false → is_finish e.kind ≡ false → (live : List Live) (out : List OutToken) → AreViewports setup h s live out
+  pub viewports-other : (h : List Entry) (e : Entry) → Legal setup (h ▹ e) → is_session s e.actor ≡ false → is_finish e.kind ≡ false
+      → (live : List Live) (out : List OutToken) → AreViewports setup h s live out
       → AreViewports setup (h ▹ e) s live out
   viewports-other h e legal other no_finish live out old = record {
     lives = λ o. old.lives (closed-before (is_session s e.actor) e (own s h) o) ∙ rw other refl;
     outs = λ o.
         let before : is_closed s h ≡ false = closed-before (is_session s e.actor) e (own s h) o in
         old.outs before
-        ∙ sym (flat-same (owns_viewport setup s) (out_of setup (h ▹ e) s) (out_of setup h s) (λ p owned. other-out p owned h e legal before other no_finish) (viewports_of setup s) (viewports-owned setup s));
+        ∙ sym (flat-same (owns_viewport setup s) (out_of setup (h ▹ e) s) (out_of setup h s) (λ p owned. other-out p owned h e legal before other no_finish)
+        (viewports_of setup s) (viewports-owned setup s));
   }
 
   -- ---- its own entry that uses no viewport end of a pair
@@ -110,18 +117,23 @@ module _ (setup : Setup) (s : SessionNo) (declared : is_declared setup s ≡ tru
     all-calls = rw mine refl
 
     -- how often its calls release a viewport of a pair
-    released-more : (p : PairNo) → times setup (releases_viewport p) (Ok empty_draft) (calls s h ++ e.calls) ≡ times setup (releases_viewport p) (Ok empty_draft) (calls s h) + count_of (releases_live p) lives e.calls
+    released-more : (p : PairNo) → times setup (releases_viewport p) (Ok empty_draft) (calls s h ++ e.calls)
+        ≡ times setup (releases_viewport p) (Ok empty_draft) (calls s h) + count_of (releases_live p) lives e.calls
     released-more p =
         let before = viewing-of setup s h legal.0 opened in
         let after = viewing-of setup s (h ▹ e) legal still in
         let good : draft_of setup (calls s h ++ e.calls) ≡ Ok after.draft = ap (draft_of setup) (sym all-calls) ∙ after.good in
         let first = lived-all setup (calls s h) before.draft before.good in
-        let then : Lived setup before.draft e.calls after.draft = lived setup before.draft e.calls after.draft first.tidy (good-more setup (calls s h) e.calls before.draft after.draft before.good good) in
-        let counts : times setup (releases_viewport p) (Ok before.draft) e.calls ≡ count_of (releases_live p) lives e.calls = then.releases p ∙ ap (λ (l : List Live). count_of (releases_live p) l e.calls) first.lives in
+        let then : Lived setup before.draft e.calls after.draft =
+        lived setup before.draft e.calls after.draft first.tidy (good-more setup (calls s h) e.calls before.draft after.draft before.good good) in
+        let counts : times setup (releases_viewport p) (Ok before.draft) e.calls ≡ count_of (releases_live p) lives e.calls =
+        then.releases p ∙ ap (λ (l : List Live). count_of (releases_live p) l e.calls) first.lives in
         times-append setup (releases_viewport p) (Ok empty_draft) (calls s h) e.calls
-        ∙ ap (λ (n : ℕ). times setup (releases_viewport p) (Ok empty_draft) (calls s h) + n) (ap (λ (r : Result Draft Reason). times setup (releases_viewport p) r e.calls) before.good ∙ counts)
+        ∙ ap (λ (n : ℕ). times setup (releases_viewport p) (Ok empty_draft) (calls s h) + n)
+        (ap (λ (r : Result Draft Reason). times setup (releases_viewport p) r e.calls) before.good ∙ counts)
 
-    pub own-out : (p : PairNo) → owns_viewport setup s p ≡ true → is_finish e.kind ≡ false → (uses_viewport p e.kind && is_done e.reply) ≡ false → out_of setup (h ▹ e) s p ≡ map (marked lives e.calls (length (presents s h))) (out_of setup h s p)
+    pub own-out : (p : PairNo) → owns_viewport setup s p ≡ true → is_finish e.kind ≡ false → (uses_viewport p e.kind && is_done e.reply) ≡ false
+        → out_of setup (h ▹ e) s p ≡ map (marked lives e.calls (length (presents s h))) (out_of setup h s p)
     own-out p owned no_finish no_use = by_token (has_token setup p h) refl
       where
         u : ℕ
@@ -141,14 +153,19 @@ module _ (setup : Setup) (s : SessionNo) (declared : is_declared setup s ≡ tru
             let more = released-more p in
             let near = (counted setup s p owned declared h legal.0 opened).near in
             let seen = seen-then setup s p (to_finished h) h (finished-earlier h) in
-            let does_it : closes e.reply ≡ false → released_at setup h s p ≡ None → nat_lt 0 (count_of (releases_live p) lives e.calls) ≡ test (calls s h ++ e.calls) =
+            let does_it : closes e.reply ≡ false → released_at setup h s p ≡ None
+            → nat_lt 0 (count_of (releases_live p) lives e.calls) ≡ test (calls s h ++ e.calls) =
             λ stays none.
             let not_yet : test (calls s h) ≡ false = sym (stamped test lasting s h).some ∙ ap is_some none in
-            enough (length (viewport_uses p h)) (times setup (releases_viewport p) (Ok empty_draft) (calls s h)) (count_of (releases_live p) lives e.calls) not_yet (omega (arith, near, seen)) ∙ ap (λ (n : ℕ). nat_le (length (viewport_uses p h)) n) (sym more) in
-            let step : IsStamp test s (h ▹ e) (stamp_then (released_at setup h s p) (nat_lt 0 (count_of (releases_live p) lives e.calls)) (length (presents s h))) =
-            own-stamp test lasting s h e (released_at setup h s p) (nat_lt 0 (count_of (releases_live p) lives e.calls)) mine opened does_it (stamp-of test lasting s h) in
+            enough (length (viewport_uses p h)) (times setup (releases_viewport p) (Ok empty_draft) (calls s h)) (count_of (releases_live p) lives e.calls)
+            not_yet (omega (arith, near, seen)) ∙ ap (λ (n : ℕ). nat_le (length (viewport_uses p h)) n) (sym more) in
+            let step : IsStamp test s (h ▹ e) (stamp_then (released_at setup h s p) (nat_lt 0 (count_of (releases_live p) lives e.calls))
+            (length (presents s h))) =
+            own-stamp test lasting s h e (released_at setup h s p) (nat_lt 0 (count_of (releases_live p) lives e.calls)) mine opened does_it
+            (stamp-of test lasting s h) in
             let n : length (viewport_uses p (h ▹ e)) ≡ length (viewport_uses p h) = ap (length {A = Entry}) same in
-            let stamp : released_at setup (h ▹ e) s p ≡ stamp_then (released_at setup h s p) (nat_lt 0 (count_of (releases_live p) lives e.calls)) (length (presents s h)) =
+            let stamp : released_at setup (h ▹ e) s p ≡ stamp_then (released_at setup h s p) (nat_lt 0 (count_of (releases_live p) lives e.calls))
+            (length (presents s h)) =
             ap (λ (k : ℕ). first_at (happens_often setup (releases_viewport p) k) s (h ▹ e)) n ∙ sym (step.opened still) in
             ap (λ (b : Bool). cond b [] ((let o : OutToken = record { pair = p; released = released_at setup (h ▹ e) s p } in o) ∷ [])) (kept ∙ out)
             ∙ ap (λ (r : Option ℕ). let o : OutToken = record { pair = p; released = r } in o ∷ []) stamp ∙ sym (rw out refl)
@@ -169,12 +186,15 @@ module _ (setup : Setup) (s : SessionNo) (declared : is_declared setup s ≡ tru
     pub outs-own : is_finish e.kind ≡ false → ((p : PairNo) → owns_viewport setup s p ≡ true → (uses_viewport p e.kind && is_done e.reply) ≡ false)
         → outs_of setup (h ▹ e) s ≡ map (marked lives e.calls (length (presents s h))) (outs_of setup h s)
     outs-own no_finish no_use =
-        flat-same (owns_viewport setup s) (out_of setup (h ▹ e) s) (λ p. map (marked lives e.calls (length (presents s h))) (out_of setup h s p)) (λ p owned. own-out p owned no_finish (no_use p owned)) (viewports_of setup s) (viewports-owned setup s)
+        flat-same (owns_viewport setup s) (out_of setup (h ▹ e) s) (λ p. map (marked lives e.calls (length (presents s h))) (out_of setup h s p))
+        (λ p owned. own-out p owned no_finish (no_use p owned)) (viewports_of setup s) (viewports-owned setup s)
         ∙ sym (flat-mapped (marked lives e.calls (length (presents s h))) (out_of setup h s) (viewports_of setup s))
 
   -- its own entry that uses no viewport end, whether it closes the session or not
-  pub viewports-own : (h : List Entry) (e : Entry) → Legal setup (h ▹ e) → is_session s e.actor ≡ true → is_finish e.kind ≡ false → ((p : PairNo) → owns_viewport setup s p ≡ true → (uses_viewport p e.kind && is_done e.reply) ≡ false)
-      → (live : List Live) (out : List OutToken) → AreViewports setup h s live out → AreViewports setup (h ▹ e) s (lives_after live e.calls) (map (marked live e.calls (length (presents s h))) out)
+  pub viewports-own : (h : List Entry) (e : Entry) → Legal setup (h ▹ e) → is_session s e.actor ≡ true → is_finish e.kind ≡ false
+      → ((p : PairNo) → owns_viewport setup s p ≡ true → (uses_viewport p e.kind && is_done e.reply) ≡ false)
+      → (live : List Live) (out : List OutToken) → AreViewports setup h s live out
+      → AreViewports setup (h ▹ e) s (lives_after live e.calls) (map (marked live e.calls (length (presents s h))) out)
   viewports-own h e legal mine no_finish no_use live out old = record {
     lives = λ o.
         let before : is_closed s h ≡ false = closed-before (is_session s e.actor) e (own s h) o in
@@ -182,5 +202,6 @@ module _ (setup : Setup) (s : SessionNo) (declared : is_declared setup s ≡ tru
     outs = λ o.
         let before : is_closed s h ≡ false = closed-before (is_session s e.actor) e (own s h) o in
         ap (map (marked live e.calls (length (presents s h)))) (old.outs before)
-        ∙ ap (λ (l : List Live). map (marked l e.calls (length (presents s h))) (outs_of setup h s)) (old.lives before) ∙ sym (outs-own h e legal mine o no_finish no_use);
+        ∙ ap (λ (l : List Live). map (marked l e.calls (length (presents s h))) (outs_of setup h s)) (old.lives before)
+        ∙ sym (outs-own h e legal mine o no_finish no_use);
   }

@@ -55,12 +55,14 @@ pub unused-fresh : (setup : Setup) (h : List Entry) → Legal setup h → (p : P
 unused-fresh setup [] legal p = refl
 unused-fresh setup (h ▹ e) legal p =
     settled-now setup (child_of p 0) h e (never-asked setup h e legal p)
-    ∙ ap (λ (v : Watching). settled (is_open setup (viewport_owner setup p) (h ▹ e)) (told setup (h ▹ e) (child_of p 0)) v) (unused-fresh setup h legal.0 p) ∙ nothing-settled (is_open setup (viewport_owner setup p) (h ▹ e)) (told setup (h ▹ e) (child_of p 0))
+    ∙ ap (λ (v : Watching). settled (is_open setup (viewport_owner setup p) (h ▹ e)) (told setup (h ▹ e) (child_of p 0)) v) (unused-fresh setup h legal.0 p)
+    ∙ nothing-settled (is_open setup (viewport_owner setup p) (h ▹ e)) (told setup (h ▹ e) (child_of p 0))
 
 -- ---- watchers that rest
 
 -- a session that isn't declared waits for nothing
-pub undeclared-waits : (setup : Setup) (k : List Entry) → Legal setup k → (t : SessionNo) → is_declared setup t ≡ false → (w : Watcher) → hears setup t w ≡ true → (watching setup w k).waits ≡ None
+pub undeclared-waits : (setup : Setup) (k : List Entry) → Legal setup k → (t : SessionNo) → is_declared setup t ≡ false → (w : Watcher) → hears setup t w ≡ true
+    → (watching setup w k).waits ≡ None
 undeclared-waits setup [] whole t out w heard = refl
 undeclared-waits setup (k ▹ x) whole t out w heard =
     let before : (watching setup w k).waits ≡ None = undeclared-waits setup k whole.0 t out w heard in
@@ -79,7 +81,8 @@ undeclared-waits setup (k ▹ x) whole t out w heard =
             sym declared ∙ ap (λ (n : ℕ). nat_lt 0 n && nat_le n setup.sessions) number ∙ out
 
 -- a watcher whose session doesn't listen rests
-pub rests-shut : (setup : Setup) (h : List Entry) (e : Entry) (w : Watcher) → is_open setup (listener setup w) (h ▹ e) ≡ false → asked setup w h e ≡ None → watching setup w (h ▹ e) ≡ watching setup w h
+pub rests-shut : (setup : Setup) (h : List Entry) (e : Entry) (w : Watcher) → is_open setup (listener setup w) (h ▹ e) ≡ false → asked setup w h e ≡ None
+    → watching setup w (h ▹ e) ≡ watching setup w h
 rests-shut setup h e w shut idle = settled-now setup w h e idle ∙ ap (λ (b : Bool). settled b (told setup (h ▹ e) w) (watching setup w h)) shut
 
 module _ (setup : Setup) (h : List Entry) (e : Entry) (legal : Legal setup (h ▹ e)) where
@@ -96,18 +99,21 @@ module _ (setup : Setup) (h : List Entry) (e : Entry) (legal : Legal setup (h �
   pub use-kind : (q : PairNo) (props : ViewportProps) → e.kind ≡ Viewport q props → IsUse q e.kind
   use-kind q props is = subst (IsUse q) (sym is) (refl, (refl, λ p. refl))
 
-  pub apart-view : (q p : PairNo) → (p.0 == q.0) ≡ false → (w : Watcher) → pair_watched w ≡ p → (same_watcher w (layout_of q) ≡ false) × (same_watcher w (status_of q) ≡ false)
+  pub apart-view : (q p : PairNo) → (p.0 == q.0) ≡ false → (w : Watcher) → pair_watched w ≡ p
+      → (same_watcher w (layout_of q) ≡ false) × (same_watcher w (status_of q) ≡ false)
   apart-view q p other (layout_of r) of = (ap (λ (x : PairNo). x.0 == q.0) of ∙ other, refl)
   apart-view q p other (status_of r) of = (refl, ap (λ (x : PairNo). x.0 == q.0) of ∙ other)
   apart-view q p other (child_of r n) of = (refl, refl)
 
-  pub other-uses : (q : PairNo) (props : ViewportProps) → e.kind ≡ Viewport q props → (p : PairNo) → (p.0 == q.0) ≡ false → length (viewport_uses p (h ▹ e)) ≡ length (viewport_uses p h)
+  pub other-uses : (q : PairNo) (props : ViewportProps) → e.kind ≡ Viewport q props → (p : PairNo) → (p.0 == q.0) ≡ false
+      → length (viewport_uses p (h ▹ e)) ≡ length (viewport_uses p h)
   other-uses q props kind p other =
       let k : IsUse q e.kind = use-kind q props kind in
       let differ : (q.0 == p.0) ≡ false = grind (arith, nat_tests) in
       rw (k.1.1 p, differ) refl
 
-  pub new-use : (q : PairNo) (props : ViewportProps) → e.kind ≡ Viewport q props → is_done e.reply ≡ true → length (viewport_uses q (h ▹ e)) ≡ length (viewport_uses q h) + 1
+  pub new-use : (q : PairNo) (props : ViewportProps) → e.kind ≡ Viewport q props → is_done e.reply ≡ true
+      → length (viewport_uses q (h ▹ e)) ≡ length (viewport_uses q h) + 1
   new-use q props kind done =
       let k : IsUse q e.kind = use-kind q props kind in
       let same : (q.0 == q.0) ≡ true = grind (arith, nat_tests) in
@@ -115,7 +121,8 @@ module _ (setup : Setup) (h : List Entry) (e : Entry) (legal : Legal setup (h �
 
 -- ---- who is closed doesn't listen
 
-pub heard-shut : (o : Option Actor) (s : SessionNo) (h : List Entry) → unwrap_or (option_map (is_session s) o) false ≡ true → is_closed s h ≡ true → (setup : Setup) → is_open setup o h ≡ false
+pub heard-shut : (o : Option Actor) (s : SessionNo) (h : List Entry) → unwrap_or (option_map (is_session s) o) false ≡ true → is_closed s h ≡ true
+    → (setup : Setup) → is_open setup o h ≡ false
 heard-shut None s h heard closed setup = cc
 heard-shut (Some Display) s h heard closed setup = refl
 heard-shut (Some (Probe n)) s h heard closed setup = refl

@@ -35,7 +35,8 @@ pub formers-same : (f g : ℕ → Watching) → ((k : ℕ) → f k ≡ g k) → 
 formers-same f g same n = flat-each (λ k. former_of (f k)) (λ k. former_of (g k)) (λ k. ap former_of (same k)) (up_to n)
 
 formers-last : (f : ℕ → Watching) (n : ℕ) → former_gets f (suc n) ≡ former_gets f n ++ former_of (f (suc n))
-formers-last f n = flat_map-append (λ k. former_of (f k)) (up_to n) (suc n ∷ []) ∙ ap (λ (l : List FormerGet). former_gets f n ++ l) (append-nil (former_of (f (suc n))))
+formers-last f n = flat_map-append (λ k. former_of (f k)) (up_to n) (suc n ∷ [])
+    ∙ ap (λ (l : List FormerGet). former_gets f n ++ l) (append-nil (former_of (f (suc n))))
 
 pub formers-below : (f g : ℕ → Watching) (n : ℕ) → ((k : ℕ) → 0 < k → k ≤ n → f k ≡ g k) → former_gets f n ≡ former_gets g n
 formers-below f g zero same = refl
@@ -53,7 +54,8 @@ former-more f (suc n) none = let less : suc n - 1 ≡ n = omega arith in ap (λ 
 former-settled : (now : Option Told) (w : Watching) → former_of (settled true now w) ≡ still_waiting now (former_of w)
 former-settled now w = by_waits w.waits
   where
-    by_news : (get : Watch) (o : Option Told) → former_of (answered_by o (record { last = w.last; waits = Some get })) ≡ cond (not (is_some o)) ((record { get = get; last = w.last }) ∷ []) []
+    by_news : (get : Watch) (o : Option Told) → former_of (answered_by o (record { last = w.last; waits = Some get }))
+        ≡ cond (not (is_some o)) ((record { get = get; last = w.last }) ∷ []) []
     by_news get (Some value) = refl
     by_news get None = refl
 
@@ -62,7 +64,8 @@ former-settled now w = by_waits w.waits
     by_waits (Some get) = by_news get (news now w.last)
 
 -- those of earlier uses that wait on, where each was told this
-pub formers-settled : (now : Option Told) (f g : ℕ → Watching) (n : ℕ) → ((k : ℕ) → g k ≡ settled true now (f k)) → former_gets g n ≡ still_waiting now (former_gets f n)
+pub formers-settled : (now : Option Told) (f g : ℕ → Watching) (n : ℕ) → ((k : ℕ) → g k ≡ settled true now (f k))
+    → former_gets g n ≡ still_waiting now (former_gets f n)
 formers-settled now f g n told =
     flat-each (λ k. former_of (g k)) (λ k. still_waiting now (former_of (f k))) (λ k. ap former_of (told k) ∙ former-settled now (f k)) (up_to n)
     ∙ sym (flat-filtered (λ (former : FormerGet). not (is_some (news now former.last))) (λ k. former_of (f k)) (up_to n))
@@ -85,11 +88,19 @@ module _ (setup : Setup) where
   pub at-unasked : (p : PairNo) (w : PairWatchers) → IsUnasked w → AreAt setup [] [] p w
   at-unasked p w is = record { layout = is.layout; status = is.status; child = is.child; former = is.former }
 
-  pub at-same : (view viewport : List Entry) (p : PairNo) (old new : PairWatchers) → IsSameBut old new → AreAt setup view viewport p old → AreAt setup view viewport p new
-  at-same view viewport p old new same is = record { layout = same.layout ∙ is.layout; status = same.status ∙ is.status; child = same.child ∙ is.child; former = same.former ∙ is.former }
+  pub at-same : (view viewport : List Entry) (p : PairNo) (old new : PairWatchers) → IsSameBut old new → AreAt setup view viewport p old
+      → AreAt setup view viewport p new
+  at-same view viewport p old new same is = record {
+    layout = same.layout ∙ is.layout;
+    status = same.status ∙ is.status;
+    child = same.child ∙ is.child;
+    former = same.former ∙ is.former;
+  }
 
   -- its watchers rest, and no viewport end of it is used
-  pub at-rested : (h h' : List Entry) (p : PairNo) (w : PairWatchers) → AreAt setup h h p w → ((v : Watcher) → pair_watched v ≡ p → watching setup v h' ≡ watching setup v h) → length (viewport_uses p h') ≡ length (viewport_uses p h) → AreAt setup h' h' p w
+  pub at-rested : (h h' : List Entry) (p : PairNo) (w : PairWatchers) → AreAt setup h h p w
+      → ((v : Watcher) → pair_watched v ≡ p → watching setup v h' ≡ watching setup v h) → length (viewport_uses p h') ≡ length (viewport_uses p h)
+      → AreAt setup h' h' p w
   at-rested h h' p w is rests same =
       let then : (k : ℕ) → watching setup (child_of p k) h ≡ watching setup (child_of p k) h' = λ k. sym (rests (child_of p k) refl) in
       record {
@@ -102,7 +113,8 @@ module _ (setup : Setup) where
       }
 
   -- its viewport end is used anew
-  pub at-started : (h : List Entry) (e : Entry) → Legal setup (h ▹ e) → (p : PairNo) (old new : PairWatchers) → IsStarted old new → length (viewport_uses p (h ▹ e)) ≡ length (viewport_uses p h) + 1
+  pub at-started : (h : List Entry) (e : Entry) → Legal setup (h ▹ e) → (p : PairNo) (old new : PairWatchers) → IsStarted old new
+      → length (viewport_uses p (h ▹ e)) ≡ length (viewport_uses p h) + 1
       → ((k : ℕ) → watching setup (child_of p k) (h ▹ e) ≡ watching setup (child_of p k) h) → AreAt setup (h ▹ e) h p old → AreAt setup (h ▹ e) (h ▹ e) p new
   at-started h e legal p old new started more rests is =
       let n : ℕ = length (viewport_uses p h) in
@@ -116,8 +128,10 @@ module _ (setup : Setup) where
         status = started.status ∙ is.status;
         child = started.child ∙ sym fresh ∙ ap g (sym more);
         former =
-            started.former ∙ ap (λ (l : List FormerGet). l ++ former_of old.child) is.former ∙ ap (λ (w : Watching). former_gets f (n - 1) ++ former_of w) is.child
-            ∙ former-more f n none ∙ formers-same f g (λ k. sym (rests k)) n ∙ ap (former_gets g) (let less : n ≡ length (viewport_uses p (h ▹ e)) - 1 = omega (arith, more) in less);
+            started.former ∙ ap (λ (l : List FormerGet). l ++ former_of old.child) is.former
+            ∙ ap (λ (w : Watching). former_gets f (n - 1) ++ former_of w) is.child
+            ∙ former-more f n none ∙ formers-same f g (λ k. sym (rests k)) n
+            ∙ ap (former_gets g) (let less : n ≡ length (viewport_uses p (h ▹ e)) - 1 = omega (arith, more) in less);
       }
 
 -- ---- up to which session an entry was told

@@ -38,7 +38,8 @@ abbrev pub waits_at : (PairWatchers → Bool) → List PairWatchers → PairNo �
 waits_at waits pairs p = unwrap_or (option_map waits (slice_get pairs p.0)) false
 
 -- Listed are some of these pairs, among them each that a session owns and of which a get waits.
-pub record IsList (owns : PairNo → Bool) (all : List PairNo) (waits : PairWatchers → Bool) (pairs : List PairWatchers) (listed : List PairNo) : Type 0 where
+pub record IsList (owns : PairNo → Bool) (all : List PairNo) (waits : PairWatchers → Bool) (pairs : List PairWatchers)
+    (listed : List PairNo) : Type 0 where
   pub some : PairNo → Bool
   pub are : listed ≡ filter some all
   pub each : (p : PairNo) → owns p ≡ true → some p ≡ false → waits_at waits pairs p ≡ false

@@ -119,7 +119,8 @@ pub record IsSameBut (old new : PairWatchers) : Type 0 where
 
 -- how many gets wait
 abbrev pub waiting_in : PairWatchers → ℕ
-waiting_in w = number_if (is_some w.layout.waits) + number_if (is_some w.status.waits) + number_if (is_some w.child.waits) + length w.former.items
+waiting_in w = number_if (is_some w.layout.waits) + number_if (is_some w.status.waits) + number_if
+    (is_some w.child.waits) + length w.former.items
 
 -- ---- what is kept stands for histories
 
@@ -133,4 +134,5 @@ pub record AreAt (setup : Setup) (view viewport : List Entry) (p : PairNo) (w : 
   pub layout : w.layout ≡ watching setup (layout_of p) view
   pub status : w.status ≡ watching setup (status_of p) view
   pub child : w.child ≡ watching setup (child_of p (length (viewport_uses p viewport))) viewport
-  pub former : w.former.items ≡ former_gets (λ k. watching setup (child_of p k) viewport) (length (viewport_uses p viewport) - 1)
+  pub former : w.former.items ≡ former_gets (λ k. watching setup (child_of p k) viewport)
+      (length (viewport_uses p viewport) - 1)

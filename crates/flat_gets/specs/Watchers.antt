@@ -63,7 +63,8 @@ is_held Held = true
 is_held _ = false
 
 -- A session asks for a value of a pair, as it is told after the history.
-pub record IsAsked (setup : Setup) (history : List Entry) (s : SessionNo) (p : PairNo) (get : Watch) (reply : Reply) (old new : Watchers) : Type 0 where
+pub record IsAsked (setup : Setup) (history : List Entry) (s : SessionNo) (p : PairNo) (get : Watch) (reply : Reply)
+    (old new : Watchers) : Type 0 where
   pub was : PairWatchers
   pub then : PairWatchers
   pub from : KeptGets
@@ -73,10 +74,12 @@ pub record IsAsked (setup : Setup) (history : List Entry) (s : SessionNo) (p : P
   pub of_from : from ≡ slice_index_or old.sessions.items (s.0 - 1) from
   pub sessions_are : new.sessions.items ≡ slice_set old.sessions.items (s.0 - 1) to
   pub gets : IsGot (part_of get) get (told setup history (watcher_at (part_of get) p 0)) was then
-  pub replied : reply ≡ got (is_some (cell_at (part_of get) was).waits) (news (told setup history (watcher_at (part_of get) p 0)) (cell_at (part_of get) was).last)
+  pub replied : reply ≡ got (is_some (cell_at (part_of get) was).waits)
+      (news (told setup history (watcher_at (part_of get) p 0)) (cell_at (part_of get) was).last)
   pub counted : to.answers ≡ from.answers + number_if (is_now reply)
   pub views : to.views ≡ cond (is_held reply && not (is_child (part_of get))) (with_pair p from.views) from.views
-  pub viewports : to.viewports ≡ cond (is_held reply && is_child (part_of get)) (with_pair p from.viewports) from.viewports
+  pub viewports : to.viewports ≡ cond (is_held reply && is_child (part_of get)) (with_pair p from.viewports)
+      from.viewports
 
 -- ---- gets are answered
 
@@ -85,19 +88,24 @@ abbrev pub part_answers : Part → (PairNo → Option Told) → List PairWatcher
 part_answers part now pairs d = flat_map (λ p. part_events part p (now p) (slice_index_or pairs p.0 d))
 
 -- The listed pairs answer a part, by an entry of that place.
-pub record TellsEach (part : Part) (now : PairNo → Option Told) (place : ℕ) (s : SessionNo) (listed : List PairNo) (old new : List PairWatchers) (posts after : List Post) (count : ℕ) : Type 0 where
+pub record TellsEach (part : Part) (now : PairNo → Option Told) (place : ℕ) (s : SessionNo) (listed : List PairNo)
+    (old new : List PairWatchers) (posts after : List Post) (count : ℕ) : Type 0 where
   pub length_is : length new ≡ length old
-  pub told : (p : PairNo) (d : PairWatchers) → p.0 < length old → is_listed p.0 listed ≡ true → IsTold part (now p) (slice_index_or old p.0 d) (slice_index_or new p.0 d)
-  pub others : (i : ℕ) (d : PairWatchers) → i < length old → is_listed i listed ≡ false → slice_index_or new i d ≡ slice_index_or old i d
+  pub told : (p : PairNo) (d : PairWatchers) → p.0 < length old → is_listed p.0 listed ≡ true
+      → IsTold part (now p) (slice_index_or old p.0 d) (slice_index_or new p.0 d)
+  pub others : (i : ℕ) (d : PairWatchers) → i < length old → is_listed i listed ≡ false
+      → slice_index_or new i d ≡ slice_index_or old i d
   pub posted : (d : PairWatchers) → after ≡ posts ++ map (post_of place s) (part_answers part now old d listed)
   pub counted : (d : PairWatchers) → count ≡ length (part_answers part now old d listed)
 
 -- What is kept of a pair after all answers to a session, of which these pairs were listed.
-pub record IsToldAll (now : Watcher → Option Told) (from : KeptGets) (p : PairNo) (old new : PairWatchers) : Type 0 where
-  pub layout : new.layout ≡ settled (is_listed p.0 from.views) (now (watcher_at parts.Layout p 0)) old.layout
-  pub status : new.status ≡ settled (is_listed p.0 from.views) (now (watcher_at parts.Status p 0)) old.status
-  pub child : new.child ≡ settled (is_listed p.0 from.viewports) (now (watcher_at parts.Child p 0)) old.child
-  pub former : new.former.items ≡ cond (is_listed p.0 from.viewports) (still_waiting (now (watcher_at parts.Child p 0)) old.former.items) old.former.items
+pub record IsToldAll (now : Watcher → Option Told) (from : KeptGets) (p : PairNo) (old new : PairWatchers) : Type 0
+  where
+    pub layout : new.layout ≡ settled (is_listed p.0 from.views) (now (watcher_at parts.Layout p 0)) old.layout
+    pub status : new.status ≡ settled (is_listed p.0 from.views) (now (watcher_at parts.Status p 0)) old.status
+    pub child : new.child ≡ settled (is_listed p.0 from.viewports) (now (watcher_at parts.Child p 0)) old.child
+    pub former : new.former.items ≡ cond (is_listed p.0 from.viewports)
+        (still_waiting (now (watcher_at parts.Child p 0)) old.former.items) old.former.items
 
 -- all answers to a session, in order: layouts, statuses, children
 abbrev pub all_answers : (Watcher → Option Told) → KeptGets → List PairWatchers → PairWatchers → List Event
@@ -107,13 +115,15 @@ all_answers now from pairs d =
     ++ part_answers parts.Child (λ p. now (watcher_at parts.Child p 0)) pairs d from.viewports
 
 -- The gets of a session that wait are answered where there is news, and others aren't.
-pub record IsSettled (now : Watcher → Option Told) (place : ℕ) (s : SessionNo) (old new : Watchers) (posts after : List Post) (count : ℕ) : Type 0 where
+pub record IsSettled (now : Watcher → Option Told) (place : ℕ) (s : SessionNo) (old new : Watchers)
+    (posts after : List Post) (count : ℕ) : Type 0 where
   pub from : KeptGets
   pub to : KeptGets
   pub of_from : from ≡ slice_index_or old.sessions.items (s.0 - 1) from
   pub sessions_are : new.sessions.items ≡ slice_set old.sessions.items (s.0 - 1) to
   pub length_is : length new.pairs.items ≡ length old.pairs.items
-  pub each : (p : PairNo) (d : PairWatchers) → p.0 < length old.pairs.items → IsToldAll now from p (slice_index_or old.pairs.items p.0 d) (slice_index_or new.pairs.items p.0 d)
+  pub each : (p : PairNo) (d : PairWatchers) → p.0 < length old.pairs.items
+      → IsToldAll now from p (slice_index_or old.pairs.items p.0 d) (slice_index_or new.pairs.items p.0 d)
   pub posted : (d : PairWatchers) → after ≡ posts ++ map (post_of place s) (all_answers now from old.pairs.items d)
   pub counted : (d : PairWatchers) → count ≡ length (all_answers now from old.pairs.items d)
   pub total : to.answers ≡ from.answers + count
@@ -128,21 +138,28 @@ pub record IsViewTold (now : Watcher → Option Told) (p : PairNo) (old new : Pa
   pub former : new.former.items ≡ old.former.items
 
 -- The gets of a pair's view that wait are answered where there is news, to a session.
-pub record TellsView (now : Watcher → Option Told) (place : ℕ) (s : SessionNo) (p : PairNo) (old new : Watchers) (posts after : List Post) (count : ℕ) : Type 0 where
+pub record TellsView (now : Watcher → Option Told) (place : ℕ) (s : SessionNo) (p : PairNo) (old new : Watchers)
+    (posts after : List Post) (count : ℕ) : Type 0 where
   pub was : PairWatchers
   pub then : PairWatchers
   pub from : KeptGets
   pub of_was : was ≡ slice_index_or old.pairs.items p.0 was
   pub pairs_are : new.pairs.items ≡ slice_set old.pairs.items p.0 then
   pub of_from : from ≡ slice_index_or old.sessions.items (s.0 - 1) from
-  pub sessions_are : new.sessions.items ≡ slice_set old.sessions.items (s.0 - 1) (record from { answers = from.answers + count })
+  pub sessions_are : new.sessions.items ≡ slice_set old.sessions.items (s.0 - 1)
+      (record from { answers = from.answers + count })
   pub told : IsViewTold now p was then
-  pub posted : after ≡ posts ++ map (post_of place s) (event_of p was.layout.waits (answer (now (layout_of p)) was.layout) ++ event_of p was.status.waits (answer (now (status_of p)) was.status))
-  pub counted : count ≡ length (event_of p was.layout.waits (answer (now (layout_of p)) was.layout) ++ event_of p was.status.waits (answer (now (status_of p)) was.status))
+  pub posted : after ≡ posts ++ map (post_of place s)
+      (event_of p was.layout.waits (answer (now (layout_of p)) was.layout)
+      ++ event_of p was.status.waits (answer (now (status_of p)) was.status))
+  pub counted : count ≡ length (event_of p was.layout.waits (answer (now (layout_of p)) was.layout)
+      ++ event_of p was.status.waits (answer (now (status_of p)) was.status))
 
 -- the room is there for one more use of the viewport end of a pair
 abbrev pub HasRoomAt : PairNo → Watchers → Type 0
-HasRoomAt p watchers = (d : PairWatchers) → length (slice_index_or watchers.pairs.items p.0 d).former.items < vec_capacity (slice_index_or watchers.pairs.items p.0 d).former
+HasRoomAt p watchers = (d : PairWatchers)
+    → length (slice_index_or watchers.pairs.items p.0 d).former.items < vec_capacity
+    (slice_index_or watchers.pairs.items p.0 d).former
 
 -- ---- what is kept stands for a history
 
@@ -171,8 +188,10 @@ reached n _ after before = before
 pub record WatchedUpTo (setup : Setup) (n : ℕ) (after before : List Entry) (watchers : Watchers) : Type 0 where
   pub count : length watchers.pairs.items ≡ length setup.pairs
   pub sessions : length watchers.sessions.items ≡ setup.sessions
-  pub each : AllNumbered (λ i. AreAt setup (reached n (listener setup (layout_of (pair i))) after before) (reached n (viewport_owner setup (pair i)) after before) (pair i)) watchers.pairs.items
-  pub answered : AllNumbered (λ i one. one.answers ≡ answers setup (number i) (cond (nat_lt i n) after before)) watchers.sessions.items
+  pub each : AllNumbered (λ i. AreAt setup (reached n (listener setup (layout_of (pair i))) after before)
+      (reached n (viewport_owner setup (pair i)) after before) (pair i)) watchers.pairs.items
+  pub answered : AllNumbered (λ i one. one.answers ≡ answers setup (number i) (cond (nat_lt i n) after before))
+      watchers.sessions.items
   pub listed : AllNumbered (λ i. AreListed setup (number i) watchers.pairs.items) watchers.sessions.items
   pub few : told_and_due watchers ≤ gets_made before
 
@@ -180,11 +199,13 @@ pub record WatchedUpTo (setup : Setup) (n : ℕ) (after before : List Entry) (wa
 
 -- whether a session is closed by its state, or isn't one of these
 abbrev pub is_shut : List SessionState → SessionNo → Bool
-is_shut sessions s = cond (s.0 == 0) true (unwrap_or (option_map (λ state. state.closed) (slice_get sessions (s.0 - 1))) true)
+is_shut sessions s = cond (s.0 == 0) true
+    (unwrap_or (option_map (λ state. state.closed) (slice_get sessions (s.0 - 1))) true)
 
 -- An entry uses the viewport end of a pair, whose view this session owns, or is refused to.
 -- The session is shut where it is closed, or isn't one of the setup.
-pub record IsJoin (setup : Setup) (history : List Entry) (entry : Entry) (is_held : Bool) (owner : SessionNo) (shut : Bool) (p : PairNo) : Type 0 where
+pub record IsJoin (setup : Setup) (history : List Entry) (entry : Entry) (is_held : Bool) (owner : SessionNo)
+    (shut : Bool) (p : PairNo) : Type 0 where
   pub legal : Legal setup (history ▹ entry)
   pub props : ViewportProps
   pub kind : entry.kind ≡ Viewport p props
@@ -195,7 +216,8 @@ pub record IsJoin (setup : Setup) (history : List Entry) (entry : Entry) (is_hel
   pub closed : shut ≡ true → (is_declared setup owner ≡ false) ⊎ (is_closed owner history ≡ true)
 
 -- What is kept by which pairs tell stands for a history.
-pub record IsTelling (kept_for : Setup) (port : DisplayPort) (ties : Ties) (views : List Bool) (setup : Setup) (history : List Entry) : Type 0 where
+pub record IsTelling (kept_for : Setup) (port : DisplayPort) (ties : Ties) (views : List Bool) (setup : Setup)
+    (history : List Entry) : Type 0 where
   pub same : kept_for ≡ setup
   pub shows : port ≡ port_of (ratio_told setup history) setup
   pub legal : Legal setup history

@@ -19,7 +19,8 @@ use Rattle.flat_graph.proofs.Refusals.{hands_on, hands_fault_on}
 use Rattle.flat_graph.proofs.Soundness.{graph-changed, kept-push}
 
 -- the graph in which a named node is changed
-pub is_changed : (graph : GraphState) (id key : ℕ) (node : GraphNode) (change : GraphNode → GraphNode) → key_named graph.names id ≡ Some key → node_at graph key ≡ Some node
+pub is_changed : (graph : GraphState) (id key : ℕ) (node : GraphNode) (change : GraphNode → GraphNode) → key_named graph.names id ≡ Some key
+    → node_at graph key ≡ Some node
     → with_node graph key (change node) ≡ change_named graph id change
 is_changed graph id key node change named there =
     sym (ap (λ (k : Option ℕ). change_at graph k change) named ∙ ap (changed_node graph key change) there)
@@ -30,16 +31,20 @@ is_kept graph key node there = ap (λ (nodes : List (Option GraphNode)). let g :
     (ap (slice_set graph.nodes key) (sym there) ∙ set-get_or graph.nodes key None)
 
 -- two ids that name no two nodes
-pub pair_refused : (graph : GraphState) (parent child : ℕ) (result : Result (Unit {0}) GraphFault) (fault : GraphFault) → IsErrAnd result (λ given. given ≡ fault) → IsMisuse (pair_tests graph parent child) fault
+pub pair_refused : (graph : GraphState) (parent child : ℕ) (result : Result (Unit {0}) GraphFault) (fault : GraphFault)
+    → IsErrAnd result (λ given. given ≡ fault) → IsMisuse (pair_tests graph parent child) fault
     → IfErr result (IsFault (add_tests graph parent child))
 pair_refused graph parent child result =
-    hands_fault_on result (pair_tests graph parent child) ((is_child graph parent child, AlreadyChild) ∷ (is_full CHILDREN_MAX (children_of graph parent), TooManyChildren) ∷ [])
+    hands_fault_on result (pair_tests graph parent child)
+    ((is_child graph parent child, AlreadyChild) ∷ (is_full CHILDREN_MAX (children_of graph parent), TooManyChildren) ∷ [])
 
-pub pair_stays_refused : (graph : GraphState) (parent child : ℕ) (result : Result (Unit {0}) GraphFault) (fault : GraphFault) → IsErrAnd result (λ given. given ≡ fault) → IsMisuse (pair_tests graph parent child) fault
+pub pair_stays_refused : (graph : GraphState) (parent child : ℕ) (result : Result (Unit {0}) GraphFault) (fault : GraphFault)
+    → IsErrAnd result (λ given. given ≡ fault) → IsMisuse (pair_tests graph parent child) fault
     → IfErr result (IsMisuse (remove_tests graph parent child))
 pair_stays_refused graph parent child result = hands_on result (pair_tests graph parent child) ((not (is_child graph parent child), NotChild) ∷ [])
 
-module _ (graph : GraphState) (parent child over under : ℕ) (node : GraphNode) (named : key_named graph.names parent ≡ Some over) (second : key_named graph.names child ≡ Some under) (there : node_at graph over ≡ Some node) where
+module _ (graph : GraphState) (parent child over under : ℕ) (node : GraphNode) (named : key_named graph.names parent ≡ Some over)
+    (second : key_named graph.names child ≡ Some under) (there : node_at graph over ≡ Some node) where
   pub child_added : (result : Result (Unit {0}) GraphFault) (children : List ℕ) → OnOk result (children ≡ node.children ++ under ∷ [])
       → OnOk result (with_node graph over (record node { children = children }) ≡ change_named graph parent (with_child (key_named graph.names child)))
   child_added result children = on_ok_weaker result (λ e.
@@ -53,7 +58,8 @@ module _ (graph : GraphState) (parent child over under : ℕ) (node : GraphNode)
       ap (λ (cs : List ℕ). with_node graph over (record node { children = cs })) e ∙ is_kept graph over node there)
 
   pub child_kept : (places : ℕ) → IsGraph places graph → IsKept graph.nodes under → (result : Result (Unit {0}) GraphFault) (children : List ℕ)
-      → OnOk result (children ≡ node.children ++ under ∷ []) → OnErr result (children ≡ node.children) → IsGraph places (with_node graph over (record node { children = children }))
+      → OnOk result (children ≡ node.children ++ under ∷ []) → OnErr result (children ≡ node.children)
+      → IsGraph places (with_node graph over (record node { children = children }))
   child_kept places g kept (Ok done) children added same =
       graph-changed places graph over node _ g there (rw added (kept-push graph.nodes node.children under (g.sound.children_kept over node there) kept))
   child_kept places g kept (Err fault) children added same = graph-changed places graph over node _ g there (rw same (g.sound.children_kept over node there))
@@ -61,17 +67,20 @@ module _ (graph : GraphState) (parent child over under : ℕ) (node : GraphNode)
   -- what is asked of a child is asked of the node's children
   asked : first_reason (pair_tests graph parent child) ≡ None → first_reason (add_tests graph parent child) ≡ first_reason (child_tests node.children under)
   asked passed =
-      let tests = λ (children : List ℕ) (key : Option ℕ). let ts : List Test = (has_key children key, AlreadyChild) ∷ (is_full CHILDREN_MAX children, TooManyChildren) ∷ [] in ts in
+      let tests = λ (children : List ℕ) (key : Option ℕ). let ts : List Test =
+      (has_key children key, AlreadyChild) ∷ (is_full CHILDREN_MAX children, TooManyChildren) ∷ [] in ts in
       passed_on (pair_tests graph parent child) (tests (children_at graph (key_named graph.names parent)) (key_named graph.names child)) passed
       ∙ ap (λ (k : Option ℕ). first_reason (tests (children_at graph k) (key_named graph.names child))) named
       ∙ ap (λ (n : Option GraphNode). first_reason (tests (links_of n) (key_named graph.names child))) there
       ∙ ap (λ (k : Option ℕ). first_reason (tests node.children k)) second
 
-  pub child_allowed : (result : Result (Unit {0}) GraphFault) → first_reason (pair_tests graph parent child) ≡ None → OnOk result (first_reason (child_tests node.children under) ≡ None)
+  pub child_allowed : (result : Result (Unit {0}) GraphFault) → first_reason (pair_tests graph parent child) ≡ None
+      → OnOk result (first_reason (child_tests node.children under) ≡ None)
       → OnOk result (first_reason (add_tests graph parent child) ≡ None)
   child_allowed result passed = on_ok_weaker result (λ e. asked passed ∙ e)
 
-  pub child_fault : (result : Result (Unit {0}) GraphFault) → first_reason (pair_tests graph parent child) ≡ None → IfErr result (IsFault (child_tests node.children under))
+  pub child_fault : (result : Result (Unit {0}) GraphFault) → first_reason (pair_tests graph parent child) ≡ None
+      → IfErr result (IsFault (child_tests node.children under))
       → IfErr result (IsFault (add_tests graph parent child))
   child_fault (Ok done) passed fault = tt
   child_fault (Err (Bad reason)) passed fault = asked passed ∙ fault
@@ -82,10 +91,12 @@ module _ (graph : GraphState) (parent child over under : ℕ) (node : GraphNode)
   is_there = ap (λ (k : Option ℕ). has_key (children_at graph k) (key_named graph.names child)) named
       ∙ ap (λ (n : Option GraphNode). has_key (links_of n) (key_named graph.names child)) there ∙ ap (has_key node.children) second
 
-  pub going_allowed : first_reason (pair_tests graph parent child) ≡ None → has_key node.children (Some under) ≡ true → first_reason (remove_tests graph parent child) ≡ None
+  pub going_allowed : first_reason (pair_tests graph parent child) ≡ None → has_key node.children (Some under) ≡ true
+      → first_reason (remove_tests graph parent child) ≡ None
   going_allowed passed found = allowed_by (pair_tests graph parent child) (not (is_child graph parent child)) NotChild passed (ap not (is_there ∙ found))
 
-  pub going_refused : first_reason (pair_tests graph parent child) ≡ None → has_key node.children (Some under) ≡ false → first_reason (remove_tests graph parent child) ≡ Some NotChild
+  pub going_refused : first_reason (pair_tests graph parent child) ≡ None → has_key node.children (Some under) ≡ false
+      → first_reason (remove_tests graph parent child) ≡ Some NotChild
   going_refused passed missed = refused_by (pair_tests graph parent child) (not (is_child graph parent child)) NotChild passed (ap not (is_there ∙ missed))
 
   pub child_gone : (children : List ℕ) → children ≡ filter (λ other. not (other == under)) node.children

@@ -13,12 +13,14 @@ misuse_before : (tests more : List Test) (fault : GraphFault) → IsMisuse tests
 misuse_before tests more (Bad reason) e = refused_before tests more reason e
 misuse_before tests more Memory e = e
 
-pub hands_on : {T : Type 0} (answer : Result T GraphFault) (tests more : List Test) (fault : GraphFault) → IsErrAnd answer (λ given. given ≡ fault) → IsMisuse tests fault
+pub hands_on : {T : Type 0} (answer : Result T GraphFault) (tests more : List Test) (fault : GraphFault) → IsErrAnd answer (λ given. given ≡ fault)
+    → IsMisuse tests fault
     → IfErr answer (IsMisuse (tests ++ more))
 hands_on (Ok done) tests more fault is e = tt
 hands_on (Err given) tests more fault is e = misuse_before tests more given (subst (IsMisuse tests) (sym is) e)
 
-pub hands_fault_on : {T : Type 0} (answer : Result T GraphFault) (tests more : List Test) (fault : GraphFault) → IsErrAnd answer (λ given. given ≡ fault) → IsMisuse tests fault
+pub hands_fault_on : {T : Type 0} (answer : Result T GraphFault) (tests more : List Test) (fault : GraphFault) → IsErrAnd answer (λ given. given ≡ fault)
+    → IsMisuse tests fault
     → IfErr answer (IsFault (tests ++ more))
 hands_fault_on (Ok done) tests more fault is e = tt
 hands_fault_on (Err (Bad reason)) tests more fault is e = misuse_before tests more (Bad reason) (subst (IsMisuse tests) (sym is) e)

@@ -1,5 +1,6 @@
 -- What each change of a graph leaves sound.
-use Rattle.std.proofs.Common.{ℕ, zero, suc, ◌+◌, ◌<◌, ◌≤◌, ◌≡◌, ◌≢◌, ◌⊎◌, inl, inr, refl, sym, ◌∙◌, ap, subst, Bool, true, false, cond, List, [], ◌∷◌, ◌++◌, filter, map, Option, Some, None, slice_index_or, slice_set, length, arith}
+use Rattle.std.proofs.Common.{ℕ, zero, suc, ◌+◌, ◌<◌, ◌≤◌, ◌≡◌, ◌≢◌, ◌⊎◌, inl, inr, refl, sym, ◌∙◌, ap, subst, Bool, true, false, cond, List, [], ◌∷◌, ◌++◌}
+use Rattle.std.proofs.Common.{filter, map, Option, Some, None, slice_index_or, slice_set, length, arith}
 use Rattle.std.specs.Prelude.{◌==◌, is_some, count_by, Result, Ok, Err, OnOk, is_ok}
 use Rattle.std.specs.Option.{option_map}
 use Rattle.std.specs.List.{Contains, cons_option}
@@ -35,7 +36,8 @@ kept-more old new key node adds k kept = by_key (eqb_tells k key)
     by_key (inr apart) = rw (adds.others k apart.1) kept
 
 -- a node of the new nodes is an old one or the new one
-pub node-added : (old new : List (Option GraphNode)) (key : ℕ) (node other : GraphNode) → AddsNode old new key node → (k : ℕ) → slice_index_or new k None ≡ Some other
+pub node-added : (old new : List (Option GraphNode)) (key : ℕ) (node other : GraphNode) → AddsNode old new key node → (k : ℕ)
+    → slice_index_or new k None ≡ Some other
     → (slice_index_or old k None ≡ Some other) ⊎ ((k ≡ key) × (other ≡ node))
 node-added old new key node other adds k h = by_key (eqb_tells k key)
   where
@@ -56,14 +58,17 @@ sound-created old nodes id key serial sound adds absent some = record {
   rising = rising-with (record { id = id; key = key }) old.names absent sound.rising;
   no_zero = named-with (record { id = id; key = key }) old.names 0 absent ∙ zero_none (id == 0) refl;
   apart = λ a b k h h'.
-      by_two a b k (id == a) refl (id == b) refl (sym (named-with (record { id = id; key = key }) old.names a absent) ∙ h) (sym (named-with (record { id = id; key = key }) old.names b absent) ∙ h');
+      by_two a b k (id == a) refl (id == b) refl (sym (named-with (record { id = id; key = key }) old.names a absent) ∙ h)
+      (sym (named-with (record { id = id; key = key }) old.names b absent) ∙ h');
 }
   where
     -- the key of the new node was free
     not_old : (a k : ℕ) → key ≡ k → key_named old.names a ≡ Some k → ⊥
-    not_old a k same h = let was : IsKept old.nodes k = sound.names_kept a k h in let free : IsKept old.nodes key = rw same was in let no : ◌≡◌ {A = Bool} false true = rw adds.was_free at free in cc
+    not_old a k same h = let was : IsKept old.nodes k = sound.names_kept a k h in let free : IsKept old.nodes key =
+        rw same was in let no : ◌≡◌ {A = Bool} false true = rw adds.was_free at free in cc
 
-    by_two : (a b k : ℕ) (x : Bool) → (id == a) ≡ x → (y : Bool) → (id == b) ≡ y → cond x (Some key) (key_named old.names a) ≡ Some k → cond y (Some key) (key_named old.names b) ≡ Some k → a ≡ b
+    by_two : (a b k : ℕ) (x : Bool) → (id == a) ≡ x → (y : Bool) → (id == b) ≡ y → cond x (Some key) (key_named old.names a) ≡ Some k
+        → cond y (Some key) (key_named old.names b) ≡ Some k → a ≡ b
     by_two a b k true e true e' h h' = grind (arith, nat_tests)
     by_two a b k true e false e' h h' = absurd (not_old b k (cc) h')
     by_two a b k false e true e' h h' = absurd (not_old a k (cc) h)
@@ -80,14 +85,16 @@ sound-created old nodes id key serial sound adds absent some = record {
     zero_none true e = absurd (some (grind (arith, nat_tests)))
     zero_none false e = sound.no_zero
 
-    by_node : (k : ℕ) (node : GraphNode) (child : ℕ) → Contains node.children child → (slice_index_or old.nodes k None ≡ Some node) ⊎ ((k ≡ key) × (node ≡ new_node serial)) → IsKept nodes child
+    by_node : (k : ℕ) (node : GraphNode) (child : ℕ) → Contains node.children child
+        → (slice_index_or old.nodes k None ≡ Some node) ⊎ ((k ≡ key) × (node ≡ new_node serial)) → IsKept nodes child
     by_node k node child has (inl h) = kept child (sound.children_kept k node h child has)
     by_node k node child has (inr same) =
         let none : Contains [] child = subst (λ (n : GraphNode). Contains n.children child) same.1 has in
         let no : none.0 < 0 = none.1 in
         absurd (omega arith)
 
-pub graph-created : (places places' id key serial : ℕ) (old : GraphState) (nodes : List (Option GraphNode)) → IsGraph places old → AddsNode old.nodes nodes key (new_node serial)
+pub graph-created : (places places' id key serial : ℕ) (old : GraphState) (nodes : List (Option GraphNode)) → IsGraph places old
+    → AddsNode old.nodes nodes key (new_node serial)
     → key_named old.names id ≡ None → id ≢ 0 → count_by is_some nodes ≡ count_by is_some old.nodes + 1 → places ≤ places' → key < places'
     → IsGraph places' (created old nodes id key)
 graph-created places places' id key serial old nodes g adds absent some count more within = record {
@@ -159,7 +166,8 @@ node-changed nodes key old new there k node h = by_key (eqb_tells k key)
   where
     by_key : KeyCases k key → ((k ≡ key) × (node ≡ new)) ⊎ ((k ≢ key) × (slice_index_or nodes k None ≡ Some node))
     by_key (inl same) =
-        let now : slice_index_or (slice_set nodes key (Some new)) k None ≡ Some new = rw same.1 (get_or-set_same nodes key (Some new) None (in_list nodes key old there)) in
+        let now : slice_index_or (slice_set nodes key (Some new)) k None ≡ Some new =
+        rw same.1 (get_or-set_same nodes key (Some new) None (in_list nodes key old there)) in
         let e : Some new ≡ Some node = sym now ∙ h in
         inl (same.1, (cc))
     by_key (inr apart) = inr (apart.1, rw (get_or-set_other nodes key k (Some new) None apart.1) at h)
@@ -172,7 +180,8 @@ count-set : (nodes : List (Option GraphNode)) (key : ℕ) (old new : GraphNode) 
 count-set [] key old new there = refl
 count-set (slot ∷ slots) zero old new there = rw there (count-first (Some new) slots ∙ sym (count-first (Some old) slots))
 count-set (slot ∷ slots) (suc key) old new there =
-    count-first slot (slice_set slots key (Some new)) ∙ ap (λ (n : ℕ). cond (is_some slot) 1 0 + n) (count-set slots key old new there) ∙ sym (count-first slot slots)
+    count-first slot (slice_set slots key (Some new)) ∙ ap (λ (n : ℕ). cond (is_some slot) 1 0 + n) (count-set slots key old new there)
+    ∙ sym (count-first slot slots)
 
 pub sound-changed : (graph : GraphState) (key : ℕ) (old new : GraphNode) → IsSound graph → node_at graph key ≡ Some old
     → ((child : ℕ) → Contains new.children child → IsKept graph.nodes child) → IsSound (with_node graph key new)
@@ -202,12 +211,15 @@ graph-changed places graph key old new g there children = record {
 }
 
 -- a node whose children stay
-pub graph-set : (places : ℕ) (graph : GraphState) (key : ℕ) (old new : GraphNode) → IsGraph places graph → node_at graph key ≡ Some old → new.children ≡ old.children
+pub graph-set : (places : ℕ) (graph : GraphState) (key : ℕ) (old new : GraphNode) → IsGraph places graph → node_at graph key ≡ Some old
+    → new.children ≡ old.children
     → IsGraph places (with_node graph key new)
 graph-set places graph key old new g there same =
-    graph-changed places graph key old new g there (λ child has. g.sound.children_kept key old there child (subst (λ (keys : List ℕ). Contains keys child) same has))
+    graph-changed places graph key old new g there (λ child has. g.sound.children_kept key old there child
+    (subst (λ (keys : List ℕ). Contains keys child) same has))
 
-pub kept-push : (nodes : List (Option GraphNode)) (children : List ℕ) (new : ℕ) → ((child : ℕ) → Contains children child → IsKept nodes child) → IsKept nodes new
+pub kept-push : (nodes : List (Option GraphNode)) (children : List ℕ) (new : ℕ) → ((child : ℕ) → Contains children child → IsKept nodes child)
+    → IsKept nodes new
     → (child : ℕ) → Contains (children ++ new ∷ []) child → IsKept nodes child
 kept-push nodes children new all one child has = by_cases (Contains-push_cases children new child has)
   where
@@ -216,7 +228,8 @@ kept-push nodes children new all one child has = by_cases (Contains-push_cases c
     by_cases (inr same) = rw (← same) one
 
 -- what ids name is kept
-pub kept-named : (graph : GraphState) → IsSound graph → (ids : List TransformId) (child : ℕ) → Contains (keys_named graph.names ids) child → IsKept graph.nodes child
+pub kept-named : (graph : GraphState) → IsSound graph → (ids : List TransformId) (child : ℕ) → Contains (keys_named graph.names ids) child
+    → IsKept graph.nodes child
 kept-named graph sound [] child has = absurd (omega (arith, has.1))
 kept-named graph sound (id ∷ ids) child has = by_key (key_named graph.names id.0) (sound.names_kept id.0) (kept-named graph sound ids child) has
   where
@@ -248,7 +261,8 @@ contains-filter test (y ∷ ys) x has = by_test (test y) has (contains-filter te
 abbrev pub all_without : ℕ → List (Option GraphNode) → List (Option GraphNode)
 all_without serial = map (option_map (without_content serial))
 
-pub node-without : (serial : ℕ) (nodes : List (Option GraphNode)) (k : ℕ) → slice_index_or (all_without serial nodes) k None ≡ option_map (without_content serial) (slice_index_or nodes k None)
+pub node-without : (serial : ℕ) (nodes : List (Option GraphNode)) (k : ℕ)
+    → slice_index_or (all_without serial nodes) k None ≡ option_map (without_content serial) (slice_index_or nodes k None)
 node-without serial [] k = refl
 node-without serial (slot ∷ slots) zero = refl
 node-without serial (slot ∷ slots) (suc k) = node-without serial slots k
@@ -269,14 +283,16 @@ pub was-node : (serial : ℕ) (x : Option GraphNode) (node : GraphNode) → opti
 was-node serial None node e = absurd (cc)
 was-node serial (Some old) node e = (old, refl, (cc))
 
-pub kept-without : (serial : ℕ) (nodes : List (Option GraphNode)) (k : ℕ) → is_some (slice_index_or (all_without serial nodes) k None) ≡ is_some (slice_index_or nodes k None)
+pub kept-without : (serial : ℕ) (nodes : List (Option GraphNode)) (k : ℕ)
+    → is_some (slice_index_or (all_without serial nodes) k None) ≡ is_some (slice_index_or nodes k None)
 kept-without serial nodes k = rw (node-without serial nodes k) (some-map (without_content serial) (slice_index_or nodes k None))
 
 pub sound-without : (graph : GraphState) (serial : ℕ) → IsSound graph → IsSound (record graph { nodes = all_without serial graph.nodes })
 sound-without graph serial sound = record {
   names_kept = λ id k h. kept k (sound.names_kept id k h);
   root_kept = λ k h. kept k (sound.root_kept k h);
-  children_kept = λ k node h child has. kept child (by_node k node child has (was-node serial (slice_index_or graph.nodes k None) node (sym (node-without serial graph.nodes k) ∙ h)));
+  children_kept = λ k node h child has. kept child (by_node k node child has
+      (was-node serial (slice_index_or graph.nodes k None) node (sym (node-without serial graph.nodes k) ∙ h)));
   rising = sound.rising;
   no_zero = sound.no_zero;
   apart = sound.apart;
@@ -285,10 +301,12 @@ sound-without graph serial sound = record {
     kept : (k : ℕ) → IsKept graph.nodes k → IsKept (all_without serial graph.nodes) k
     kept k h = kept-without serial graph.nodes k ∙ h
 
-    by_node : (k : ℕ) (node : GraphNode) (child : ℕ) → Contains node.children child → (old : GraphNode) × (slice_index_or graph.nodes k None ≡ Some old) × (node ≡ without_content serial old) → IsKept graph.nodes child
+    by_node : (k : ℕ) (node : GraphNode) (child : ℕ) → Contains node.children child
+        → (old : GraphNode) × (slice_index_or graph.nodes k None ≡ Some old) × (node ≡ without_content serial old) → IsKept graph.nodes child
     by_node k node child has (old, was, is) = sound.children_kept k old was child (subst (λ (n : GraphNode). Contains n.children child) is has)
 
-pub graph-without : (places : ℕ) (graph : GraphState) (serial : ℕ) → IsGraph places graph → IsGraph places (record graph { nodes = all_without serial graph.nodes })
+pub graph-without : (places : ℕ) (graph : GraphState) (serial : ℕ) → IsGraph places graph
+    → IsGraph places (record graph { nodes = all_without serial graph.nodes })
 graph-without places graph serial g = record {
   sound = sound-without graph serial g.sound;
   in_range = λ k h. g.in_range k (sym (kept-without serial graph.nodes k) ∙ h);
@@ -297,7 +315,8 @@ graph-without places graph serial g = record {
 
 -- ---- nodes dropped
 
-pub sound-marked : (graph : GraphState) (marks : List Bool) → IsSound graph → MayKeep marks graph → IsSound (record graph { nodes = marked_nodes marks graph.nodes })
+pub sound-marked : (graph : GraphState) (marks : List Bool) → IsSound graph → MayKeep marks graph
+    → IsSound (record graph { nodes = marked_nodes marks graph.nodes })
 sound-marked graph marks sound may = sound-fewer (IsMarked marks) graph (marked_nodes marks graph.nodes) (leaves-marked graph marks may) sound
 
 count-marked : (marks : List Bool) (nodes : List (Option GraphNode)) → count_by is_some (marked_nodes marks nodes) ≤ count_by is_some nodes
@@ -307,11 +326,14 @@ count-marked [] (slot ∷ slots) = omega (arith, count-marked [] slots, count-fi
 count-marked (true ∷ marks) (slot ∷ slots) = omega (arith, count-marked marks slots, count-first slot (marked_nodes marks slots), count-first slot slots)
 count-marked (false ∷ marks) (slot ∷ slots) = omega (arith, count-marked marks slots, count-first None (marked_nodes marks slots), count-first slot slots)
 
-pub graph-marked : (places : ℕ) (graph : GraphState) (marks : List Bool) → IsGraph places graph → MayKeep marks graph → IsGraph places (record graph { nodes = marked_nodes marks graph.nodes })
+pub graph-marked : (places : ℕ) (graph : GraphState) (marks : List Bool) → IsGraph places graph → MayKeep marks graph
+    → IsGraph places (record graph { nodes = marked_nodes marks graph.nodes })
 graph-marked places graph marks g may = record {
   sound = sound-marked graph marks g.sound may;
   in_range = λ k h. g.in_range k (kept-marked marks graph.nodes k h).1;
-  few = let low : count_by is_some graph.nodes ≤ graph.made = g.few in let more : count_by is_some (marked_nodes marks graph.nodes) ≤ count_by is_some graph.nodes = count-marked marks graph.nodes in omega (arith, low, more);
+  few = let low : count_by is_some graph.nodes ≤ graph.made =
+      g.few in let more : count_by is_some (marked_nodes marks graph.nodes) ≤ count_by is_some graph.nodes =
+      count-marked marks graph.nodes in omega (arith, low, more);
 }
 
 pub is-none : {X : Type 0} (x : Option X) → is_some x ≡ false → x ≡ None

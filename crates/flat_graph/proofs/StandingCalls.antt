@@ -1,5 +1,6 @@
 -- The calls that make, name and drop transforms keep what a graph stands for.
-use Rattle.std.proofs.Common.{ℕ, suc, ◌+◌, ◌≤◌, ◌≡◌, ◌≢◌, ◌⊎◌, inl, inr, refl, sym, ◌∙◌, ap, subst, Bool, true, false, cond, List, [], ◌∷◌, ◌++◌, map, length, Option, Some, None, slice_index_or, arith, length-append}
+use Rattle.std.proofs.Common.{ℕ, suc, ◌+◌, ◌≤◌, ◌≡◌, ◌≢◌, ◌⊎◌, inl, inr, refl, sym, ◌∙◌, ap, subst, Bool, true, false, cond, List, [], ◌∷◌, ◌++◌, map, length}
+use Rattle.std.proofs.Common.{Option, Some, None, slice_index_or, arith, length-append}
 use Rattle.std.specs.Prelude.{◌==◌, is_some}
 use Rattle.std.specs.Option.{option_map}
 use Rattle.std.proofs.lemmas.Bool.Decides.{nat_tests}
@@ -13,10 +14,12 @@ use Rattle.flat_scene.specs.Effect.{effect, is_serial}
 use Rattle.flat_graph.specs.declared.names.Named.{Named}
 use Rattle.flat_graph.specs.declared.nodes.GraphNode.{GraphNode}
 use Rattle.flat_graph.specs.Names.{key_named, names_but, IsRising}
-use Rattle.flat_graph.specs.State.{GraphState, IsSound, IsKept, IsMarked, MayKeep, Creates, node_at, new_node, without_content, held_but, released, with_root, emptied, without_held, marked_nodes, only_marked, empty_graph}
+use Rattle.flat_graph.specs.State.{GraphState, IsSound, IsKept, IsMarked, MayKeep, Creates, node_at, new_node, without_content, held_but, released, with_root}
+use Rattle.flat_graph.specs.State.{emptied, without_held, marked_nodes, only_marked, empty_graph}
 use Rattle.flat_graph.specs.Stands.{StandsFor, IsHeld, serial_at, serial_of, node_serial, as_transform}
 use Rattle.flat_graph.proofs.lemmas.NameLemmas as keys
-use Rattle.flat_graph.proofs.lemmas.DraftNames.{named-append, once-append, named-without, once-without, length-without, of_serial-append, of_serial-last, of_serial-low, of_serial-map}
+use Rattle.flat_graph.proofs.lemmas.DraftNames.{named-append, once-append, named-without, once-without, length-without, of_serial-append, of_serial-last}
+use Rattle.flat_graph.proofs.lemmas.DraftNames.{of_serial-low, of_serial-map}
 use Rattle.flat_graph.proofs.lemmas.FewerNodes.{leaves-marked, option_map-same, stands-fewer, transform-same}
 use Rattle.flat_graph.proofs.Soundness.{AddsNode, created, sound-created, sound-released, sound-without, node-added, node-without, was-node, some-map}
 
@@ -47,7 +50,8 @@ module _ (graph : GraphState) (draft : Draft) (s : StandsFor graph draft) where
   stands-released t = record {
     sound = sound-released graph t.0 s.sound;
     made = s.made;
-    names = λ id. ap (option_map (serial_at graph)) (keys.named-but t.0 graph.names id) ∙ by_same id (t.0 == id) ∙ sym (named-without t.0 draft.transform_names id);
+    names = λ id. ap (option_map (serial_at graph)) (keys.named-but t.0 graph.names id) ∙ by_same id (t.0 == id)
+        ∙ sym (named-without t.0 draft.transform_names id);
     count = counts;
     once = once-without t.0 draft.transform_names s.once;
     root = s.root;
@@ -62,10 +66,14 @@ module _ (graph : GraphState) (draft : Draft) (s : StandsFor graph draft) where
 
       counts : length (names_but t.0 graph.names) ≡ length (without_name t.0 draft.transform_names)
       counts =
-          let there : is_some (key_named graph.names t.0) ≡ is_some (named draft.transform_names t.0) = sym (some-map (serial_at graph) (key_named graph.names t.0)) ∙ ap (is_some {T = ℕ}) (s.names t.0) in
-          let left : length (names_but t.0 graph.names) + cond (is_some (key_named graph.names t.0)) 1 0 ≡ length graph.names = keys.length-but t.0 graph.names s.sound.rising in
-          let right : length (without_name t.0 draft.transform_names) + cond (is_some (named draft.transform_names t.0)) 1 0 ≡ length draft.transform_names = length-without t.0 draft.transform_names s.once in
-          let left' : length (names_but t.0 graph.names) + cond (is_some (named draft.transform_names t.0)) 1 0 ≡ length graph.names = ap (λ (b : Bool). length (names_but t.0 graph.names) + cond b 1 0) (sym there) ∙ left in
+          let there : is_some (key_named graph.names t.0) ≡ is_some (named draft.transform_names t.0) =
+          sym (some-map (serial_at graph) (key_named graph.names t.0)) ∙ ap (is_some {T = ℕ}) (s.names t.0) in
+          let left : length (names_but t.0 graph.names) + cond (is_some (key_named graph.names t.0)) 1 0 ≡ length graph.names =
+          keys.length-but t.0 graph.names s.sound.rising in
+          let right : length (without_name t.0 draft.transform_names) + cond (is_some (named draft.transform_names t.0)) 1 0 ≡ length draft.transform_names =
+          length-without t.0 draft.transform_names s.once in
+          let left' : length (names_but t.0 graph.names) + cond (is_some (named draft.transform_names t.0)) 1 0 ≡ length graph.names =
+          ap (λ (b : Bool). length (names_but t.0 graph.names) + cond b 1 0) (sym there) ∙ left in
           let count : length graph.names ≡ length draft.transform_names = s.count in
           omega (arith, left', right, count)
 
@@ -158,7 +166,8 @@ module _ (graph : GraphState) (draft : Draft) (s : StandsFor graph draft) where
   stands-without serial = record {
     sound = sound-without graph serial s.sound;
     made = s.made ∙ sym (length-map' draft.transforms);
-    names = λ id. option_map-same (serial_at (without_held graph serial)) (serial_at graph) (key_named graph.names id) (λ k e. serial-without serial k) ∙ s.names id;
+    names = λ id. option_map-same (serial_at (without_held graph serial)) (serial_at graph) (key_named graph.names id) (λ k e. serial-without serial k)
+        ∙ s.names id;
     count = s.count;
     once = s.once;
     root = option_map-same (serial_at (without_held graph serial)) (serial_at graph) graph.root (λ k e. serial-without serial k) ∙ s.root;
@@ -177,7 +186,8 @@ module _ (graph : GraphState) (draft : Draft) (s : StandsFor graph draft) where
       was : (k : ℕ) (node : GraphNode) → node_at (without_held graph serial) k ≡ Some node → Was k node
       was k node e = was-node serial (slice_index_or graph.nodes k None) node (sym (node-without serial graph.nodes k) ∙ e)
 
-      by_node : (k : ℕ) (node : GraphNode) → Was k node → of_serial (map (but_for serial) draft.transforms) node.serial ≡ Some (as_transform (without_held graph serial) node)
+      by_node : (k : ℕ) (node : GraphNode) → Was k node → of_serial (map (but_for serial) draft.transforms) node.serial
+          ≡ Some (as_transform (without_held graph serial) node)
       by_node k node (old, there, is) =
           ap (λ (n : GraphNode). of_serial (map (but_for serial) draft.transforms) n.serial) is ∙ of_serial-map (but_for serial) draft.transforms old.serial
           ∙ ap (option_map (but_for serial)) (s.nodes k old there)
@@ -192,12 +202,23 @@ module _ (graph : GraphState) (draft : Draft) (s : StandsFor graph draft) where
       by_held : (k : ℕ) (node : GraphNode) (held : Held) → Was k node → node.content ≡ Some held → IsHeld draft.contents held
       by_held k node held (old, there, is) e = s.contents k old held there (still-held serial old.content held (ap (λ (n : GraphNode). n.content) (sym is) ∙ e))
 
-  pub stands-dropped : (c : ContentId) (serial : ℕ) → content_of draft c ≡ Some serial → StandsFor (without_held graph serial) (effect draft (ReleaseViewport c))
+  pub stands-dropped : (c : ContentId) (serial : ℕ) → content_of draft c ≡ Some serial
+      → StandsFor (without_held graph serial) (effect draft (ReleaseViewport c))
   stands-dropped c serial e = rw e (by_fields (stands-without serial))
     where
       by_fields : StandsFor (without_held graph serial) (record draft { transforms = map (but_for serial) draft.transforms })
           → StandsFor (without_held graph serial) (effect.without_viewport (Some serial) (effect.without_content_name draft c))
-      by_fields r = record { sound = r.sound; made = r.made; names = r.names; count = r.count; once = r.once; root = r.root; nodes = r.nodes; apart = r.apart; contents = r.contents }
+      by_fields r = record {
+        sound = r.sound;
+        made = r.made;
+        names = r.names;
+        count = r.count;
+        once = r.once;
+        root = r.root;
+        nodes = r.nodes;
+        apart = r.apart;
+        contents = r.contents;
+      }
 
   -- ---- a new node
 
@@ -218,7 +239,8 @@ module _ (graph : GraphState) (draft : Draft) (s : StandsFor graph draft) where
       names = names;
       count = ap length made.names ∙ keys.length-with name graph.names ∙ omega (arith, s.count) ∙ sym (length-append draft.transform_names (new_name ∷ []));
       once = once-append draft.transform_names new_name unnamed s.once;
-      root = ap (option_map (serial_at new)) made.root ∙ option_map-same (serial_at new) (serial_at graph) graph.root (λ k e. same-serial k (s.sound.root_kept k e)) ∙ s.root;
+      root = ap (option_map (serial_at new)) made.root ∙ option_map-same (serial_at new) (serial_at graph) graph.root
+          (λ k e. same-serial k (s.sound.root_kept k e)) ∙ s.root;
       nodes = λ k node e. by_node k node (is k node e);
       apart = λ k k' node node' e e' same. two k k' node node' (is k node e) (is k' node' e') same;
       contents = λ k node held e h. by_held k node held (is k node e) h;
@@ -244,16 +266,20 @@ module _ (graph : GraphState) (draft : Draft) (s : StandsFor graph draft) where
           rising = subst (λ (ns : List Named). IsRising ns) (sym made.names) sound'.rising;
           no_zero = ap (λ (ns : List Named). key_named ns 0) made.names ∙ sound'.no_zero;
           apart = λ id other key e e'.
-              sound'.apart id other key (ap (λ (ns : List Named). key_named ns id) (sym made.names) ∙ e) (ap (λ (ns : List Named). key_named ns other) (sym made.names) ∙ e');
+              sound'.apart id other key (ap (λ (ns : List Named). key_named ns id) (sym made.names) ∙ e)
+              (ap (λ (ns : List Named). key_named ns other) (sym made.names) ∙ e');
         }
 
-        by_same : (id : ℕ) (b : Bool) → option_map (serial_at new) (cond b (Some made.key) (key_named graph.names id)) ≡ cond b (Some (length draft.transforms + 1)) (named draft.transform_names id)
+        by_same : (id : ℕ) (b : Bool) → option_map (serial_at new) (cond b (Some made.key) (key_named graph.names id))
+            ≡ cond b (Some (length draft.transforms + 1)) (named draft.transform_names id)
         by_same id true = ap Some (ap node_serial made.there ∙ next ∙ ap (λ (n : ℕ). n + 1) s.made)
-        by_same id false = option_map-same (serial_at new) (serial_at graph) (key_named graph.names id) (λ k e. same-serial k (s.sound.names_kept id k e)) ∙ s.names id
+        by_same id false = option_map-same (serial_at new) (serial_at graph) (key_named graph.names id) (λ k e. same-serial k (s.sound.names_kept id k e))
+            ∙ s.names id
 
         names : (id : ℕ) → option_map (serial_at new) (key_named new.names id) ≡ named (draft.transform_names ++ new_name ∷ []) id
         names id =
-            ap (λ (ns : List Named). option_map (serial_at new) (key_named ns id)) made.names ∙ ap (option_map (serial_at new)) (keys.named-with name graph.names id absent)
+            ap (λ (ns : List Named). option_map (serial_at new) (key_named ns id)) made.names
+            ∙ ap (option_map (serial_at new)) (keys.named-with name graph.names id absent)
             ∙ by_same id (t.0 == id) ∙ sym (named-append draft.transform_names new_name id unnamed)
 
         IsNow : ℕ → GraphNode → Type 0
@@ -267,7 +293,8 @@ module _ (graph : GraphState) (draft : Draft) (s : StandsFor graph draft) where
             of_serial-append draft.transforms new_transform (as_transform graph node) node.serial (s.nodes k node was)
             ∙ ap Some (sym (transform-same graph new node (λ child has. same-serial child (s.sound.children_kept k node was child has))))
         by_node k node (inr now) =
-            ap (λ (n : GraphNode). of_serial (draft.transforms ++ new_transform ∷ []) n.serial) now.1 ∙ of_serial-last draft.transforms new_transform serial (next ∙ ap (λ (n : ℕ). n + 1) s.made)
+            ap (λ (n : GraphNode). of_serial (draft.transforms ++ new_transform ∷ []) n.serial) now.1
+            ∙ of_serial-last draft.transforms new_transform serial (next ∙ ap (λ (n : ℕ). n + 1) s.made)
             ∙ ap (λ (n : GraphNode). Some (as_transform new n)) (sym now.1)
 
         high : (k : ℕ) (node node' : GraphNode) → node ≡ new_node serial → node_at graph k ≡ Some node' → node.serial ≡ node'.serial → ⊥

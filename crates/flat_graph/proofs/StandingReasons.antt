@@ -27,23 +27,27 @@ module _ (graph : GraphState) (draft : Draft) (s : StandsFor graph draft) where
   none-same t = sym (none-map (serial_at graph) (key_named graph.names t.0)) ∙ ap (is_none {T = ℕ}) (s.names t.0)
 
   -- one of the ids names nothing
-  pub any-none-same : (ts : List TransformId) → list_any (λ (t : TransformId). is_none (key_named graph.names t.0)) ts ≡ list_any (λ t. is_none (transform_of draft t)) ts
+  pub any-none-same : (ts : List TransformId) → list_any (λ (t : TransformId). is_none (key_named graph.names t.0)) ts
+      ≡ list_any (λ t. is_none (transform_of draft t)) ts
   any-none-same [] = refl
   any-none-same (t ∷ ts) = rw (none-same t, any-none-same ts) refl
 
   children-at : (x : Option ℕ) → ((k : ℕ) → x ≡ Some k → IsKept graph.nodes k)
-      → unwrap_or (option_map (λ (transform : Transform). transform.children) (option_and_then (of_serial draft.transforms) (option_map (serial_at graph) x))) [] ≡ map (serial_at graph) (children_at graph x)
+      → unwrap_or (option_map (λ (transform : Transform). transform.children) (option_and_then (of_serial draft.transforms) (option_map (serial_at graph) x)))
+      [] ≡ map (serial_at graph) (children_at graph x)
   children-at None kept = refl
   children-at (Some k) kept = by_node (node_at graph k) refl (kept k refl)
     where
       by_node : (y : Option GraphNode) → node_at graph k ≡ y → IsSome y
-          → unwrap_or (option_map (λ (transform : Transform). transform.children) (of_serial draft.transforms (node_serial y))) [] ≡ map (serial_at graph) (links_of y)
+          → unwrap_or (option_map (λ (transform : Transform). transform.children) (of_serial draft.transforms (node_serial y))) []
+          ≡ map (serial_at graph) (links_of y)
       by_node None e some = absurd (cc)
       by_node (Some node) e some = ap (λ (t : Option Transform). unwrap_or (option_map (λ (transform : Transform). transform.children) t) []) (s.nodes k node e)
 
   pub children-same : (t : TransformId) → misuse.children_of draft t ≡ map (serial_at graph) (children_of graph t.0)
   children-same t =
-      ap (λ (x : Option ℕ). unwrap_or (option_map (λ (transform : Transform). transform.children) (option_and_then (of_serial draft.transforms) x)) []) (sym (s.names t.0))
+      ap (λ (x : Option ℕ). unwrap_or (option_map (λ (transform : Transform). transform.children) (option_and_then (of_serial draft.transforms) x)) [])
+      (sym (s.names t.0))
       ∙ children-at (key_named graph.names t.0) (s.sound.names_kept t.0)
 
   pub count-same : (t : TransformId) → length (children_of graph t.0) ≡ length (misuse.children_of draft t)
@@ -69,7 +73,9 @@ module _ (graph : GraphState) (draft : Draft) (s : StandsFor graph draft) where
       ∙ ap (λ (x : Option ℕ). unwrap_or (option_map (λ (serial : ℕ). list_any (λ child. child == serial) (misuse.children_of draft p)) x) false) (s.names k.0)
     where
       by_key : (x : Option ℕ) → ((key : ℕ) → x ≡ Some key → IsKept graph.nodes key)
-          → has_key (children_of graph p.0) x ≡ unwrap_or (option_map (λ (serial : ℕ). list_any (λ child. child == serial) (misuse.children_of draft p)) (option_map (serial_at graph) x)) false
+          → has_key (children_of graph p.0) x ≡ unwrap_or (option_map (λ (serial : ℕ). list_any (λ child. child == serial) (misuse.children_of draft p))
+          (option_map (serial_at graph) x)) false
       by_key None kept = refl
       by_key (Some key) kept =
-          sym (ap (list_any (λ child. child == serial_at graph key)) (children-same p) ∙ any-same key (kept key refl) (children_of graph p.0) (links-kept (key_named graph.names p.0)))
+          sym (ap (list_any (λ child. child == serial_at graph key)) (children-same p)
+          ∙ any-same key (kept key refl) (children_of graph p.0) (links-kept (key_named graph.names p.0)))

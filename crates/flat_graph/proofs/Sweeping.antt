@@ -1,5 +1,6 @@
 -- Loops over the slots of a slab: slots changed, or emptied, as far as a loop has come.
-use Rattle.std.proofs.Common.{ℕ, zero, suc, ◌+◌, ◌<◌, ◌≤◌, ◌≡◌, refl, sym, ◌∙◌, ap, Bool, true, false, cond, List, [], ◌∷◌, map, Option, Some, None, IsSome, slice_index_or, slice_set, length, arith, add-one}
+use Rattle.std.proofs.Common.{ℕ, zero, suc, ◌+◌, ◌<◌, ◌≤◌, ◌≡◌, refl, sym, ◌∙◌, ap, Bool, true, false, cond, List, [], ◌∷◌, map, Option, Some, None, IsSome}
+use Rattle.std.proofs.Common.{slice_index_or, slice_set, length, arith, add-one}
 use Rattle.std.specs.Prelude.{is_some}
 use Rattle.std.specs.Option.{option_map}
 use Rattle.slab.specs.Slab.{Slab, with_value}
@@ -21,7 +22,8 @@ module _ (f : Option GraphNode → Option GraphNode) where
   changed-at (suc n) [] = refl
   changed-at (suc n) (slot ∷ slots) = changed-at n slots
 
-  pub changed-set : (n : ℕ) (slots : Slots) (node : GraphNode) → slice_index_or slots n None ≡ Some node → changed_below (suc n) f slots ≡ slice_set (changed_below n f slots) n (f (Some node))
+  pub changed-set : (n : ℕ) (slots : Slots) (node : GraphNode) → slice_index_or slots n None ≡ Some node
+      → changed_below (suc n) f slots ≡ slice_set (changed_below n f slots) n (f (Some node))
   changed-set n [] node there = absurd (cc)
   changed-set zero (slot ∷ slots) node there = rw there refl
   changed-set (suc n) (slot ∷ slots) node there = ap (λ (rest : Slots). f slot ∷ rest) (changed-set n slots node there)
@@ -51,14 +53,17 @@ marked-at (suc n) [] slots = refl
 marked-at (suc n) (mark ∷ marks) [] = refl
 marked-at (suc n) (mark ∷ marks) (slot ∷ slots) = marked-at n marks slots
 
-pub marked-drop : (n : ℕ) (marks : List Bool) (slots : Slots) (node : GraphNode) → n < length marks → slice_index_or marks n false ≡ false → slice_index_or slots n None ≡ Some node
+pub marked-drop : (n : ℕ) (marks : List Bool) (slots : Slots) (node : GraphNode) → n < length marks → slice_index_or marks n false ≡ false
+    → slice_index_or slots n None ≡ Some node
     → marked_below (suc n) marks slots ≡ slice_set (marked_below n marks slots) n None
 marked-drop n [] slots node within mark there = absurd (omega arith)
 marked-drop n (m ∷ marks) [] node within mark there = absurd (cc)
 marked-drop zero (m ∷ marks) (slot ∷ slots) node within mark there = rw mark refl
-marked-drop (suc n) (m ∷ marks) (slot ∷ slots) node within mark there = ap (λ (rest : Slots). cond m slot None ∷ rest) (marked-drop n marks slots node (omega arith) mark there)
+marked-drop (suc n) (m ∷ marks) (slot ∷ slots) node within mark there =
+    ap (λ (rest : Slots). cond m slot None ∷ rest) (marked-drop n marks slots node (omega arith) mark there)
 
-pub marked-none : (n : ℕ) (marks : List Bool) (slots : Slots) → slice_index_or slots n None ≡ None → marked_below (suc n) marks slots ≡ marked_below n marks slots
+pub marked-none : (n : ℕ) (marks : List Bool) (slots : Slots) → slice_index_or slots n None ≡ None
+    → marked_below (suc n) marks slots ≡ marked_below n marks slots
 marked-none zero [] slots there = refl
 marked-none (suc n) [] slots there = refl
 marked-none zero (m ∷ marks) [] there = refl
@@ -70,7 +75,8 @@ marked-none zero (m ∷ marks) (slot ∷ slots) there = rw there (by_mark m)
     by_mark false = refl
 marked-none (suc n) (m ∷ marks) (slot ∷ slots) there = ap (λ (rest : Slots). cond m slot None ∷ rest) (marked-none n marks slots there)
 
-pub marked-skip : (n : ℕ) (marks : List Bool) (slots : Slots) → slice_index_or marks n false ≡ true → marked_below (suc n) marks slots ≡ marked_below n marks slots
+pub marked-skip : (n : ℕ) (marks : List Bool) (slots : Slots) → slice_index_or marks n false ≡ true
+    → marked_below (suc n) marks slots ≡ marked_below n marks slots
 marked-skip n [] slots mark = absurd (cc)
 marked-skip zero (m ∷ marks) [] mark = refl
 marked-skip (suc n) (m ∷ marks) [] mark = refl
@@ -79,7 +85,8 @@ marked-skip (suc n) (m ∷ marks) (slot ∷ slots) mark = ap (λ (rest : Slots).
 
 -- the slot of the next key emptied, if there is a node
 pub marked-step : (n : ℕ) (marks : List Bool) (slots : Slots) → n < length marks → slice_index_or marks n false ≡ false
-    → cond (is_some (slice_index_or (marked_below n marks slots) n None)) (slice_set (marked_below n marks slots) n None) (marked_below n marks slots) ≡ marked_below (suc n) marks slots
+    → cond (is_some (slice_index_or (marked_below n marks slots) n None)) (slice_set (marked_below n marks slots) n None) (marked_below n marks slots)
+    ≡ marked_below (suc n) marks slots
 marked-step n marks slots within mark = rw (marked-at n marks slots) (by_slot (slice_index_or slots n None) refl)
   where
     by_slot : (x : Option GraphNode) → slice_index_or slots n None ≡ x
@@ -93,10 +100,12 @@ none-marked [] none = refl
 none-marked (None ∷ slots) none = ap (λ (rest : Slots). None ∷ rest) (none-marked slots (λ key some. absurd (omega (arith, none (suc key) some))))
 none-marked (Some node ∷ slots) none = absurd (omega (arith, none 0 refl))
 
-pub marked-all : (marks : List Bool) (slots : Slots) → ((key : ℕ) → IsSome (slice_index_or slots key None) → key < length marks) → marked_below (length marks) marks slots ≡ marked_nodes marks slots
+pub marked-all : (marks : List Bool) (slots : Slots) → ((key : ℕ) → IsSome (slice_index_or slots key None) → key < length marks)
+    → marked_below (length marks) marks slots ≡ marked_nodes marks slots
 marked-all [] slots covered = none-marked slots covered
 marked-all (mark ∷ marks) [] covered = refl
-marked-all (mark ∷ marks) (slot ∷ slots) covered = ap (λ (rest : Slots). cond mark slot None ∷ rest) (marked-all marks slots (λ key some. omega (arith, covered (suc key) some)))
+marked-all (mark ∷ marks) (slot ∷ slots) covered = ap (λ (rest : Slots). cond mark slot None ∷ rest)
+    (marked-all marks slots (λ key some. omega (arith, covered (suc key) some)))
 
 -- ---- one step of each loop
 

@@ -22,4 +22,5 @@ pub twice-step : (ids : List TransformId) (place : ℕ) (d : TransformId) (found
 twice-step ids place d found within is =
     let behind : List TransformId = drop (place + 1) ids in
     let all : take (length ids - (place + 1)) behind ≡ behind = take_all (length ids - (place + 1)) behind (omega (arith, length-drop (place + 1) ids)) in
-    ap are_twice (drop_more ids place d within) ∙ ap (λ (later : Bool). later || are_twice behind) (any-id (get_or ids place d).0 behind ∙ sym (is ∙ ap (list_any (λ (id : TransformId). (get_or ids place d).0 == id.0)) all))
+    ap are_twice (drop_more ids place d within) ∙ ap (λ (later : Bool). later || are_twice behind)
+    (any-id (get_or ids place d).0 behind ∙ sym (is ∙ ap (list_any (λ (id : TransformId). (get_or ids place d).0 == id.0)) all))

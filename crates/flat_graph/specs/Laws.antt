@@ -39,7 +39,8 @@ module _ (setup : Setup) (graph : GraphState) (draft : Draft) where
   -- a creation has the draft's reason, and the graph after it stands for the draft after it
   pub record IsCreation (t : TransformId) : Type 0 where
     pub reason : first_reason (create_tests graph t.0) ≡ misuse setup draft (CreateTransform t)
-    pub stands : (new : GraphState) (serial : ℕ) → first_reason (create_tests graph t.0) ≡ None → serial ≡ graph.made + 1 → Creates graph new t.0 serial → StandsFor new (effect draft (CreateTransform t))
+    pub stands : (new : GraphState) (serial : ℕ) → first_reason (create_tests graph t.0) ≡ None
+        → serial ≡ graph.made + 1 → Creates graph new t.0 serial → StandsFor new (effect draft (CreateTransform t))
 
   -- the content that a call gives is the one that its id names
   pub record IsContent (c : ContentId) (held : Option Held) : Type 0 where
@@ -50,32 +51,56 @@ module _ (setup : Setup) (graph : GraphState) (draft : Draft) where
   -- it
   pub record IsGiving (t : TransformId) (c : ContentId) (held : Option Held) : Type 0 where
     pub reason : first_reason (name_tests graph t.0) ≡ first_reason (names_transform draft t)
-    pub stands : StandsFor (change_named graph t.0 (λ node. record node { content = held })) (effect draft (SetContent t c))
+    pub stands : StandsFor (change_named graph t.0 (λ node. record node { content = held }))
+        (effect draft (SetContent t c))
 
   -- each call on a graph that stands for a draft
   pub record CallsStand : Type 0 where
     pub create : (t : TransformId) → IsCreation t
-    pub release : (t : TransformId) → IsCall setup draft (ReleaseTransform t) (name_tests graph t.0) (released graph t.0)
-    pub add_child : (p k : TransformId) → IsCall setup draft (AddChild p k) (add_tests graph p.0 k.0) (change_named graph p.0 (with_child (key_named graph.names k.0)))
-    pub remove_child : (p k : TransformId) → IsCall setup draft (RemoveChild p k) (remove_tests graph p.0 k.0) (change_named graph p.0 (without_child (key_named graph.names k.0)))
-    pub replace_children : (p : TransformId) (ks : List TransformId) → IsCall setup draft (ReplaceChildren p ks) (replace_tests graph p.0 ks) (change_named graph p.0 (with_children (keys_named graph.names ks)))
-    pub set_root : (t : TransformId) → IsCall setup draft (SetRootTransform t) (root_tests graph t.0) (with_root graph t.0)
-    pub set_translation : (t : TransformId) (x y : ℤ) → IsCall setup draft (SetTranslation t x y) (name_tests graph t.0) (change_named graph t.0 (λ node. record node { place = (x, y) }))
-    pub set_orientation : (t : TransformId) (o : Orientation) → IsCall setup draft (SetOrientation t o) (name_tests graph t.0) (change_named graph t.0 (λ node. record node { turn = o }))
-    pub set_scale : (t : TransformId) (x y : ℕ) → IsCall setup draft (SetScale t x y) (scale_tests graph t.0 x y) (change_named graph t.0 (λ node. record node { scale = (x, y) }))
-    pub set_opacity : (t : TransformId) (v : ℕ) → IsCall setup draft (SetOpacity t v) (opacity_tests graph t.0 v) (change_named graph t.0 (λ node. record node { opacity = v }))
-    pub set_clip : (t : TransformId) (clip : Option IntRect) → IsCall setup draft (SetClipBoundary t clip) (clip_tests graph t.0 clip) (change_named graph t.0 (λ node. record node { clip = clip }))
-    pub set_hits : (t : TransformId) (regions : List HitRegion) → IsCall setup draft (SetHitRegions t regions) (hits_tests graph t.0 regions) (change_named graph t.0 (λ node. record node { hits = Some regions }))
-    pub set_infinite : (t : TransformId) (i : Interaction) → (regions : List HitRegion) → regions ≡ (record { area = None; interaction = i }) ∷ []
-        → IsCall setup draft (SetInfiniteHitRegion t i) (hits_tests graph t.0 regions) (change_named graph t.0 (λ node. record node { hits = Some regions }))
+    pub release : (t : TransformId) → IsCall setup draft (ReleaseTransform t) (name_tests graph t.0)
+        (released graph t.0)
+    pub add_child : (p k : TransformId) → IsCall setup draft (AddChild p k) (add_tests graph p.0 k.0)
+        (change_named graph p.0 (with_child (key_named graph.names k.0)))
+    pub remove_child : (p k : TransformId)
+        → IsCall setup draft (RemoveChild p k) (remove_tests graph p.0 k.0)
+        (change_named graph p.0 (without_child (key_named graph.names k.0)))
+    pub replace_children : (p : TransformId) (ks : List TransformId)
+        → IsCall setup draft (ReplaceChildren p ks) (replace_tests graph p.0 ks)
+        (change_named graph p.0 (with_children (keys_named graph.names ks)))
+    pub set_root : (t : TransformId) → IsCall setup draft (SetRootTransform t) (root_tests graph t.0)
+        (with_root graph t.0)
+    pub set_translation : (t : TransformId) (x y : ℤ)
+        → IsCall setup draft (SetTranslation t x y) (name_tests graph t.0)
+        (change_named graph t.0 (λ node. record node { place = (x, y) }))
+    pub set_orientation : (t : TransformId) (o : Orientation)
+        → IsCall setup draft (SetOrientation t o) (name_tests graph t.0)
+        (change_named graph t.0 (λ node. record node { turn = o }))
+    pub set_scale : (t : TransformId) (x y : ℕ)
+        → IsCall setup draft (SetScale t x y) (scale_tests graph t.0 x y)
+        (change_named graph t.0 (λ node. record node { scale = (x, y) }))
+    pub set_opacity : (t : TransformId) (v : ℕ)
+        → IsCall setup draft (SetOpacity t v) (opacity_tests graph t.0 v)
+        (change_named graph t.0 (λ node. record node { opacity = v }))
+    pub set_clip : (t : TransformId) (clip : Option IntRect)
+        → IsCall setup draft (SetClipBoundary t clip) (clip_tests graph t.0 clip)
+        (change_named graph t.0 (λ node. record node { clip = clip }))
+    pub set_hits : (t : TransformId) (regions : List HitRegion)
+        → IsCall setup draft (SetHitRegions t regions) (hits_tests graph t.0 regions)
+        (change_named graph t.0 (λ node. record node { hits = Some regions }))
+    pub set_infinite : (t : TransformId) (i : Interaction) → (regions : List HitRegion)
+        → regions ≡ (record { area = None; interaction = i }) ∷ []
+        → IsCall setup draft (SetInfiniteHitRegion t i) (hits_tests graph t.0 regions)
+        (change_named graph t.0 (λ node. record node { hits = Some regions }))
     pub set_content : (t : TransformId) (c : ContentId) (held : Option Held) → IsContent c held → IsGiving t c held
     -- the viewport of a released name is taken from each transform
-    pub drop_content : (c : ContentId) (serial : ℕ) → content_of draft c ≡ Some serial → StandsFor (without_held graph serial) (effect draft (ReleaseViewport c))
+    pub drop_content : (c : ContentId) (serial : ℕ) → content_of draft c ≡ Some serial
+        → StandsFor (without_held graph serial) (effect draft (ReleaseViewport c))
     pub clear : StandsFor (emptied graph) (effect draft Clear)
     pub keep : (marks : List Bool) → MayKeep marks graph → StandsFor (only_marked marks graph) draft
 
 abbrev pub GraphCallsStand : Type 0
-GraphCallsStand = (setup : Setup) (graph : GraphState) (draft : Draft) → StandsFor graph draft → CallsStand setup graph draft
+GraphCallsStand = (setup : Setup) (graph : GraphState) (draft : Draft) → StandsFor graph draft
+    → CallsStand setup graph draft
 
 -- the calls that change or name transforms; the others change contents, their names or the view
 abbrev pub is_of_transforms : Call → Bool
@@ -99,4 +124,5 @@ is_of_transforms other = false
 
 -- the other calls leave what the graph stands for
 abbrev pub OtherCallsStand : Type 0
-OtherCallsStand = (graph : GraphState) (draft : Draft) (call : Call) → is_of_transforms call ≡ false → StandsFor graph draft → StandsFor graph (effect draft call)
+OtherCallsStand = (graph : GraphState) (draft : Draft) (call : Call) → is_of_transforms call ≡ false
+    → StandsFor graph draft → StandsFor graph (effect draft call)

@@ -49,7 +49,8 @@ name_tests graph id = (id == 0, ZeroId) ∷ (is_none (key_named graph.names id),
 
 abbrev pub create_tests : GraphState → ℕ → List Test
 create_tests graph id =
-    (id == 0, ZeroId) ∷ (is_some (key_named graph.names id), IdInUse) ∷ (is_full NAMED_MAX graph.names, TooManyNamed) ∷ []
+    (id == 0, ZeroId) ∷ (is_some (key_named graph.names id), IdInUse) ∷ (is_full NAMED_MAX graph.names, TooManyNamed)
+    ∷ []
 
 abbrev pub scale_tests : GraphState → ℕ → ℕ → ℕ → List Test
 scale_tests graph id x y = name_tests graph id ++ (is_bad_scale x || is_bad_scale y, BadScale) ∷ []
@@ -73,7 +74,8 @@ pair_tests graph parent child =
 
 -- what is asked of a key that is to be one of these children
 abbrev pub child_tests : List ℕ → ℕ → List Test
-child_tests children key = (list_any (λ other. other == key) children, AlreadyChild) ∷ (is_full CHILDREN_MAX children, TooManyChildren) ∷ []
+child_tests children key = (list_any (λ other. other == key) children, AlreadyChild)
+    ∷ (is_full CHILDREN_MAX children, TooManyChildren) ∷ []
 
 abbrev pub add_tests : GraphState → ℕ → ℕ → List Test
 add_tests graph parent child =
@@ -87,8 +89,12 @@ remove_tests graph parent child = pair_tests graph parent child ++ (not (is_chil
 abbrev pub replace_tests : GraphState → ℕ → List TransformId → List Test
 replace_tests graph parent children =
     (parent == 0 || list_any (λ child. child.0 == 0) children, ZeroId)
-    ∷ (is_none (key_named graph.names parent) || list_any (λ child. is_none (key_named graph.names child.0)) children, UnknownTransform)
-    ∷ (has_twice (map (λ (child : TransformId). child.0) children), AlreadyChild) ∷ (nat_lt CHILDREN_MAX (length children), TooManyChildren) ∷ []
+    ∷ (
+      is_none (key_named graph.names parent) || list_any (λ child. is_none (key_named graph.names child.0)) children,
+      UnknownTransform,
+    )
+    ∷ (has_twice (map (λ (child : TransformId). child.0) children), AlreadyChild)
+    ∷ (nat_lt CHILDREN_MAX (length children), TooManyChildren) ∷ []
 
 -- 0 unsets the root
 abbrev pub root_tests : GraphState → ℕ → List Test

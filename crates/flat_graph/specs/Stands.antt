@@ -52,7 +52,10 @@ pub record StandsFor (graph : GraphState) (draft : Draft) : Type 0 where
   pub count : length graph.names ≡ length draft.transform_names
   pub once : IsOnce draft.transform_names
   pub root : option_map (serial_at graph) graph.root ≡ draft.root
-  pub nodes : (key : ℕ) (node : GraphNode) → node_at graph key ≡ Some node → of_serial draft.transforms node.serial ≡ Some (as_transform graph node)
+  pub nodes : (key : ℕ) (node : GraphNode) → node_at graph key ≡ Some node
+      → of_serial draft.transforms node.serial ≡ Some (as_transform graph node)
   -- no two nodes are of one transform
-  pub apart : (key other : ℕ) (node node' : GraphNode) → node_at graph key ≡ Some node → node_at graph other ≡ Some node' → node.serial ≡ node'.serial → key ≡ other
-  pub contents : (key : ℕ) (node : GraphNode) (held : Held) → node_at graph key ≡ Some node → node.content ≡ Some held → IsHeld draft.contents held
+  pub apart : (key other : ℕ) (node node' : GraphNode) → node_at graph key ≡ Some node
+      → node_at graph other ≡ Some node' → node.serial ≡ node'.serial → key ≡ other
+  pub contents : (key : ℕ) (node : GraphNode) (held : Held) → node_at graph key ≡ Some node → node.content ≡ Some held
+      → IsHeld draft.contents held

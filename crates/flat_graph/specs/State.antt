@@ -34,10 +34,12 @@ IsKept nodes key = IsSome (slice_index_or nodes key None)
 pub record IsSound (graph : GraphState) : Type 0 where
   pub names_kept : (id key : ℕ) → key_named graph.names id ≡ Some key → IsKept graph.nodes key
   pub root_kept : (key : ℕ) → graph.root ≡ Some key → IsKept graph.nodes key
-  pub children_kept : (key : ℕ) (node : GraphNode) → node_at graph key ≡ Some node → (child : ℕ) → Contains node.children child → IsKept graph.nodes child
+  pub children_kept : (key : ℕ) (node : GraphNode) → node_at graph key ≡ Some node → (child : ℕ)
+      → Contains node.children child → IsKept graph.nodes child
   pub rising : IsRising graph.names
   pub no_zero : key_named graph.names 0 ≡ None
-  pub apart : (id other key : ℕ) → key_named graph.names id ≡ Some key → key_named graph.names other ≡ Some key → id ≡ other
+  pub apart : (id other key : ℕ) → key_named graph.names id ≡ Some key → key_named graph.names other ≡ Some key
+      → id ≡ other
 
 -- what is true of each graph, whose keys are below the places
 pub record IsGraph (places : ℕ) (graph : GraphState) : Type 0 where
@@ -143,4 +145,5 @@ pub record MayKeep (marks : List Bool) (graph : GraphState) : Type 0 where
   pub covers : (key : ℕ) → IsSome (node_at graph key) → key < length marks
   pub root_marked : (key : ℕ) → graph.root ≡ Some key → IsMarked marks key
   pub names_marked : (id key : ℕ) → key_named graph.names id ≡ Some key → IsMarked marks key
-  pub children_marked : (key : ℕ) (node : GraphNode) → node_at graph key ≡ Some node → IsMarked marks key → (child : ℕ) → Contains node.children child → IsMarked marks child
+  pub children_marked : (key : ℕ) (node : GraphNode) → node_at graph key ≡ Some node → IsMarked marks key → (child : ℕ)
+      → Contains node.children child → IsMarked marks child

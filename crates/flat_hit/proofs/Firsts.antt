@@ -1,5 +1,6 @@
 -- One hit more at the end.
-use Rattle.std.proofs.Common.{ℕ, ◌+◌, ◌-◌, ◌<◌, ◌≡◌, ◌≢◌, ◌⊎◌, inl, inr, refl, sym, ap, ◌∙◌, Bool, true, false, not, ◌||◌, cond, List, [], ◌∷◌, ◌++◌, length, take, reverse, get_or, Option, Some, None, option_to_list}
+use Rattle.std.proofs.Common.{ℕ, ◌+◌, ◌-◌, ◌<◌, ◌≡◌, ◌≢◌, ◌⊎◌, inl, inr, refl, sym, ap, ◌∙◌, Bool, true, false, not, ◌||◌, cond, List, [], ◌∷◌, ◌++◌, length}
+use Rattle.std.proofs.Common.{take, reverse, get_or, Option, Some, None, option_to_list}
 use Rattle.std.specs.Prelude.{◌==◌, filter}
 use Rattle.std.specs.List.{filter_map}
 use Rattle.std.proofs.lemmas.Bool.Decides.{eqb_tells}
@@ -18,7 +19,8 @@ any-others : (x : Hit) (s : ℕ) (hits : List Hit) → s ≢ x.session.0 → is_
 any-others x s [] apart = refl
 any-others x s (hit ∷ hits) apart = by_test (eqb_tells hit.session.0 x.session.0) (eqb_tells hit.session.0 s) (any-others x s hits apart)
   where
-    by_test : ((◌≡◌ (hit.session.0 == x.session.0) true) × (hit.session.0 ≡ x.session.0)) ⊎ ((◌≡◌ (hit.session.0 == x.session.0) false) × (hit.session.0 ≢ x.session.0))
+    by_test : ((◌≡◌ (hit.session.0 == x.session.0) true) × (hit.session.0 ≡ x.session.0))
+        ⊎ ((◌≡◌ (hit.session.0 == x.session.0) false) × (hit.session.0 ≢ x.session.0))
         → ((◌≡◌ (hit.session.0 == s) true) × (hit.session.0 ≡ s)) ⊎ ((◌≡◌ (hit.session.0 == s) false) × (hit.session.0 ≢ s))
         → is_hit (others x hits) s ≡ is_hit hits s
         → is_hit (cond (not (hit.session.0 == x.session.0)) (hit ∷ others x hits) (others x hits)) s ≡ ((hit.session.0 == s) || is_hit hits s)
@@ -31,11 +33,14 @@ first-more : (hits : List Hit) (last : Hit) → first_of_each (hits ++ last ∷ 
 first-more [] last = refl
 first-more (hit ∷ hits) last = by_test (eqb_tells hit.session.0 last.session.0) (eqb_tells last.session.0 hit.session.0) (first-more hits last)
   where
-    by_test : ((◌≡◌ (hit.session.0 == last.session.0) true) × (hit.session.0 ≡ last.session.0)) ⊎ ((◌≡◌ (hit.session.0 == last.session.0) false) × (hit.session.0 ≢ last.session.0))
-        → ((◌≡◌ (last.session.0 == hit.session.0) true) × (last.session.0 ≡ hit.session.0)) ⊎ ((◌≡◌ (last.session.0 == hit.session.0) false) × (last.session.0 ≢ hit.session.0))
+    by_test : ((◌≡◌ (hit.session.0 == last.session.0) true) × (hit.session.0 ≡ last.session.0))
+        ⊎ ((◌≡◌ (hit.session.0 == last.session.0) false) × (hit.session.0 ≢ last.session.0))
+        → ((◌≡◌ (last.session.0 == hit.session.0) true) × (last.session.0 ≡ hit.session.0))
+        ⊎ ((◌≡◌ (last.session.0 == hit.session.0) false) × (last.session.0 ≢ hit.session.0))
         → first_of_each (hits ++ last ∷ []) ≡ first_of_each hits ++ if_new (first_of_each hits) (Some last)
         → hit ∷ others hit (first_of_each (hits ++ last ∷ []))
-        ≡ (hit ∷ others hit (first_of_each hits)) ++ cond ((hit.session.0 == last.session.0) || is_hit (others hit (first_of_each hits)) last.session.0) [] (last ∷ [])
+        ≡ (hit ∷ others hit (first_of_each hits)) ++ cond ((hit.session.0 == last.session.0) || is_hit (others hit (first_of_each hits)) last.session.0) []
+        (last ∷ [])
     by_test (inl same) (inr differs) later = absurd (differs.1 (sym same.1))
     by_test (inr differs) (inl same) later = absurd (differs.1 (sym same.1))
     by_test (inl same) (inl again) later =
@@ -44,7 +49,8 @@ first-more (hit ∷ hits) last = by_test (eqb_tells hit.session.0 last.session.0
           | true ↦ rw append-nil refl
           | false ↦ rw (filter-append, again.0, append-nil) refl
         ] in
-        rw (same.0, later, dropped (is_hit (first_of_each hits) last.session.0)) (ap (λ (all : List Hit). hit ∷ all) (sym (append-nil (others hit (first_of_each hits)))))
+        rw (same.0, later, dropped (is_hit (first_of_each hits) last.session.0))
+        (ap (λ (all : List Hit). hit ∷ all) (sym (append-nil (others hit (first_of_each hits)))))
     by_test (inr differs) (inr again) later =
         let kept : (b : Bool) → others hit (first_of_each hits ++ cond b [] (last ∷ [])) ≡ others hit (first_of_each hits) ++ cond b [] (last ∷ [])
         = λ b. elim b as (λ b. others hit (first_of_each hits ++ cond b [] (last ∷ [])) ≡ others hit (first_of_each hits) ++ cond b [] (last ∷ [])) [

@@ -1,5 +1,6 @@
 -- Only nodes with hit regions give a hit, so that their places are enough.
-use Rattle.std.proofs.Common.{ℕ, ℤ, zero, suc, ◌+◌, ◌<◌, ◌≤◌, ◌≡◌, refl, sym, ap, ◌∙◌, arith, Bool, true, false, cond, List, [], ◌∷◌, ◌++◌, length, take, reverse, slice_get, append-nil, Option, Some, None}
+use Rattle.std.proofs.Common.{ℕ, ℤ, zero, suc, ◌+◌, ◌<◌, ◌≤◌, ◌≡◌, refl, sym, ap, ◌∙◌, arith, Bool, true, false, cond, List, [], ◌∷◌, ◌++◌, length, take}
+use Rattle.std.proofs.Common.{reverse, slice_get, append-nil, Option, Some, None}
 use Rattle.std.specs.List.{cons_option, filter_map}
 use Rattle.std.proofs.lemmas.List.{take_more, length-take-le, reverse-append}
 use Rattle.std.proofs.lemmas.List.Elements.{filter_map-append}
@@ -22,17 +23,21 @@ by-first : (b : Bool) (first : ℕ) (xs ys : List ℕ) → cond b (first ∷ (xs
 by-first true first xs ys = refl
 by-first false first xs ys = refl
 
-places-behind : (first : ℕ) (nodes : List Placed) (at : Placed) → places_from first (nodes ++ at ∷ []) ≡ places_from first nodes ++ cond (has_region at) ((first + length nodes) ∷ []) []
+places-behind : (first : ℕ) (nodes : List Placed) (at : Placed)
+    → places_from first (nodes ++ at ∷ []) ≡ places_from first nodes ++ cond (has_region at) ((first + length nodes) ∷ []) []
 places-behind first [] at = ap (λ n. cond (has_region at) (n ∷ []) []) (let same : first ≡ first + 0 = omega arith in same)
 places-behind first (next ∷ later) at =
     let there : suc first + length later ≡ first + suc (length later) = omega arith in
-    ap (λ ns. cond (has_region next) (first ∷ ns) ns) (places-behind (suc first) later at ∙ ap (λ n. places_from (suc first) later ++ cond (has_region at) (n ∷ []) []) there)
+    ap (λ ns. cond (has_region next) (first ∷ ns) ns) (places-behind (suc first) later at
+    ∙ ap (λ n. places_from (suc first) later ++ cond (has_region at) (n ∷ []) []) there)
     ∙ by-first (has_region next) first (places_from (suc first) later) (cond (has_region at) ((first + suc (length later)) ∷ []) [])
 
-pub place-more : (nodes : List Placed) (place : ℕ) (at : Placed) (old new : List ℕ) → place < length nodes → slice_get nodes place ≡ Some at → old ≡ region_places (take place nodes)
+pub place-more : (nodes : List Placed) (place : ℕ) (at : Placed) (old new : List ℕ) → place < length nodes → slice_get nodes place ≡ Some at
+    → old ≡ region_places (take place nodes)
     → new ≡ old ++ cond (has_region at) (place ∷ []) [] → new ≡ region_places (take (place + 1) nodes)
 place-more nodes place at old new within is so_far more =
-    let whole : take (place + 1) nodes ≡ take place nodes ++ at ∷ [] = take_more nodes place at within ∙ ap (λ (node : Placed). take place nodes ++ node ∷ []) (get_or_from_slice_get nodes place at at is) in
+    let whole : take (place + 1) nodes ≡ take place nodes ++ at ∷ [] =
+    take_more nodes place at within ∙ ap (λ (node : Placed). take place nodes ++ node ∷ []) (get_or_from_slice_get nodes place at at is) in
     let short = length-take-le place nodes (let low : place ≤ length nodes = omega (arith, within) in low) in
     let long : 0 + length (take place nodes) ≡ place = omega (arith, short) in
     more ∙ ap (λ (ps : List ℕ). ps ++ cond (has_region at) (place ∷ []) []) so_far
@@ -55,7 +60,8 @@ all-given : {Y : Type 0} (f : Placed → Option Y) → ((at : Placed) → has_re
     → filter_map (λ n. given f (look n)) (places_from first nodes) ≡ filter_map f nodes
 all-given f none look first [] there = refl
 all-given {Y} f none look first (at ∷ later) there =
-    by_region (has_region at) refl (all-given f none look (suc first) later (λ k. let next : suc first + k ≡ first + suc k = omega arith in ap look next ∙ there (suc k)))
+    by_region (has_region at) refl (all-given f none look (suc first) later
+    (λ k. let next : suc first + k ≡ first + suc k = omega arith in ap look next ∙ there (suc k)))
   where
     here : look first ≡ Some at
     here = let same : first ≡ first + 0 = omega arith in ap look same ∙ there 0
@@ -78,7 +84,8 @@ turned {X} {Y} f (x ∷ xs) =
 
 pub places-enough : {Y : Type 0} (f : Placed → Option Y) → ((at : Placed) → has_region at ≡ false → f at ≡ None) → (nodes : List Placed)
     → filter_map (given_at f nodes) (reverse (region_places nodes)) ≡ filter_map f (reverse nodes)
-places-enough f none nodes = turned (given_at f nodes) (region_places nodes) ∙ ap reverse (all-given f none (slice_get nodes) 0 nodes (λ k. let same : 0 + k ≡ k = omega arith in ap (slice_get nodes) same)) ∙ sym (turned f nodes)
+places-enough f none nodes = turned (given_at f nodes) (region_places nodes)
+    ∙ ap reverse (all-given f none (slice_get nodes) 0 nodes (λ k. let same : 0 + k ≡ k = omega arith in ap (slice_get nodes) same)) ∙ sym (turned f nodes)
 
 -- each place has a node
 pub place-within : (first : ℕ) (nodes : List Placed) (i place : ℕ) → slice_get (places_from first nodes) i ≡ Some place → place < first + length nodes

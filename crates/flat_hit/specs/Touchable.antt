@@ -13,7 +13,8 @@ has_region at = has_any at.hits
 -- the places of some nodes that have hit regions, of which the first node stands at this place
 abbrev pub places_from : ℕ → List Placed → List ℕ
 places_from first [] = []
-places_from first (at ∷ later) = cond (has_region at) (first ∷ places_from (suc first) later) (places_from (suc first) later)
+places_from first (at ∷ later) = cond (has_region at) (first ∷ places_from (suc first) later)
+    (places_from (suc first) later)
 
 -- of all nodes
 abbrev pub region_places : List Placed → List ℕ

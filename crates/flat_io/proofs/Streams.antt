@@ -14,7 +14,8 @@ keeps-told tells None (Some ys) was is keeps = no_both tells was is
 keeps-told tells (Some xs) None was is keeps = absurd keeps
 keeps-told tells (Some xs) (Some ys) was is keeps = ap Some keeps
 
-pub takes-told : (tells : Bool) (old new : Option (List ℕ)) (count : ℕ) (buffer : List ℕ) → is_some old ≡ tells → is_some new ≡ tells → Consumes old new (take count buffer) → Takes count buffer old new
+pub takes-told : (tells : Bool) (old new : Option (List ℕ)) (count : ℕ) (buffer : List ℕ) → is_some old ≡ tells → is_some new ≡ tells
+    → Consumes old new (take count buffer) → Takes count buffer old new
 takes-told tells None None count buffer was is took = tt
 takes-told tells None (Some ys) count buffer was is took = no_both tells was is
 takes-told tells (Some xs) None count buffer was is took = absurd took
@@ -26,7 +27,8 @@ end-told tells None (Some ys) was is end = no_both tells was is
 end-told tells (Some xs) None was is end = tt
 end-told tells (Some xs) (Some ys) was is end = end
 
-pub appends-told : (tells : Bool) (old new : Option (List ℕ)) (bytes : List ℕ) → is_some old ≡ tells → is_some new ≡ tells → Grows old new bytes → Appends bytes old new
+pub appends-told : (tells : Bool) (old new : Option (List ℕ)) (bytes : List ℕ) → is_some old ≡ tells → is_some new ≡ tells → Grows old new bytes
+    → Appends bytes old new
 appends-told tells None None bytes was is grows = tt
 appends-told tells None (Some ys) bytes was is grows = no_both tells was is
 appends-told tells (Some xs) None bytes was is grows = absurd grows

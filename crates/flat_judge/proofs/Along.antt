@@ -1,5 +1,6 @@
 -- A run whose report a text is, and the text of its first entries.
-use Rattle.std.proofs.Common.{◌≡◌, ℕ, zero, suc, ◌+◌, ◌<◌, ◌≤◌, ◌^◌, ◌==◌, ◌&&◌, nat_lt, nat_le, Bool, true, false, cond, List, [], ◌∷◌, ◌++◌, length, drop, map, filter, codes, Option, Some, None, refl, sym, ap, ◌∙◌, subst, arith, append_assoc, append-nil, true≢false}
+use Rattle.std.proofs.Common.{◌≡◌, ℕ, zero, suc, ◌+◌, ◌<◌, ◌≤◌, ◌^◌, ◌==◌, ◌&&◌, nat_lt, nat_le, Bool, true, false, cond, List, [], ◌∷◌, ◌++◌, length, drop}
+use Rattle.std.proofs.Common.{map, filter, codes, Option, Some, None, refl, sym, ap, ◌∙◌, subst, arith, append_assoc, append-nil, true≢false}
 use Rattle.std.specs.List.{list_all, zip}
 use Rattle.std.proofs.lemmas.Bool.{and_parts}
 use Rattle.std.proofs.lemmas.Bool.Decides.{nat_tests}
@@ -35,16 +36,20 @@ use Rattle.flat_judge.proofs.NextWords.{end-next, entry-next}
 pub frames-one : (before : List Entry) (entry : Entry) → frames (before ▹ entry) ≡ cond (is_finish entry.kind) (suc (frames before)) (frames before)
 frames-one before entry = by_test (is_finish entry.kind)
   where
-    by_test : (b : Bool) → length (cond b (entry ∷ filter (λ (e : Entry). is_finish e.kind) before) (filter (λ (e : Entry). is_finish e.kind) before)) ≡ cond b (suc (frames before)) (frames before)
+    by_test : (b : Bool) → length (cond b (entry ∷ filter (λ (e : Entry). is_finish e.kind) before) (filter (λ (e : Entry). is_finish e.kind) before))
+        ≡ cond b (suc (frames before)) (frames before)
     by_test true = refl
     by_test false = refl
 
-pub shown-agree : (script : Script) (lost lost' : List Lost) (before : List Entry) (b : Bool) → (b ≡ true → lost_at (suc (frames before)) lost ≡ lost_at (suc (frames before)) lost')
+pub shown-agree : (script : Script) (lost lost' : List Lost) (before : List Entry) (b : Bool)
+    → (b ≡ true → lost_at (suc (frames before)) lost ≡ lost_at (suc (frames before)) lost')
     → cond b (shown_lines script lost before) [] ≡ cond b (shown_lines script lost' before) []
-shown-agree script lost lost' before true same = ap (λ (ls : List Lost). frame_lines script (frame_at script.setup (suc (frames before)) (to_begin before)) ++ map lost_line ls) (same refl)
+shown-agree script lost lost' before true same = ap (λ (ls : List Lost). frame_lines script (frame_at script.setup (suc (frames before)) (to_begin before))
+    ++ map lost_line ls) (same refl)
 shown-agree script lost lost' before false same = refl
 
-pub history-agrees : (script : Script) (lost lost' : List Lost) (history : List Entry) → AgreeTo 0 (frames history) lost lost' → history_lines script lost history ≡ history_lines script lost' history
+pub history-agrees : (script : Script) (lost lost' : List Lost) (history : List Entry) → AgreeTo 0 (frames history) lost lost'
+    → history_lines script lost history ≡ history_lines script lost' history
 history-agrees script lost lost' [] agree = refl
 history-agrees script lost lost' (before ▹ entry) agree = by (is_finish entry.kind) refl (λ same. history-agrees script lost lost' before same)
   where
@@ -67,14 +72,17 @@ history-agrees script lost lost' (before ▹ entry) agree = by (is_finish entry.
         let here = shown-agree script lost lost' before (is_finish entry.kind) (λ finish. absurd (true≢false (sym finish ∙ is))) in
         λ i. earlier i ++ (own ∷ here i ++ events)
 
-pub told-agrees : (script : Script) (lost lost' : List Lost) (history : List Entry) → AgreeTo 0 (frames history) lost lost' → told script lost history ≡ told script lost' history
-told-agrees script lost lost' history agree = ap (λ (ls : List (List Word)). text_of (title_line script.version ∷ ls)) (history-agrees script lost lost' history agree)
+pub told-agrees : (script : Script) (lost lost' : List Lost) (history : List Entry) → AgreeTo 0 (frames history) lost lost'
+    → told script lost history ≡ told script lost' history
+told-agrees script lost lost' history agree = ap (λ (ls : List (List Word)). text_of (title_line script.version ∷ ls))
+    (history-agrees script lost lost' history agree)
 
 pub lost-append : (n : ℕ) (xs ys : List Lost) → lost_at n (xs ++ ys) ≡ lost_at n xs ++ lost_at n ys
 lost-append n [] ys = refl
 lost-append n (x ∷ xs) ys = by (x.frame.0 == n) (lost-append n xs ys)
   where
-    by : (b : Bool) → lost_at n (xs ++ ys) ≡ lost_at n xs ++ lost_at n ys → cond b (x ∷ lost_at n (xs ++ ys)) (lost_at n (xs ++ ys)) ≡ cond b (x ∷ lost_at n xs) (lost_at n xs) ++ lost_at n ys
+    by : (b : Bool) → lost_at n (xs ++ ys) ≡ lost_at n xs ++ lost_at n ys
+        → cond b (x ∷ lost_at n (xs ++ ys)) (lost_at n (xs ++ ys)) ≡ cond b (x ∷ lost_at n xs) (lost_at n xs) ++ lost_at n ys
     by true later = ap (λ (ls : List Lost). x ∷ ls) later
     by false later = later
 
@@ -87,7 +95,8 @@ none-at n to (x ∷ more) upto behind =
     rw other (none-at n to more upto parts.1)
 
 pub prefix-agrees : (to : ℕ) (lost more : List Lost) → are_behind to more ≡ true → AgreeTo 0 to (lost ++ more) lost
-prefix-agrees to lost more behind = λ n from upto. lost-append n lost more ∙ ap (λ (ls : List Lost). lost_at n lost ++ ls) (none-at n to more upto behind) ∙ append-nil (lost_at n lost)
+prefix-agrees to lost more behind = λ n from upto. lost-append n lost more ∙ ap (λ (ls : List Lost). lost_at n lost ++ ls) (none-at n to more upto behind)
+    ∙ append-nil (lost_at n lost)
 
 -- ---- a report from a history on
 
@@ -112,15 +121,18 @@ module _ {script : Script} (run : Run script) where
   ending-is : text_of (seen_lines ++ last_lines) ≡ ending
   ending-is = sym (append-nil (text_of (seen_lines ++ last_lines))) ∙ text-sheet (seen_lines ++ last_lines) [] ∙ sheet-append seen_lines last_lines []
 
-  pub run-text : (before later : List Entry) → run.history ≡ and_then before later → report_of script run ≡ told script run.lost before ++ later_text before later
+  pub run-text : (before later : List Entry) → run.history ≡ and_then before later
+      → report_of script run ≡ told script run.lost before ++ later_text before later
   run-text before later is =
       let title = title_line script.version in
       let first = history_lines script run.lost before in
       let next = tail (entry_lines script run.lost) before later in
       let all : history_lines script run.lost run.history ≡ first ++ next =
-      ap (history_lines script run.lost) (is ∙ then-onto before later) ∙ grows (history_lines script run.lost) (entry_lines script run.lost) (λ b e. refl) before later in
+      ap (history_lines script run.lost) (is ∙ then-onto before later)
+      ∙ grows (history_lines script run.lost) (entry_lines script run.lost) (λ b e. refl) before later in
       ap (λ (ls : List (List Word)). text_of (title ∷ ((ls ++ seen_lines) ++ last_lines))) all
-      ∙ ap (λ (ls : List (List Word)). text_of (title ∷ ls)) (append_assoc (first ++ next) seen_lines last_lines ∙ append_assoc first next (seen_lines ++ last_lines))
+      ∙ ap (λ (ls : List (List Word)). text_of (title ∷ ls))
+      (append_assoc (first ++ next) seen_lines last_lines ∙ append_assoc first next (seen_lines ++ last_lines))
       ∙ text-append (title ∷ first) (next ++ (seen_lines ++ last_lines))
       ∙ ap (λ (t : List ℕ). told script run.lost before ++ t) (text-append next (seen_lines ++ last_lines) ∙ ap (λ (t : List ℕ). text_of next ++ t) ending-is)
 
@@ -151,7 +163,8 @@ module _ (script : Script) (lost : List Lost) (before : List Entry) (entry : Ent
       let own = text_of (own_line ∷ []) in
       let shown = text_of shown_here in
       let events = text_of events_here in
-      ap (λ (t : List ℕ). t ++ rest) (text-append (entry_lines script lost before entry) (tail (entry_lines script lost) (before ▹ entry) later) ∙ ap (λ (t : List ℕ). t ++ next) entry-parts)
+      ap (λ (t : List ℕ). t ++ rest) (text-append (entry_lines script lost before entry) (tail (entry_lines script lost) (before ▹ entry) later)
+      ∙ ap (λ (t : List ℕ). t ++ next) entry-parts)
       ∙ append_assoc (own ++ (shown ++ events)) next rest
       ∙ append_assoc own (shown ++ events) (next ++ rest)
       ∙ ap (λ (t : List ℕ). own ++ t) (append_assoc shown events (next ++ rest))
@@ -183,23 +196,27 @@ module _ (script : Script) (text : List ℕ) (before : List Entry) (lost : List 
           ∙ end-next script kept.named run.history (probe_lines script) run.seen last_words [] (probe-lines-are script kept.spoken)
 
       -- the entry that comes next stands, and the text says whose it is
-      pub run-next : IsRead script → (other : Entry) (more : List Entry) → goes.later ≡ other ∷ more → (next_actor script (drop at text) ≡ Some other.actor) × Stands script.setup script.count script.lines (before ▹ other)
+      pub run-next : IsRead script → (other : Entry) (more : List Entry) → goes.later ≡ other ∷ more
+          → (next_actor script (drop at text) ≡ Some other.actor) × Stands script.setup script.count script.lines (before ▹ other)
       run-next read other more some =
           let kept : Kept (2 ^ 32) script = read-kept read.0 script read.1 in
           let S : List Entry → Type 0 = Stands script.setup script.count script.lines in
           let L : List Entry → Type 0 = λ es. Stands script.setup script.count script.lines (onto before es) in
           let whole : Stands script.setup script.count script.lines (onto before goes.later) =
           subst S (goes.entries ∙ then-onto before goes.later) (stands script.setup script.count script.lines run.history run.is.legal run.is.interleaves) in
-          let standing : Stands script.setup script.count script.lines (before ▹ other) = stood script.setup script.count script.lines (before ▹ other) more (subst L some whole) in
+          let standing : Stands script.setup script.count script.lines (before ▹ other) =
+          stood script.setup script.count script.lines (before ▹ other) more (subst L some whole) in
           let acting : Acts script other.actor = acts script other.kind other.actor standing.legal.1.may.acts in
           let own = own_line script run.lost before other in
-          let rest = text_of (shown_here script run.lost before other) ++ (text_of (events_here script run.lost before other) ++ (text_of (tail (entry_lines script run.lost) (before ▹ other) more) ++ ending run)) in
+          let rest = text_of (shown_here script run.lost before other)
+          ++ (text_of (events_here script run.lost before other) ++ (text_of (tail (entry_lines script run.lost) (before ▹ other) more) ++ ending run)) in
           let here : drop at text ≡ line_on own rest =
           text-at ∙ ap (later_text run before) some ∙ tail-parts script run.lost before other more (ending run) ∙ text-sheet (own ∷ []) rest in
           (ap (next_actor script) here ∙ entry-next script kept.named (frames before) (hits_at script.setup (to_finished before)) other rest acting, standing)
 
       -- where an entry may come next of whom the text says, it is that of the run
-      pub next-entry : IsRead script → (entry : Entry) → next_actor script (drop at text) ≡ Some entry.actor → Stands script.setup script.count script.lines (before ▹ entry)
+      pub next-entry : IsRead script → (entry : Entry) → next_actor script (drop at text) ≡ Some entry.actor
+          → Stands script.setup script.count script.lines (before ▹ entry)
           → (later : List Entry) × (goes.later ≡ entry ∷ later)
       next-entry read entry turn standing = by goes.later refl
         where

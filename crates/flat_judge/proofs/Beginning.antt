@@ -1,5 +1,6 @@
 -- Before the first entry, and behind the last one.
-use Rattle.std.proofs.Common.{◌≡◌, ℕ, ◌+◌, ◌<◌, ◌≤◌, ◌&&◌, nat_lt, nat_le, Bool, true, false, List, [], ◌∷◌, ◌++◌, length, reverse, drop, Option, Some, None, refl, sym, ap, ◌∙◌, subst, arith, append-nil}
+use Rattle.std.proofs.Common.{◌≡◌, ℕ, ◌+◌, ◌<◌, ◌≤◌, ◌&&◌, nat_lt, nat_le, Bool, true, false, List, [], ◌∷◌, ◌++◌, length, reverse, drop, Option, Some, None}
+use Rattle.std.proofs.Common.{refl, sym, ap, ◌∙◌, subst, arith, append-nil}
 use Rattle.std.specs.List.{list_all}
 use Rattle.std.proofs.lemmas.List.{reverse-reverse}
 use Rattle.flat_base.proofs.lemmas.Tests.{and-left, and-right, and-true}
@@ -20,7 +21,8 @@ use Rattle.flat_judge.proofs.LossesTold.{loss-parts}
 
 -- a history is its entries, the oldest first
 from-oldest : (history : List Entry) → history ≡ and_then [] (reverse history)
-from-oldest history = sym (then-onto [] (reverse history) ∙ onto-reverse [] (reverse history) ∙ append-nil (reverse (reverse history)) ∙ reverse-reverse history)
+from-oldest history = sym (then-onto [] (reverse history) ∙ onto-reverse [] (reverse history) ∙ append-nil (reverse (reverse history))
+    ∙ reverse-reverse history)
 
 -- displays are lost at frames from 1 on
 all-behind : (history : List Entry) (lost : List Lost) → is_loss history lost ≡ true → are_behind 0 lost ≡ true
@@ -33,10 +35,17 @@ all-behind history (x ∷ lost) loss =
 
 module _ (script : Script) (text : List ℕ) (along : Along) (lost : along.lost ≡ []) where
   first-led : AllGoOn script text [] [] 0
-  first-led read run report = record { later = reverse run.history; entries = from-oldest run.history; more = run.lost; losses = refl; behind = all-behind run.history run.lost run.is.loss }
+  first-led read run report = record {
+    later = reverse run.history;
+    entries = from-oldest run.history;
+    more = run.lost;
+    losses = refl;
+    behind = all-behind run.history run.lost run.is.loss;
+  }
 
   -- the text has the first line
-  pub first-along : (at : ℕ) → along.posted ≡ 0 → Passes text 0 (text_of (title_line script.version ∷ [])) (Some at) → IsAlong script text [] (record along { at = at })
+  pub first-along : (at : ℕ) → along.posted ≡ 0 → Passes text 0 (text_of (title_line script.version ∷ [])) (Some at)
+      → IsAlong script text [] (record along { at = at })
   first-along at posted passes =
       let start : Begins text [] 0 = record { long = refl; is = refl } in
       let B : List Lost → Type 0 = λ ls. Begins text (told script ls []) at in
@@ -56,6 +65,7 @@ module _ (script : Script) (text : List ℕ) (along : Along) (lost : along.lost 
       let start : Begins text [] 0 = record { long = refl; is = refl } in
       let A : List Lost → Type 0 = λ ls. AreLosses 0 ls in
       record {
-        only = λ read run report. absurd (parts [] (later_text run [] (reverse run.history)) start (report ∙ run-text run [] (reverse run.history) (from-oldest run.history)));
+        only = λ read run report. absurd (parts [] (later_text run [] (reverse run.history)) start
+            (report ∙ run-text run [] (reverse run.history) (from-oldest run.history)));
         losses = subst A (sym lost) ((λ history many. refl), refl);
       }

@@ -1,5 +1,6 @@
 -- Lines that are written are read back, and so are their words.
-use Rattle.std.proofs.Common.{◌≡◌, ℕ, ◌+◌, ◌<◌, ◌||◌, ◌==◌, nat_lt, Bool, true, false, cond, List, [], ◌∷◌, ◌++◌, length, map, append_assoc, refl, sym, ap, ◌∙◌, arith, Some, slice_get}
+use Rattle.std.proofs.Common.{◌≡◌, ℕ, ◌+◌, ◌<◌, ◌||◌, ◌==◌, nat_lt, Bool, true, false, cond, List, [], ◌∷◌, ◌++◌, length, map, append_assoc, refl, sym, ap, ◌∙◌}
+use Rattle.std.proofs.Common.{arith, Some, slice_get}
 use Rattle.std.specs.List.{flat_map, list_all, list_any, onto_first, slice_split}
 use Rattle.std.proofs.lemmas.Bool.{and_parts, and_from}
 use Rattle.std.proofs.lemmas.Bool.Decides.{nat_tests}
@@ -19,14 +20,18 @@ onto-append x [] ys some = absurd (omega (arith, some))
 onto-append x (piece ∷ xs) ys some = refl
 
 -- the pieces before a separator, and those behind it
-pub split-behind : (p : ℕ → Bool) (c : ℕ) (before later : List ℕ) → p c ≡ true → slice_split p (before ++ c ∷ later) ≡ slice_split p before ++ slice_split p later
+pub split-behind : (p : ℕ → Bool) (c : ℕ) (before later : List ℕ) → p c ≡ true
+    → slice_split p (before ++ c ∷ later) ≡ slice_split p before ++ slice_split p later
 split-behind p c [] later cuts = slice_split-cons_yes p c later cuts
 split-behind p c (x ∷ before) later cuts = by (p x) refl (split-behind p c before later cuts)
   where
-    by : (b : Bool) → p x ≡ b → slice_split p (before ++ c ∷ later) ≡ slice_split p before ++ slice_split p later → slice_split p (x ∷ (before ++ c ∷ later)) ≡ slice_split p (x ∷ before) ++ slice_split p later
-    by true is rest = slice_split-cons_yes p x (before ++ c ∷ later) is ∙ ap (λ (ps : List (List ℕ)). [] ∷ ps) rest ∙ sym (ap (λ (ps : List (List ℕ)). ps ++ slice_split p later) (slice_split-cons_yes p x before is))
+    by : (b : Bool) → p x ≡ b → slice_split p (before ++ c ∷ later) ≡ slice_split p before ++ slice_split p later
+        → slice_split p (x ∷ (before ++ c ∷ later)) ≡ slice_split p (x ∷ before) ++ slice_split p later
+    by true is rest = slice_split-cons_yes p x (before ++ c ∷ later) is ∙ ap (λ (ps : List (List ℕ)). [] ∷ ps) rest
+        ∙ sym (ap (λ (ps : List (List ℕ)). ps ++ slice_split p later) (slice_split-cons_yes p x before is))
     by false is rest =
-        slice_split-cons_no p x (before ++ c ∷ later) is ∙ ap (onto_first x) rest ∙ onto-append x (slice_split p before) (slice_split p later) (some-piece p before)
+        slice_split-cons_no p x (before ++ c ∷ later) is ∙ ap (onto_first x) rest
+        ∙ onto-append x (slice_split p before) (slice_split p later) (some-piece p before)
         ∙ sym (ap (λ (ps : List (List ℕ)). ps ++ slice_split p later) (slice_split-cons_no p x before is))
 
 -- a piece without a separator is the only one
@@ -34,7 +39,8 @@ pub split-none : (p : ℕ → Bool) (piece : List ℕ) → list_any p piece ≡ 
 split-none p [] none = refl
 split-none p (x ∷ piece) none = by (p x) refl none (split-none p piece)
   where
-    by : (b : Bool) → p x ≡ b → (b || list_any p piece) ≡ false → (list_any p piece ≡ false → slice_split p piece ≡ piece ∷ []) → slice_split p (x ∷ piece) ≡ (x ∷ piece) ∷ []
+    by : (b : Bool) → p x ≡ b → (b || list_any p piece) ≡ false → (list_any p piece ≡ false → slice_split p piece ≡ piece ∷ [])
+        → slice_split p (x ∷ piece) ≡ (x ∷ piece) ∷ []
     by true is none rest = absurd (let wrong : true ≡ false = none in cc)
     by false is none rest = slice_split-cons_no p x piece is ∙ ap (onto_first x) (rest none)
 
@@ -48,7 +54,8 @@ end-append (x ∷ x' ∷ xs) ys some = ap (λ (ls : List (List ℕ)). x ∷ ls) 
 
 -- what stands behind a feed has lines of its own
 pub lines-behind : (before later : List ℕ) → lines_of (before ++ 10 ∷ later) ≡ slice_split is_feed before ++ lines_of later
-lines-behind before later = ap without_empty_end (split-behind is_feed 10 before later refl) ∙ end-append (slice_split is_feed before) (slice_split is_feed later) (some-piece is_feed later)
+lines-behind before later = ap without_empty_end (split-behind is_feed 10 before later refl)
+    ∙ end-append (slice_split is_feed before) (slice_split is_feed later) (some-piece is_feed later)
 
 -- so the lines behind a text of lines come behind those of the text
 abbrev pub EndsLines : List ℕ → Type 0

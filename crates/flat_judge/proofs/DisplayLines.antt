@@ -1,5 +1,6 @@
 -- The display's next line: that it may be entered, and what it leaves.
-use Rattle.std.proofs.Common.{◌≡◌, ℕ, suc, ◌+◌, ◌<◌, ◌≤◌, ◌^◌, Bool, true, false, cond, ◌==◌, List, [], ◌∷◌, length, drop, refl, sym, ap, ◌∙◌, subst, arith, Option, Some, None}
+use Rattle.std.proofs.Common.{◌≡◌, ℕ, suc, ◌+◌, ◌<◌, ◌≤◌, ◌^◌, Bool, true, false, cond, ◌==◌, List, [], ◌∷◌, length, drop, refl, sym, ap, ◌∙◌, subst, arith}
+use Rattle.std.proofs.Common.{Option, Some, None}
 use Rattle.std.proofs.lemmas.Grind.{common_steps}
 use Rattle.flat_base.specs.declared.ids.Actor.{Actor}
 use Rattle.flat_base.specs.declared.ids.Actor.TheVariants.{Display, Session, Probe}
@@ -22,7 +23,8 @@ use Rattle.flat_places.specs.declared.script.Script.{Script}
 use Rattle.flat_playable.specs.Playable.{is_playable, is_played}
 use Rattle.flat_play.specs.Playing.{DisplayStands, display_text, lines_by, shares_of}
 use Rattle.flat_play.proofs.lemmas.Alone.{may_alone}
-use Rattle.flat_play.proofs.lemmas.DisplaySteps.{QuietStep, begin_time_ok, display_begin, display_beside, display_done, display_probe, display_session, done_ok, may_begin, may_finish, may_hit}
+use Rattle.flat_play.proofs.lemmas.DisplaySteps.{QuietStep, begin_time_ok, display_begin, display_beside, display_done, display_probe, display_session, done_ok}
+use Rattle.flat_play.proofs.lemmas.DisplaySteps.{may_begin, may_finish, may_hit}
 use Rattle.flat_play.proofs.lemmas.FramesShown.{few_frames}
 use Rattle.flat_play.proofs.lemmas.Starting.{by_at_most, few}
 use Rattle.flat_play.proofs.lemmas.Steps.{At}
@@ -34,7 +36,8 @@ pub record IsDisplays (x : ScriptLine) (text : DisplayLine) : Type 0 where
   pub who : x.actor ≡ Display
   pub what : x.body ≡ body.Display text
 
-of_display : (setup : Setup) (who : Actor) (what : Body) (text : DisplayLine) → is_played setup who what ≡ true → display_text what ≡ Some text → (who ≡ Display) × (what ≡ body.Display text)
+of_display : (setup : Setup) (who : Actor) (what : Body) (text : DisplayLine) → is_played setup who what ≡ true → display_text what ≡ Some text
+    → (who ≡ Display) × (what ≡ body.Display text)
 of_display setup Display (body.Display said) text played is = let same : said ≡ text = cc in (refl, ap body.Display same)
 of_display setup (Session s) (body.Display said) text played is = absurd (let wrong : false ≡ true = played in cc)
 of_display setup (Probe p) (body.Display said) text played is = absurd (let wrong : false ≡ true = played in cc)
@@ -54,21 +57,24 @@ module _ (script : Script) (place : ℕ) (x : ScriptLine) (at : At script place 
       by (body.Probe asked) is = display_probe script place x at asked is history stands
       by (body.Display text) is = absurd (let wrong : Some text ≡ None = sym (ap display_text is) ∙ none in cc)
 
-  pub passes_spent : (history : List Entry) → made 0 history + lines_by 0 (drop place script.lines) ≤ lines_by 0 script.lines → made 0 history + lines_by 0 (drop (place + 1) script.lines) ≤ lines_by 0 script.lines
+  pub passes_spent : (history : List Entry) → made 0 history + lines_by 0 (drop place script.lines) ≤ lines_by 0 script.lines
+      → made 0 history + lines_by 0 (drop (place + 1) script.lines) ≤ lines_by 0 script.lines
   passes_spent history spent = let left = lines_left script place x at 0 in omega (arith, left, spent)
 
   module _ (text : DisplayLine) (is : IsDisplays x text) where
     one_left : lines_by 0 (drop place script.lines) ≡ lines_by 0 (drop (place + 1) script.lines) + 1
     one_left = lines_left script place x at 0 ∙ ap (λ (a : Actor). lines_by 0 (drop (place + 1) script.lines) + cond (seat_number a == 0) 1 0) is.who
 
-    pub display_room : (m : Machine) → m.shares ≡ shares_of script → made 0 m.history + lines_by 0 (drop place script.lines) ≤ lines_by 0 script.lines → HasShare m Display
+    pub display_room : (m : Machine) → m.shares ≡ shares_of script → made 0 m.history + lines_by 0 (drop place script.lines) ≤ lines_by 0 script.lines
+        → HasShare m Display
     display_room m shares spent = let left = one_left in rw shares (omega (arith, left, spent))
 
     played_text : is_played_display script.setup text ≡ true
     played_text = sym (λ i. is_played script.setup (is.who i) (is.what i)) ∙ at.played
 
     -- it may be entered
-    pub may_enter : (m : Machine) → m.setup ≡ script.setup → HasShare m Display → DisplayStands script place m.history → MayCall m Display [] (entry_of_display text)
+    pub may_enter : (m : Machine) → m.setup ≡ script.setup → HasShare m Display → DisplayStands script place m.history
+        → MayCall m Display [] (entry_of_display text)
     may_enter m setup share stands = by text is.what (let P : Setup → Type 0 = λ st. is_played_display st text ≡ true in subst P (sym setup) played_text)
       where
         by : (said : DisplayLine) → x.body ≡ body.Display said → is_played_display m.setup said ≡ true → MayCall m Display [] (entry_of_display said)
@@ -80,18 +86,24 @@ module _ (script : Script) (place : ℕ) (x : ScriptLine) (at : At script place 
         by (display.Dpr q) what played = may_alone m (display.Dpr q) refl share played
 
     -- and the display stands behind it
-    pub display_goes : (old new : Machine) → HasEntered x.number (entry_of_display text) old new → DisplayStands script place old.history → DisplayStands script (place + 1) new.history
+    pub display_goes : (old new : Machine) → HasEntered x.number (entry_of_display text) old new → DisplayStands script place old.history
+        → DisplayStands script (place + 1) new.history
     display_goes old new entered_is stands = by text is.what entered_is
       where
-        by : (said : DisplayLine) → x.body ≡ body.Display said → HasEntered x.number (entry_of_display said) old new → DisplayStands script (place + 1) new.history
-        by (display.Begin time) what grown = let D : Machine → Type 0 = λ m. DisplayStands script (place + 1) m.history in subst D (sym grown) (display_begin script place x at time what old.history stands)
-        by display.Done what grown = let D : Machine → Type 0 = λ m. DisplayStands script (place + 1) m.history in subst D (sym grown) (display_done script place x at what old.history stands)
+        by : (said : DisplayLine) → x.body ≡ body.Display said → HasEntered x.number (entry_of_display said) old new
+            → DisplayStands script (place + 1) new.history
+        by (display.Begin time) what grown = let D : Machine → Type 0 =
+            λ m. DisplayStands script (place + 1) m.history in subst D (sym grown) (display_begin script place x at time what old.history stands)
+        by display.Done what grown = let D : Machine → Type 0 =
+            λ m. DisplayStands script (place + 1) m.history in subst D (sym grown) (display_done script place x at what old.history stands)
         by (display.Hit px py) what grown =
             let D : Machine → Type 0 = λ m. DisplayStands script (place + 1) m.history in
-            subst D (sym grown) (display_beside script place x at (display.Hit px py) (kind.Hit px py) _ what refl refl refl (λ o t follows. refl) old.history stands)
+            subst D (sym grown) (display_beside script place x at (display.Hit px py) (kind.Hit px py) _ what refl refl refl (λ o t follows. refl) old.history
+            stands)
         by (display.Signal f) what grown =
             let D : Machine → Type 0 = λ m. DisplayStands script (place + 1) m.history in
-            subst D (sym grown) (display_beside script place x at (display.Signal f) (kind.Signal f) _ what refl refl refl (λ o t follows. refl) old.history stands)
+            subst D (sym grown) (display_beside script place x at (display.Signal f) (kind.Signal f) _ what refl refl refl (λ o t follows. refl) old.history
+            stands)
         by (display.Wait c) what grown =
             let D : Machine → Type 0 = λ m. DisplayStands script (place + 1) m.history in
             subst D (sym grown) (display_beside script place x at (display.Wait c) (kind.Wait c) _ what refl refl refl (λ o t follows. refl) old.history stands)
@@ -99,7 +111,8 @@ module _ (script : Script) (place : ℕ) (x : ScriptLine) (at : At script place 
             let D : Machine → Type 0 = λ m. DisplayStands script (place + 1) m.history in
             subst D (sym grown) (display_beside script place x at (display.Dpr q) (kind.Dpr q) _ what refl refl refl (λ o t follows. refl) old.history stands)
 
-    pub goes_spent : (old new : Machine) → HasEntered x.number (entry_of_display text) old new → made 0 old.history + lines_by 0 (drop place script.lines) ≤ lines_by 0 script.lines
+    pub goes_spent : (old new : Machine) → HasEntered x.number (entry_of_display text) old new
+        → made 0 old.history + lines_by 0 (drop place script.lines) ≤ lines_by 0 script.lines
         → made 0 new.history + lines_by 0 (drop (place + 1) script.lines) ≤ lines_by 0 script.lines
     goes_spent old new grown spent =
         let left = one_left in
@@ -108,7 +121,8 @@ module _ (script : Script) (place : ℕ) (x : ScriptLine) (at : At script place 
         omega (arith, left, more, spent)
 
 -- few frames were finished
-pub frames_below : (script : Script) → is_playable script ≡ true → (setup : Setup) (history : List Entry) (left : ℕ) → Legal setup history → made 0 history + left ≤ lines_by 0 script.lines → frames history + 1 < 2 ^ 32
+pub frames_below : (script : Script) → is_playable script ≡ true → (setup : Setup) (history : List Entry) (left : ℕ) → Legal setup history
+    → made 0 history + left ≤ lines_by 0 script.lines → frames history + 1 < 2 ^ 32
 frames_below script playable setup history left legal spent =
     let all : length script.lines ≤ 16777216 = few script playable in
     let most = by_at_most 0 script.lines in

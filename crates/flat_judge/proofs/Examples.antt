@@ -81,7 +81,8 @@ no_frame = refl
 no_frame_of_more_bits : frame_told (words_of (codes "P 9 await frame 4294967296")) ≡ 0
 no_frame_of_more_bits = refl
 
-the_last_two_lines : last_lines 2 (codes "A end 0" ++ 10 ∷ codes "P 9 await frame 7" ++ 10 ∷ codes "report ends" ++ 10 ∷ []) ≡ codes "P 9 await frame 7" ∷ codes "report ends" ∷ []
+the_last_two_lines : last_lines 2 (codes "A end 0" ++ 10 ∷ codes "P 9 await frame 7" ++ 10 ∷ codes "report ends" ++ 10 ∷ []) ≡ codes "P 9 await frame 7"
+    ∷ codes "report ends" ∷ []
 the_last_two_lines = refl
 
 abbrev asked_script : Script

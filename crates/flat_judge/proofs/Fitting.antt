@@ -10,7 +10,8 @@ use Rattle.flat_base.proofs.lemmas.Tests.{and-left, and-right, and-true, all-mor
 abbrev pub goes_before : Lost → Lost → Bool
 goes_before a b = is_lost_before a b && not (b.display == a.display)
 
-pub loss-more : (history : List Entry) (lost : List Lost) (next : Lost) → nat_lt 0 next.frame.0 ≡ true → nat_le next.frame.0 (frames history) ≡ true → list_all (λ one. is_lost_before one next && not (next.display == one.display)) lost ≡ true
+pub loss-more : (history : List Entry) (lost : List Lost) (next : Lost) → nat_lt 0 next.frame.0 ≡ true → nat_le next.frame.0 (frames history) ≡ true
+    → list_all (λ one. is_lost_before one next && not (next.display == one.display)) lost ≡ true
     → is_loss history lost ≡ true → is_loss history (lost ++ next ∷ []) ≡ true
 loss-more history [] next above within behind was = and-true (and-true (and-true above within) refl) refl
 loss-more history (a ∷ later) next above within behind was =

@@ -14,15 +14,20 @@ pub grown-none : (old new : List Entry) → new ≡ old → Grown old new
 grown-none old new same = record { more = []; is = same }
 
 pub grown-on : (a b c : List Entry) → Grown a b → Grown b c → Grown a c
-grown-on a b c first second = record { more = second.more ++ first.more; is = second.is ∙ ap (λ (es : List Entry). second.more ++ es) first.is ∙ sym (append_assoc second.more first.more a) }
+grown-on a b c first second = record {
+  more = second.more ++ first.more;
+  is = second.is ∙ ap (λ (es : List Entry). second.more ++ es) first.is ∙ sym (append_assoc second.more first.more a);
+}
 
 pub grown-goes : (who : Actor) (old new : Machine) (made : Bool) → Goes who old new made → Grown old.history new.history
 grown-goes who old new false (Goes.stays same) = grown-none old.history new.history (ap (λ (m : Machine). m.history) same)
-grown-goes who old new true (Goes.enters number carries kind reply aside is) = record { more = entry_of who number carries kind reply ∷ []; is = ap (λ (m : Machine). m.history) is }
+grown-goes who old new true (Goes.enters number carries kind reply aside is) =
+    record { more = entry_of who number carries kind reply ∷ []; is = ap (λ (m : Machine). m.history) is }
 
 pub grown-display : (old new : Machine) (made : Bool) → DisplayGoes old new made → Grown old.history new.history
 grown-display old new false (DisplayGoes.stays same) = grown-none old.history new.history (ap (λ (m : Machine). m.history) same)
-grown-display old new true (DisplayGoes.enters number kind is) = record { more = entry_of Display number [] kind (reply_to old.setup old.history Display [] kind) ∷ []; is = ap (λ (m : Machine). m.history) is }
+grown-display old new true (DisplayGoes.enters number kind is) =
+    record { more = entry_of Display number [] kind (reply_to old.setup old.history Display [] kind) ∷ []; is = ap (λ (m : Machine). m.history) is }
 
 pub frames-grown : (old new : List Entry) → Grown old new → frames old ≤ frames new
 frames-grown old new grown = by grown.more new grown.is

@@ -1,5 +1,6 @@
 -- A text is cut between its lines.
-use Rattle.std.proofs.Common.{◌≡◌, ◌⊎◌, inl, inr, ℕ, zero, suc, ◌+◌, ◌-◌, ◌<◌, ◌≤◌, ◌||◌, ◌==◌, not, cond, Bool, true, false, List, [], ◌∷◌, ◌++◌, length, take, drop, append-nil, append_assoc, length-append, refl, subst, sym, ap, ◌∙◌, arith}
+use Rattle.std.proofs.Common.{◌≡◌, ◌⊎◌, inl, inr, ℕ, zero, suc, ◌+◌, ◌-◌, ◌<◌, ◌≤◌, ◌||◌, ◌==◌, not, cond, Bool, true, false, List, [], ◌∷◌, ◌++◌, length, take}
+use Rattle.std.proofs.Common.{drop, append-nil, append_assoc, length-append, refl, subst, sym, ap, ◌∙◌, arith}
 use Rattle.std.specs.List.{list_any, before_first, after_first, position_or_len, slice_split, count_by}
 use Rattle.std.proofs.lemmas.Bool.{eqb-true}
 use Rattle.std.proofs.lemmas.Bool.Decides.{nat_tests}
@@ -20,7 +21,8 @@ first-line [] = record { fed = refl; whole = inr (refl, refl) }
 first-line (x ∷ text) = by (is_feed x) refl (first-line text)
   where
     on : ((text ≡ before_first is_feed text ++ 10 ∷ after_first is_feed text) ⊎ ((text ≡ before_first is_feed text) × (after_first is_feed text ≡ [])))
-        → ((x ∷ text ≡ (x ∷ before_first is_feed text) ++ 10 ∷ after_first is_feed text) ⊎ ((x ∷ text ≡ x ∷ before_first is_feed text) × (after_first is_feed text ≡ [])))
+        → ((x ∷ text ≡ (x ∷ before_first is_feed text) ++ 10 ∷ after_first is_feed text)
+        ⊎ ((x ∷ text ≡ x ∷ before_first is_feed text) × (after_first is_feed text ≡ [])))
     on (inl with) = inl (ap (λ (t : List ℕ). x ∷ t) with)
     on (inr without) = inr (ap (λ (t : List ℕ). x ∷ t) without.0, without.1)
 
@@ -30,7 +32,8 @@ first-line (x ∷ text) = by (is_feed x) refl (first-line text)
     At : ℕ → ℕ → Type 0
     At front back = IsLine (x ∷ text) (take front (x ∷ text)) (drop back (x ∷ text))
 
-    by : (b : Bool) → is_feed x ≡ b → IsLine text (take n text) (drop (n + 1) text) → IsLine (x ∷ text) (before_first is_feed (x ∷ text)) (after_first is_feed (x ∷ text))
+    by : (b : Bool) → is_feed x ≡ b → IsLine text (take n text) (drop (n + 1) text)
+        → IsLine (x ∷ text) (before_first is_feed (x ∷ text)) (after_first is_feed (x ∷ text))
     by true is later =
         let none : cond (not (is_feed x)) (1 + n) 0 ≡ 0 = ap (λ b. cond (not b) (1 + n) 0) is in
         let one : cond (not (is_feed x)) (1 + n) 0 + 1 ≡ 1 = ap (λ (k : ℕ). k + 1) none in
@@ -51,7 +54,8 @@ split-line : (line later : List ℕ) → list_any is_feed line ≡ false → sli
 split-line [] later none = slice_split-cons_yes is_feed 10 later refl
 split-line (x ∷ line) later none = by (is_feed x) refl none (split-line line later)
   where
-    by : (b : Bool) → is_feed x ≡ b → (b || list_any is_feed line) ≡ false → (list_any is_feed line ≡ false → slice_split is_feed (line ++ 10 ∷ later) ≡ line ∷ slice_split is_feed later)
+    by : (b : Bool) → is_feed x ≡ b → (b || list_any is_feed line) ≡ false
+        → (list_any is_feed line ≡ false → slice_split is_feed (line ++ 10 ∷ later) ≡ line ∷ slice_split is_feed later)
         → slice_split is_feed (x ∷ (line ++ 10 ∷ later)) ≡ (x ∷ line) ∷ slice_split is_feed later
     by true is none rest = absurd (let wrong : true ≡ false = none in cc)
     by false is none rest = slice_split-cons_no is_feed x (line ++ 10 ∷ later) is ∙ rw (rest none) refl
@@ -88,7 +92,8 @@ no-more : (lines : List (List ℕ)) (line : List ℕ) → list_any is_title line
 no-more [] line none is = rw is refl
 no-more (first ∷ lines) line none is = by (is_title first) refl none (λ rest. no-more lines line rest is)
   where
-    by : (b : Bool) → is_title first ≡ b → (b || list_any is_title lines) ≡ false → (list_any is_title lines ≡ false → list_any is_title (lines ++ line ∷ []) ≡ false)
+    by : (b : Bool) → is_title first ≡ b → (b || list_any is_title lines) ≡ false
+        → (list_any is_title lines ≡ false → list_any is_title (lines ++ line ∷ []) ≡ false)
         → (is_title first || list_any is_title (lines ++ line ∷ [])) ≡ false
     by true here none later = absurd (let wrong : true ≡ false = none in cc)
     by false here none later = let rest = later none in rw (here, rest) refl
@@ -97,7 +102,8 @@ alone : (line : List ℕ) → list_any is_feed line ≡ false → slice_split is
 alone [] none = refl
 alone (x ∷ line) none = by (is_feed x) refl none (alone line)
   where
-    by : (b : Bool) → is_feed x ≡ b → (b || list_any is_feed line) ≡ false → (list_any is_feed line ≡ false → slice_split is_feed line ≡ line ∷ []) → slice_split is_feed (x ∷ line) ≡ (x ∷ line) ∷ []
+    by : (b : Bool) → is_feed x ≡ b → (b || list_any is_feed line) ≡ false → (list_any is_feed line ≡ false → slice_split is_feed line ≡ line ∷ [])
+        → slice_split is_feed (x ∷ line) ≡ (x ∷ line) ∷ []
     by true is none rest = absurd (let wrong : true ≡ false = none in cc)
     by false is none rest = slice_split-cons_no is_feed x line is ∙ rw (rest none) refl
 
@@ -122,9 +128,11 @@ pub record Reached (text rest : List ℕ) : Type 0 where
 pub reached-first : (text : List ℕ) → Reached text text
 reached-first text = record { before = []; is = refl; ends = inr (λ later. refl); lines = refl; none = refl }
 
-pub reached-on : (text rest line later : List ℕ) → Reached text rest → 0 < length rest → line ≡ before_first is_feed rest → later ≡ after_first is_feed rest → is_title line ≡ false → Reached text later
+pub reached-on : (text rest line later : List ℕ) → Reached text rest → 0 < length rest → line ≡ before_first is_feed rest → later ≡ after_first is_feed rest
+    → is_title line ≡ false → Reached text later
 reached-on text rest line later reached some line_is later_is plain =
-    by_ends reached.ends (subst (λ (l : List ℕ). IsLine rest l later) (sym line_is) (subst (λ (l : List ℕ). IsLine rest (before_first is_feed rest) l) (sym later_is) (first-line rest)))
+    by_ends reached.ends (subst (λ (l : List ℕ). IsLine rest l later) (sym line_is)
+    (subst (λ (l : List ℕ). IsLine rest (before_first is_feed rest) l) (sym later_is) (first-line rest)))
   where
     by_ends : ((rest ≡ []) ⊎ EndsLine reached.before) → IsLine rest line later → Reached text later
     by_ends (inl empty) is_line = absurd (let none : length rest ≡ 0 = ap length empty in omega (arith, some, none))
@@ -133,7 +141,8 @@ reached-on text rest line later reached some line_is later_is plain =
         by_line : ((rest ≡ line ++ 10 ∷ later) ⊎ ((rest ≡ line) × (later ≡ []))) → Reached text later
         by_line (inl with) =
             let grown : text ≡ (reached.before ++ (line ++ 10 ∷ [])) ++ later =
-            reached.is ∙ ap (λ t. reached.before ++ t) (with ∙ sym (append_assoc line (10 ∷ []) later)) ∙ sym (append_assoc reached.before (line ++ 10 ∷ []) later) in
+            reached.is ∙ ap (λ t. reached.before ++ t) (with ∙ sym (append_assoc line (10 ∷ []) later))
+            ∙ sym (append_assoc reached.before (line ++ 10 ∷ []) later) in
             let behind : EndsLine (reached.before ++ (line ++ 10 ∷ [])) = line-ends reached.before line ends is_line.fed in
             record {
               before = reached.before ++ (line ++ 10 ∷ []);
@@ -166,7 +175,8 @@ drop-front [] ys = refl
 drop-front (x ∷ xs) ys = drop-front xs ys
 
 -- before a line that begins a report
-pub cut-here : (text rest : List ℕ) (at : ℕ) → Reached text rest → 0 < length rest → at ≡ length text - length rest → is_title (before_first is_feed rest) ≡ true → IsCut text (take at text) (drop at text)
+pub cut-here : (text rest : List ℕ) (at : ℕ) → Reached text rest → 0 < length rest → at ≡ length text - length rest
+    → is_title (before_first is_feed rest) ≡ true → IsCut text (take at text) (drop at text)
 cut-here text rest at reached some at_is titled = by reached.ends
   where
     place : at ≡ length reached.before

@@ -1,5 +1,7 @@
 -- Looking through the lines that may answer probes.
-use Rattle.std.proofs.Common.{◌≡◌, ℕ, zero, suc, ◌+◌, ◌-◌, ◌<◌, ◌≤◌, ◌==◌, Bool, true, false, cond, List, [], ◌∷◌, ◌++◌, length, drop, replicate, append_assoc, append-nil, length-append, refl, sym, ap, ◌∙◌, subst, arith, Option, Some, None, Result, Ok, Err, slice_get, slice_index_or, slice_set}
+use Rattle.std.proofs.Common.{◌≡◌, ℕ, zero, suc, ◌+◌, ◌-◌, ◌<◌, ◌≤◌, ◌==◌, Bool, true, false, cond, List, [], ◌∷◌, ◌++◌, length, drop, replicate, append_assoc}
+use Rattle.std.proofs.Common.{append-nil, length-append, refl, sym, ap, ◌∙◌, subst, arith, Option, Some, None, Result, Ok, Err, slice_get, slice_index_or}
+use Rattle.std.proofs.Common.{slice_set}
 use Rattle.std.specs.Prelude.{IfOk, OnOk}
 use Rattle.std.specs.List.{flat_map, range_with_len}
 use Rattle.std.proofs.lemmas.Bool.{eq-eqb, eqb-true}
@@ -34,14 +36,16 @@ drop-more (suc n) (y ∷ xs) x later is = ap (λ (k : ℕ). drop k (y ∷ xs)) (
 numbers-more : {A : Type 0} (f : ℕ → List A) (n count : ℕ) → flat_map f (range_with_len n (suc count)) ≡ flat_map f (range_with_len n count) ++ f (n + count)
 numbers-more f n zero = append-nil (f n) ∙ ap f (let same : n ≡ n + 0 = omega arith in same)
 numbers-more f n (suc count) =
-    ap (λ xs. f n ++ xs) (numbers-more f (n + 1) count ∙ ap (λ (k : ℕ). flat_map f (range_with_len (n + 1) count) ++ f k) (let same : n + 1 + count ≡ n + suc count = omega arith in same))
+    ap (λ xs. f n ++ xs) (numbers-more f (n + 1) count ∙ ap (λ (k : ℕ). flat_map f (range_with_len (n + 1) count) ++ f k)
+    (let same : n + 1 + count ≡ n + suc count = omega arith in same))
     ∙ sym (append_assoc (f n) (flat_map f (range_with_len (n + 1) count)) (f (n + suc count)))
 
 -- the lines of the first probes
 abbrev pub lines_to : ℕ → List ScriptLine → List ScriptLine
 lines_to probes lines = flat_map (λ n. probe_lines_of n lines) (range_with_len 0 probes)
 
-pub lines-more : (probe : ℕ) (lines : List ScriptLine) → length (lines_to (probe + 1) lines) ≡ length (lines_to probe lines) + length (probe_lines_of probe lines)
+pub lines-more : (probe : ℕ) (lines : List ScriptLine)
+    → length (lines_to (probe + 1) lines) ≡ length (lines_to probe lines) + length (probe_lines_of probe lines)
 lines-more probe lines =
     ap (λ (n : ℕ). length (lines_to n lines)) (let one : probe + 1 ≡ suc probe = omega arith in one)
     ∙ ap length (numbers-more (λ n. probe_lines_of n lines) 0 probe)
@@ -72,7 +76,8 @@ set-other (z ∷ xs) zero (suc k) x apart = refl
 set-other (z ∷ xs) (suc n) zero x apart = refl
 set-other (z ∷ xs) (suc n) (suc k) x apart = set-other xs n k x (λ same. apart (ap suc same))
 
-pub notes-none : (script : Script) (line : List ℕ) (hints : List (List ℕ)) → ((n : ℕ) → n < length hints → is_this n (probe_answered script (words_of line)) ≡ false) → NotesLine script line hints hints
+pub notes-none : (script : Script) (line : List ℕ) (hints : List (List ℕ))
+    → ((n : ℕ) → n < length hints → is_this n (probe_answered script (words_of line)) ≡ false) → NotesLine script line hints hints
 notes-none script line hints none = record {
   count = refl;
   each = λ probe one at.
@@ -80,7 +85,8 @@ notes-none script line hints none = record {
       at ∙ ap (λ (os : List ℕ). Some os) (sym (append-nil one) ∙ ap (λ (os : List ℕ). one ++ os) (sym no_hint));
 }
 
-pub notes-one : (script : Script) (line : List ℕ) (hints : List (List ℕ)) (probe : ℕ) (was : List ℕ) (new : List (List ℕ)) → slice_get hints probe ≡ Some was → probe_answered script (words_of line) ≡ Some probe
+pub notes-one : (script : Script) (line : List ℕ) (hints : List (List ℕ)) (probe : ℕ) (was : List ℕ) (new : List (List ℕ)) → slice_get hints probe ≡ Some was
+    → probe_answered script (words_of line) ≡ Some probe
     → new ≡ slice_set hints probe (was ++ frame_told (words_of line) ∷ []) → NotesLine script line hints new
 notes-one script line hints probe was new here answers new_is = record {
   count = ap length new_is ∙ set-many hints probe (was ++ frame_told (words_of line) ∷ []);
@@ -91,7 +97,8 @@ notes-one script line hints probe was new here answers new_is = record {
     next = was ++ frame_told (words_of line) ∷ []
 
     hint : (n : ℕ) (b : Bool) → (probe == n) ≡ b → hint_in script n line ≡ cond b (frame_told (words_of line) ∷ []) []
-    hint n b is = ap (λ (o : Option ℕ). cond (is_this n o) (frame_told (words_of line) ∷ []) []) answers ∙ ap (λ t. cond t (frame_told (words_of line) ∷ []) []) is
+    hint n b is = ap (λ (o : Option ℕ). cond (is_this n o) (frame_told (words_of line) ∷ []) []) answers
+        ∙ ap (λ t. cond t (frame_told (words_of line) ∷ []) []) is
 
     by : (n : ℕ) (one : List ℕ) → slice_get hints n ≡ Some one → (b : Bool) → (probe == n) ≡ b → slice_get new n ≡ Some (one ++ hint_in script n line)
     by n one at true is =
@@ -112,7 +119,8 @@ notes-one script line hints probe was new here answers new_is = record {
 -- What is noted, and what the lines that are left name, is what all lines name.
 pub record NotedTo (script : Script) (lines : List (List ℕ)) (rest : List ℕ) (hints : List (List ℕ)) : Type 0 where
   pub count : length hints ≡ script.setup.probes
-  pub each : (probe : ℕ) (one : List ℕ) → slice_get hints probe ≡ Some one → one ++ flat_map (hint_in script probe) (lines_of rest) ≡ flat_map (hint_in script probe) lines
+  pub each : (probe : ℕ) (one : List ℕ) → slice_get hints probe ≡ Some one
+      → one ++ flat_map (hint_in script probe) (lines_of rest) ≡ flat_map (hint_in script probe) lines
 
 none-at : {A : Type 0} (n k : ℕ) (one : List A) → slice_get (replicate n []) k ≡ Some one → one ≡ []
 none-at zero k one at = absurd (cc)
@@ -123,7 +131,8 @@ many-none : (n : ℕ) → length (replicate {A = List ℕ} n []) ≡ n
 many-none zero = refl
 many-none (suc n) = ap suc (many-none n)
 
-pub noted-first : (script : Script) (text : List ℕ) (hints : List (List ℕ)) → hints ≡ replicate script.setup.probes [] → NotedTo script (lines_of text) text hints
+pub noted-first : (script : Script) (text : List ℕ) (hints : List (List ℕ)) → hints ≡ replicate script.setup.probes []
+    → NotedTo script (lines_of text) text hints
 noted-first script text hints none = record {
   count = ap length none ∙ many-none script.setup.probes;
   each = λ probe one at.
@@ -140,7 +149,8 @@ found [] k below = absurd (omega (arith, below))
 found (x ∷ xs) zero below = record { item = x; at = refl }
 found (x ∷ xs) (suc k) below = let later = found xs k (omega (arith, below)) in record { item = later.item; at = later.at }
 
-pub noted-more : (script : Script) (lines : List (List ℕ)) (rest line later : List ℕ) (old new : List (List ℕ)) → NotedTo script lines rest old → lines_of rest ≡ line ∷ lines_of later → NotesLine script line old new → NotedTo script lines later new
+pub noted-more : (script : Script) (lines : List (List ℕ)) (rest line later : List ℕ) (old new : List (List ℕ)) → NotedTo script lines rest old
+    → lines_of rest ≡ line ∷ lines_of later → NotesLine script line old new → NotedTo script lines later new
 noted-more script lines rest line later old new sofar is notes = record {
   count = notes.count ∙ sofar.count;
   each = λ probe one at.
@@ -155,22 +165,26 @@ noted-more script lines rest line later old new sofar is notes = record {
       ∙ sofar.each probe was.item was.at;
 }
 
-pub noted-all : (script : Script) (lines : List (List ℕ)) (rest : List ℕ) (hints : List (List ℕ)) → NotedTo script lines rest hints → lines_of rest ≡ [] → AreNamed script lines hints
+pub noted-all : (script : Script) (lines : List (List ℕ)) (rest : List ℕ) (hints : List (List ℕ)) → NotedTo script lines rest hints → lines_of rest ≡ []
+    → AreNamed script lines hints
 noted-all script lines rest hints sofar none = record {
   count = sofar.count;
   each = λ probe one at. sym (append-nil one) ∙ ap (λ (ls : List (List ℕ)). one ++ flat_map (hint_in script probe) ls) (sym none) ∙ sofar.each probe one at;
 }
 
 -- what the last lines name are the hints
-pub last-hints : (script : Script) (text : List ℕ) (lines : List (List ℕ)) (hints : List (List ℕ)) → AreNamed script lines hints → lines ≡ answer_lines script text → AreHints script text hints
+pub last-hints : (script : Script) (text : List ℕ) (lines : List (List ℕ)) (hints : List (List ℕ)) → AreNamed script lines hints
+    → lines ≡ answer_lines script text → AreHints script text hints
 last-hints script text lines hints are last = record {
   count = are.count;
   each = λ all probe one at. are.each probe one at ∙ ap (flat_map (hint_in script probe)) last;
 }
 
 -- and where they name too few, what is read in their place is not asked for
-pub other-hints : (script : Script) (text : List ℕ) (lines : List (List ℕ)) (hints others : List (List ℕ)) → AreNamed script lines hints → lines ≡ answer_lines script text → length others ≡ script.setup.probes
-    → (((probe : ℕ) (one : List ℕ) → slice_get hints probe ≡ Some one → length one ≡ length (probe_lines_of probe script.lines)) → ⊥) → AreHints script text others
+pub other-hints : (script : Script) (text : List ℕ) (lines : List (List ℕ)) (hints others : List (List ℕ)) → AreNamed script lines hints
+    → lines ≡ answer_lines script text → length others ≡ script.setup.probes
+    → (((probe : ℕ) (one : List ℕ) → slice_get hints probe ≡ Some one → length one ≡ length (probe_lines_of probe script.lines)) → ⊥)
+    → AreHints script text others
 other-hints script text lines hints others are last many few = record {
   count = many;
   each = λ all probe one at. absurd (few (λ n two got.
@@ -180,7 +194,8 @@ other-hints script text lines hints others are last many few = record {
 }
 
 -- a probe has fewer answers, or more
-pub not-whole : (script : Script) (hints : List (List ℕ)) (probe : ℕ) (one : List ℕ) → slice_get hints probe ≡ Some one → (length one ≡ length (probe_lines_of probe script.lines) → ⊥)
+pub not-whole : (script : Script) (hints : List (List ℕ)) (probe : ℕ) (one : List ℕ) → slice_get hints probe ≡ Some one
+    → (length one ≡ length (probe_lines_of probe script.lines) → ⊥)
     → ((n : ℕ) (two : List ℕ) → slice_get hints n ≡ Some two → length two ≡ length (probe_lines_of n script.lines)) → ⊥
 not-whole script hints probe one at differs all = differs (all probe one at)
 

@@ -1,5 +1,6 @@
 -- Displays that are lost one behind another, as a report tells them.
-use Rattle.std.proofs.Common.{◌≡◌, ℕ, zero, suc, ◌+◌, ◌<◌, ◌≤◌, ◌^◌, ◌==◌, ◌&&◌, ◌||◌, not, nat_lt, nat_le, Bool, true, false, cond, List, [], ◌∷◌, ◌++◌, length, map, take, drop, codes, Some, None, refl, sym, ap, ◌∙◌, subst, arith, append_assoc, append-nil, length-append, true≢false}
+use Rattle.std.proofs.Common.{◌≡◌, ℕ, zero, suc, ◌+◌, ◌<◌, ◌≤◌, ◌^◌, ◌==◌, ◌&&◌, ◌||◌, not, nat_lt, nat_le, Bool, true, false, cond, List, [], ◌∷◌, ◌++◌}
+use Rattle.std.proofs.Common.{length, map, take, drop, codes, Some, None, refl, sym, ap, ◌∙◌, subst, arith, append_assoc, append-nil, length-append, true≢false}
 use Rattle.std.proofs.lemmas.List.{map-append, take-append-drop}
 use Rattle.std.proofs.lemmas.Grind.{common_steps}
 use Rattle.flat_report.proofs.lemmas.Tails.{text-append}
@@ -27,7 +28,8 @@ use Rattle.flat_judge.proofs.Fitting.{goes_before, loss-more}
 
 -- ---- losses stand in order
 
-pub loss-parts : (history : List Entry) (a : Lost) (later : List Lost) → is_loss history (a ∷ later) ≡ true → (list_all (goes_before a) later ≡ true) × (is_loss history later ≡ true)
+pub loss-parts : (history : List Entry) (a : Lost) (later : List Lost) → is_loss history (a ∷ later) ≡ true
+    → (list_all (goes_before a) later ≡ true) × (is_loss history later ≡ true)
 loss-parts history a later is =
     let number_fits = nat_lt 0 a.frame.0 && nat_le a.frame.0 (frames history) in
     let first = and-left (number_fits && list_all (goes_before a) later) (is_loss history later) is in
@@ -43,7 +45,8 @@ later-behind n a (b ∷ later) less before =
   where
     by : (t : Bool) → nat_lt a.frame.0 b.frame.0 ≡ t → (t || (a.frame.0 == b.frame.0 && nat_lt a.display b.display)) ≡ true → nat_lt n b.frame.0 ≡ true
     by true is order = grind (arith, nat_tests)
-    by false is order = let same : (a.frame.0 == b.frame.0) ≡ true = and-left (a.frame.0 == b.frame.0) (nat_lt a.display b.display) order in grind (arith, nat_tests)
+    by false is order = let same : (a.frame.0 == b.frame.0) ≡ true =
+        and-left (a.frame.0 == b.frame.0) (nat_lt a.display b.display) order in grind (arith, nat_tests)
 
 abbrev pub are_at : ℕ → List Lost → Bool
 are_at n lost = list_all (λ one. one.frame.0 == n) lost
@@ -59,7 +62,8 @@ pub record Parted (frame : ℕ) (lost : List Lost) : Type 0 where
 pub part : (history : List Entry) (frame : ℕ) (lost : List Lost) → are_behind frame lost ≡ true → is_loss history lost ≡ true → Parted frame lost
 part history frame [] behind loss = record { here = []; later = []; is = refl; are_here = refl; are_later = refl }
 part history frame (x ∷ lost) behind loss =
-    by (x.frame.0 == suc frame) refl (part history frame lost (and-right (nat_lt frame x.frame.0) (are_behind frame lost) behind) (loss-parts history x lost loss).1)
+    by (x.frame.0 == suc frame) refl (part history frame lost (and-right (nat_lt frame x.frame.0) (are_behind frame lost) behind)
+    (loss-parts history x lost loss).1)
   where
     parts : (list_all (goes_before x) lost ≡ true) × (is_loss history lost ≡ true)
     parts = loss-parts history x lost loss
@@ -69,7 +73,13 @@ part history frame (x ∷ lost) behind loss =
 
     by : (t : Bool) → (x.frame.0 == suc frame) ≡ t → Parted frame lost → Parted frame (x ∷ lost)
     by true is rest =
-        record { here = x ∷ rest.here; later = rest.later; is = ap (λ (ls : List Lost). x ∷ ls) rest.is; are_here = and-true is rest.are_here; are_later = rest.are_later }
+        record {
+          here = x ∷ rest.here;
+          later = rest.later;
+          is = ap (λ (ls : List Lost). x ∷ ls) rest.is;
+          are_here = and-true is rest.are_here;
+          are_later = rest.are_later;
+        }
     by false is rest =
         let first = above in
         let more : suc frame < x.frame.0 = grind (arith, nat_tests) in
@@ -95,7 +105,8 @@ among a [] x after all = and-left (goes_before a x) (list_all (goes_before a) af
 among a (b ∷ before) x after all = among a before x after (and-right (goes_before a b) (list_all (goes_before a) (before ++ x ∷ after)) all)
 
 -- a loss fits behind those before it
-pub fits-there : (history : List Entry) (before : List Lost) (x : Lost) (after : List Lost) → is_loss history (before ++ x ∷ after) ≡ true → fits_behind before x ≡ true
+pub fits-there : (history : List Entry) (before : List Lost) (x : Lost) (after : List Lost) → is_loss history (before ++ x ∷ after) ≡ true
+    → fits_behind before x ≡ true
 fits-there history [] x after loss = refl
 fits-there history (a ∷ before) x after loss =
     let parts = loss-parts history a (before ++ x ∷ after) loss in
@@ -116,8 +127,10 @@ small : (one : Lost) → is_small one ≡ true → one.display < 2 ^ 64
 small one fits = let few = of-32-bits one.display fits in omega (arith, few)
 
 -- the line of a display that was lost tells which
-pub next-is : (one : Lost) (text rest : List ℕ) → is_display_number one.display ≡ true → text ≡ text_of (lost_line one ∷ []) ++ rest → next_display text ≡ Some one.display
-next-is one text rest low is = ap next_display (is ∙ text-sheet (lost_line one ∷ []) rest) ∙ loss-next one rest (natural-decimal one.display (let less = small one low in omega (arith, less)))
+pub next-is : (one : Lost) (text rest : List ℕ) → is_display_number one.display ≡ true → text ≡ text_of (lost_line one ∷ []) ++ rest
+    → next_display text ≡ Some one.display
+next-is one text rest low is = ap next_display (is ∙ text-sheet (lost_line one ∷ []) rest)
+    ∙ loss-next one rest (natural-decimal one.display (let less = small one low in omega (arith, less)))
 
 same-loss : (x y : Lost) → x.display ≡ y.display → x.frame.0 ≡ y.frame.0 → x ≡ y
 same-loss x y display frame = λ i. record { display = display i; frame = record { 0 = frame i } }
@@ -126,22 +139,27 @@ first-loss : (n : ℕ) (x y : Lost) (a b : List ℕ) → is_at n x ≡ true → 
 first-loss n x y a b at_x at_y is =
     let of_x = and_parts (x.frame.0 == n) (is_small x) at_x in
     let of_y = and_parts (y.frame.0 == n) (is_small y) at_y in
-    let behind = append_cancel_left (codes "display") (laid (number x.display ∷ codes "lost" ∷ lost_words x) a) (laid (number y.display ∷ codes "lost" ∷ lost_words y) b) is in
-    let parts = told-next (number x.display) (number y.display) (codes "lost" ∷ lost_words x) (codes "lost" ∷ lost_words y) a b (number-word x.display) (number-word y.display) behind in
+    let behind = append_cancel_left (codes "display") (laid (number x.display ∷ codes "lost" ∷ lost_words x) a)
+    (laid (number y.display ∷ codes "lost" ∷ lost_words y) b) is in
+    let parts = told-next (number x.display) (number y.display) (codes "lost" ∷ lost_words x) (codes "lost" ∷ lost_words y) a b (number-word x.display)
+    (number-word y.display) behind in
     let display : x.display ≡ y.display = decimal_injective x.display y.display (small x of_x.1) (small y of_y.1) parts.0 in
     let frame : x.frame.0 ≡ y.frame.0 = eqb-true x.frame.0 n of_x.0 ∙ sym (eqb-true y.frame.0 n of_y.0) in
     let rest : laid (codes "lost" ∷ lost_words y) a ≡ laid (codes "lost" ∷ lost_words y) b =
     ap (λ (m : ℕ). laid (codes "lost" ∷ codes "at" ∷ codes "frame" ∷ number m ∷ []) a) (sym frame) ∙ parts.1 in
     (same-loss x y display frame, laid-same (codes "lost" ∷ lost_words y) a b rest)
 
-pub same-losses : (frame : ℕ) (history : List Entry) (before new here later : List Lost) (x a : List ℕ) → list_all (is_at frame) new ≡ true → list_all (is_at frame) here ≡ true
-    → is_loss history (before ++ (here ++ later)) ≡ true → NoMoreLost frame (before ++ new) x → NoLoss a → sheet (map lost_line new) x ≡ sheet (map lost_line here) a → new ≡ here
+pub same-losses : (frame : ℕ) (history : List Entry) (before new here later : List Lost) (x a : List ℕ) → list_all (is_at frame) new ≡ true
+    → list_all (is_at frame) here ≡ true
+    → is_loss history (before ++ (here ++ later)) ≡ true → NoMoreLost frame (before ++ new) x → NoLoss a
+    → sheet (map lost_line new) x ≡ sheet (map lost_line here) a → new ≡ here
 same-losses frame history before [] [] later x a of_new of_here loss stops none is = refl
 same-losses frame history before [] (y ∷ here) later x a of_new of_here loss stops none is =
     let of_y : is_at frame y ≡ true = and-left (is_at frame y) (list_all (is_at frame) here) of_here in
     let small : is_small y ≡ true = and-right (y.frame.0 == frame) (is_small y) of_y in
     let at : y.frame.0 ≡ frame = eqb-true y.frame.0 frame (and-left (y.frame.0 == frame) (is_small y) of_y) in
-    let fits : fits_behind (before ++ []) y ≡ true = ap (λ (ls : List Lost). fits_behind ls y) (append-nil before) ∙ fits-there history before y (here ++ later) loss in
+    let fits : fits_behind (before ++ []) y ≡ true = ap (λ (ls : List Lost). fits_behind ls y) (append-nil before)
+    ∙ fits-there history before y (here ++ later) loss in
     absurd (stops y (sheet (map lost_line here) a) at small fits (is ∙ sym (text-sheet (lost_line y ∷ []) (sheet (map lost_line here) a))))
 same-losses frame history before (n ∷ new) [] later x a of_new of_here loss stops none is = absurd (none n (sheet (map lost_line new) x) (sym is))
 same-losses frame history before (n ∷ new) (y ∷ here) later x a of_new of_here loss stops none is =
@@ -152,13 +170,15 @@ same-losses frame history before (n ∷ new) (y ∷ here) later x a of_new of_he
     let N : List Lost → Type 0 = λ ls. NoMoreLost frame ls x in
     let loss' : is_loss history ((before ++ n ∷ []) ++ (here ++ later)) ≡ true =
     subst L (ap (λ (z : Lost). before ++ z ∷ (here ++ later)) (sym first.0) ∙ sym (append_assoc before (n ∷ []) (here ++ later))) loss in
-    let rest = same-losses frame history (before ++ n ∷ []) new here later x a (and-right (is_at frame n) (list_all (is_at frame) new) of_new) (and-right (is_at frame y) (list_all (is_at frame) here) of_here)
+    let rest = same-losses frame history (before ++ n ∷ []) new here later x a (and-right (is_at frame n) (list_all (is_at frame) new) of_new)
+    (and-right (is_at frame y) (list_all (is_at frame) here) of_here)
     loss' (subst N (sym (append_assoc before (n ∷ []) new)) stops) none first.1 in
     ap (λ (z : Lost). z ∷ new) first.0 ∙ ap (λ (ls : List Lost). y ∷ ls) rest
 
 -- ---- reading them
 
-pub same-one : (one : Lost) (display frame : ℕ) → Some display ≡ Some one.display → one.frame.0 ≡ frame → one ≡ record { display = display; frame = record { 0 = frame } }
+pub same-one : (one : Lost) (display frame : ℕ) → Some display ≡ Some one.display → one.frame.0 ≡ frame
+    → one ≡ record { display = display; frame = record { 0 = frame } }
 same-one one display frame told at = let same : display ≡ one.display = cc in λ i. record { display = sym same i; frame = record { 0 = at i } }
 
 -- what stands before a place
@@ -187,12 +207,15 @@ pass-further text at next one within passes =
 
 -- no line stands behind the end of a text
 pub stops-at-end : (frame : ℕ) (lost : List Lost) (text : List ℕ) → text ≡ [] → NoMoreLost frame lost text
-stops-at-end frame lost text end one rest at low fits is = let wrong : text_of (lost_line one ∷ []) ++ rest ≡ [] = sym is ∙ end in let long : length (text_of (lost_line one ∷ []) ++ rest) ≡ 0 = ap length wrong in absurd (omega (arith, long))
+stops-at-end frame lost text end one rest at low fits is = let wrong : text_of (lost_line one ∷ []) ++ rest ≡ [] =
+    sym is ∙ end in let long : length (text_of (lost_line one ∷ []) ++ rest) ≡ 0 = ap length wrong in absurd (omega (arith, long))
 
 -- one more may be lost
-losses-more : (frame : ℕ) (lost : List Lost) (one : Lost) → 0 < frame → one.frame.0 ≡ frame → is_display_number one.display ≡ true → fits_behind lost one ≡ true → AreLosses frame lost → AreLosses frame (lost ++ one ∷ [])
+losses-more : (frame : ℕ) (lost : List Lost) (one : Lost) → 0 < frame → one.frame.0 ≡ frame → is_display_number one.display ≡ true → fits_behind lost one ≡ true
+    → AreLosses frame lost → AreLosses frame (lost ++ one ∷ [])
 losses-more frame lost one some at small fits losses = (
-  (λ history many. loss-more history lost one (let above : nat_lt 0 one.frame.0 ≡ true = grind (arith, nat_tests) in above) (let low : nat_le one.frame.0 (frames history) ≡ true = grind (arith, nat_tests) in low) fits (losses.0 history many)),
+  (λ history many. loss-more history lost one (let above : nat_lt 0 one.frame.0 ≡ true = grind (arith, nat_tests) in above)
+      (let low : nat_le one.frame.0 (frames history) ≡ true = grind (arith, nat_tests) in low) fits (losses.0 history many)),
   all-more (λ (l : Lost). is_display_number l.display) lost one losses.1 small,
 )
 
@@ -213,7 +236,8 @@ reading-none frame lost text at within = record {
   losses = λ some losses. losses;
 }
 
-pub reading-more : (frame : ℕ) (old lost new : List Lost) (text : List ℕ) (at place next : ℕ) → Reading frame old lost text at place → ReadsLoss frame lost new text place next → Reading frame old new text at next
+pub reading-more : (frame : ℕ) (old lost new : List Lost) (text : List ℕ) (at place next : ℕ) → Reading frame old lost text at place
+    → ReadsLoss frame lost new text place next → Reading frame old new text at next
 reading-more frame old lost new text at place next so one = record {
   more = so.more ++ one.one ∷ [];
   is = one.is ∙ ap (λ (ls : List Lost). ls ++ one.one ∷ []) so.is ∙ append_assoc old so.more (one.one ∷ []);
@@ -222,14 +246,25 @@ reading-more frame old lost new text at place next so one = record {
     one.passes.0,
     λ before begins.
         (let B : List ℕ → Type 0 = λ b. Begins text b next in
-        let lines : text_of (map lost_line (so.more ++ one.one ∷ [])) ≡ text_of (map lost_line so.more) ++ text_of (lost_line one.one ∷ []) = ap text_of (map-append lost_line so.more (one.one ∷ [])) ∙ text-append (map lost_line so.more) (lost_line one.one ∷ []) in
+        let lines : text_of (map lost_line (so.more ++ one.one ∷ [])) ≡ text_of (map lost_line so.more) ++ text_of (lost_line one.one ∷ []) =
+        ap text_of (map-append lost_line so.more (one.one ∷ [])) ∙ text-append (map lost_line so.more) (lost_line one.one ∷ []) in
         subst B (append_assoc before (text_of (map lost_line so.more)) (text_of (lost_line one.one ∷ [])) ∙ ap (λ (t : List ℕ). before ++ t) (sym lines))
         (one.passes.1 (before ++ text_of (map lost_line so.more)) (so.passes.1 before begins))),
   );
   losses = λ some losses.
       (let L : List Lost → Type 0 = AreLosses frame in
-      subst L (sym one.is) (losses-more frame lost one.one some (eqb-true one.one.frame.0 frame (and-left (one.one.frame.0 == frame) (is_display_number one.one.display) one.is_at)) (and-right (one.one.frame.0 == frame) (is_display_number one.one.display) one.is_at) one.fits (so.losses some losses)));
+      subst L (sym one.is) (losses-more frame lost one.one some
+      (eqb-true one.one.frame.0 frame (and-left (one.one.frame.0 == frame) (is_display_number one.one.display) one.is_at))
+      (and-right (one.one.frame.0 == frame) (is_display_number one.one.display) one.is_at) one.fits (so.losses some losses)));
 }
 
-pub reading-ends : (frame : ℕ) (old new : List Lost) (text : List ℕ) (at next : ℕ) → Reading frame old new text at next → NoMoreLost frame new (drop next text) → ReadsLosses frame old new text at next
-reading-ends frame old new text at next so stops = record { more = so.more; is = so.is; are_at = so.are_at; passes = so.passes; stops = stops; losses = so.losses }
+pub reading-ends : (frame : ℕ) (old new : List Lost) (text : List ℕ) (at next : ℕ) → Reading frame old new text at next → NoMoreLost frame new (drop next text)
+    → ReadsLosses frame old new text at next
+reading-ends frame old new text at next so stops = record {
+  more = so.more;
+  is = so.is;
+  are_at = so.are_at;
+  passes = so.passes;
+  stops = stops;
+  losses = so.losses;
+}

@@ -1,5 +1,6 @@
 -- The next entry of an actor, in a run that follows a text.
-use Rattle.std.proofs.Common.{◌≡◌, ℕ, suc, ◌+◌, ◌-◌, ◌<◌, ◌≤◌, Bool, true, false, List, [], ◌∷◌, ◌++◌, length, drop, get_or, Option, Some, None, slice_get, slice_index_or, refl, sym, ap, ◌∙◌, subst, arith}
+use Rattle.std.proofs.Common.{◌≡◌, ℕ, suc, ◌+◌, ◌-◌, ◌<◌, ◌≤◌, Bool, true, false, List, [], ◌∷◌, ◌++◌, length, drop, get_or, Option, Some, None, slice_get}
+use Rattle.std.proofs.Common.{slice_index_or, refl, sym, ap, ◌∙◌, subst, arith}
 use Rattle.std.proofs.lemmas.Bool.Decides.{nat_tests}
 use Rattle.std.proofs.lemmas.Option.{slice_get-get_or}
 use Rattle.flat_base.specs.declared.ids.Actor.{Actor}
@@ -31,27 +32,32 @@ use Rattle.flat_judge.proofs.Ends.{display-done, makes-next, session-done, stops
 
 -- ---- a run stands by the rules
 
-sits-follows : (script : Script) → is_playable script ≡ true → (s : SessionNo) (history : List Entry) (seat : Seat) (ended : Bool) → SitsBy script s history seat ended → Follows script.setup script.count (session_lines s script.lines) (own s history)
+sits-follows : (script : Script) → is_playable script ≡ true → (s : SessionNo) (history : List Entry) (seat : Seat) (ended : Bool)
+    → SitsBy script s history seat ended → Follows script.setup script.count (session_lines s script.lines) (own s history)
 sits-follows script playable s history seat true sits = sits.follows
 sits-follows script playable s history seat false sits = follows-so-far script playable s seat.place (own s history) sits.stands.reads.follows
 
-pub run-stands : (script : Script) → is_playable script ≡ true → (guided : GuidedRun) → RunStands script guided → Legal guided.play.board.setup guided.play.board.history → Stands script.setup script.count script.lines guided.play.board.history
+pub run-stands : (script : Script) → is_playable script ≡ true → (guided : GuidedRun) → RunStands script guided
+    → Legal guided.play.board.setup guided.play.board.history → Stands script.setup script.count script.lines guided.play.board.history
 run-stands script playable guided stands legal = record {
   legal = (let L : Setup → Type 0 = λ st. Legal st guided.play.board.history in subst L stands.show.setup legal);
   sessions = λ s declared. mine s declared;
   display = stands.display.follows;
 }
   where
-    mine : (s : SessionNo) → is_declared script.setup s ≡ true → Follows script.setup script.count (session_lines s script.lines) (own s guided.play.board.history)
+    mine : (s : SessionNo) → is_declared script.setup s ≡ true
+        → Follows script.setup script.count (session_lines s script.lines) (own s guided.play.board.history)
     mine s declared =
         let least : 1 ≤ s.0 = grind (arith, nat_tests) in
         let most : s.0 ≤ script.setup.sessions = grind (arith, nat_tests) in
         let many = stands.seats.count in
         let within : s.0 - 1 < length guided.seats.items = omega (arith, least, most, many) in
         let same : s.0 - 1 + 1 ≡ s.0 = omega (arith, least) in
-        let F : ℕ → Type 0 = λ n. Follows script.setup script.count (session_lines (record { 0 = n }) script.lines) (own (record { 0 = n }) guided.play.board.history) in
+        let F : ℕ → Type 0 = λ n. Follows script.setup script.count (session_lines (record { 0 = n }) script.lines)
+        (own (record { 0 = n }) guided.play.board.history) in
         let seat = slice_index_or guided.seats.items (s.0 - 1) (some guided.seats.items within) in
-        subst F same (sits-follows script playable (record { 0 = s.0 - 1 + 1 }) guided.play.board.history seat seat.has_ended (stands.seats.each (s.0 - 1) (some guided.seats.items within) within))
+        subst F same (sits-follows script playable (record { 0 = s.0 - 1 + 1 }) guided.play.board.history seat seat.has_ended
+        (stands.seats.each (s.0 - 1) (some guided.seats.items within) within))
       where
         some : (seats : List Seat) → s.0 - 1 < length seats → Seat
         some [] within = absurd (omega arith)
@@ -65,10 +71,13 @@ module _ (script : Script) (text : List ℕ) (old new : Machine) (along : Along)
   nobody-makes same nobody = MakesNext.stops same (stops-silent script text old.history along is nobody)
 
   -- the display's
-  pub display-makes : (made : Bool) → next_actor script (drop along.at text) ≡ Some Display → DisplayGoes old new made → Stands script.setup script.count script.lines new.history
+  pub display-makes : (made : Bool) → next_actor script (drop along.at text) ≡ Some Display → DisplayGoes old new made
+      → Stands script.setup script.count script.lines new.history
       → (made ≡ false → unread_lines (by_display old.history) (display_lines script.lines) ≡ []) → MakesNext script text old.history new.history along made
   display-makes false turn (DisplayGoes.stays same) standing none =
-      MakesNext.stops (ap (λ (m : Machine). m.history) same) (stops-other script text old.history along is Display turn (λ other of_display stands run more whole. display-done script old.history other of_display (none refl) stands))
+      MakesNext.stops (ap (λ (m : Machine). m.history) same)
+      (stops-other script text old.history along is Display turn
+      (λ other of_display stands run more whole. display-done script old.history other of_display (none refl) stands))
   display-makes true turn (DisplayGoes.enters number kind entered_is) standing none =
       let entry : Entry = entry_of Display number [] kind (reply_to old.setup old.history Display [] kind) in
       let grown : new.history ≡ (old.history ▹ entry) = ap (λ (m : Machine). m.history) entered_is in
@@ -76,21 +85,26 @@ module _ (script : Script) (text : List ℕ) (old new : Machine) (along : Along)
       MakesNext.makes entry grown (makes-next script text old.history along is entry turn (subst S grown standing))
 
   -- a session's
-  pub session-makes : (s : SessionNo) → next_actor script (drop along.at text) ≡ Some (Session s) → Goes (Session s) old new true → Stands script.setup script.count script.lines new.history → MakesNext script text old.history new.history along true
+  pub session-makes : (s : SessionNo) → next_actor script (drop along.at text) ≡ Some (Session s) → Goes (Session s) old new true
+      → Stands script.setup script.count script.lines new.history → MakesNext script text old.history new.history along true
   session-makes s turn (Goes.enters number carries kind reply aside entered_is) standing =
       let entry : Entry = entry_of (Session s) number carries kind reply in
       let grown : new.history ≡ (old.history ▹ entry) = ap (λ (m : Machine). m.history) entered_is in
       let S : List Entry → Type 0 = Stands script.setup script.count script.lines in
       MakesNext.makes entry grown (makes-next script text old.history along is entry turn (subst S grown standing))
 
-  pub session-ended : (s : SessionNo) → is_declared script.setup s ≡ true → next_actor script (drop along.at text) ≡ Some (Session s) → new.history ≡ old.history → (seat : Seat) → SitsBy script s old.history seat true
+  pub session-ended : (s : SessionNo) → is_declared script.setup s ≡ true → next_actor script (drop along.at text) ≡ Some (Session s)
+      → new.history ≡ old.history → (seat : Seat) → SitsBy script s old.history seat true
       → MakesNext script text old.history new.history along false
   session-ended s declared turn same seat reads =
-      MakesNext.stops same (stops-other script text old.history along is (Session s) turn (λ other of_session stands run more whole. session-done script s old.history other of_session declared reads.ended run.history run.is.interleaves more whole))
+      MakesNext.stops same (stops-other script text old.history along is (Session s) turn
+      (λ other of_session stands run more whole. session-done script s old.history other of_session declared reads.ended run.history run.is.interleaves more
+      whole))
 
 -- ---- seats
 
-pub seat-within : (script : Script) (guided : GuidedRun) (s : SessionNo) → RunStands script guided → is_declared script.setup s ≡ true → s.0 - 1 < length guided.seats.items
+pub seat-within : (script : Script) (guided : GuidedRun) (s : SessionNo) → RunStands script guided → is_declared script.setup s ≡ true
+    → s.0 - 1 < length guided.seats.items
 seat-within script guided s stands declared =
     let least : 1 ≤ s.0 = grind (arith, nat_tests) in
     let most : s.0 ≤ script.setup.sessions = grind (arith, nat_tests) in
@@ -101,25 +115,32 @@ pub seat-number : (script : Script) (s : SessionNo) → is_declared script.setup
 seat-number script s declared = let least : 1 ≤ s.0 = grind (arith, nat_tests) in omega (arith, least)
 
 -- the seat of a session that has ended
-pub ended-makes : (script : Script) (text : List ℕ) (guided : GuidedRun) (along : Along) (is : IsAlong script text guided.play.board.history along) (s : SessionNo) → RunStands script guided → is_declared script.setup s ≡ true
-    → next_actor script (drop along.at text) ≡ Some (Session s) → (seat : Seat) → seat ≡ get_or guided.seats.items (s.0 - 1) seat → seat.has_ended ≡ true → MakesNext script text guided.play.board.history guided.play.board.history along false
+pub ended-makes : (script : Script) (text : List ℕ) (guided : GuidedRun) (along : Along) (is : IsAlong script text guided.play.board.history along)
+    (s : SessionNo) → RunStands script guided → is_declared script.setup s ≡ true
+    → next_actor script (drop along.at text) ≡ Some (Session s) → (seat : Seat) → seat ≡ get_or guided.seats.items (s.0 - 1) seat → seat.has_ended ≡ true
+    → MakesNext script text guided.play.board.history guided.play.board.history along false
 ended-makes script text guided along is s stands declared turn seat found ended =
     let history = guided.play.board.history in
     let sits = seat_sits script guided (s.0 - 1) seat stands (seat-within script guided s stands declared) found in
     let P : ℕ → Type 0 = λ n. SitsBy script (record { 0 = n }) history seat seat.has_ended in
     let B : Bool → Type 0 = SitsBy script s history seat in
-    session-ended script text guided.play.board guided.play.board along is s declared turn refl seat (subst B ended (subst P (seat-number script s declared) sits))
+    session-ended script text guided.play.board guided.play.board along is s declared turn refl seat
+    (subst B ended (subst P (seat-number script s declared) sits))
 
 -- and of one that goes on
-pub session-enters : (script : Script) (text : List ℕ) (old new : GuidedRun) (along : Along) (is : IsAlong script text old.play.board.history along) → is_playable script ≡ true → (s : SessionNo) → is_declared script.setup s ≡ true
-    → next_actor script (drop along.at text) ≡ Some (Session s) → Goes (Session (record { 0 = s.0 - 1 + 1 })) old.play.board new.play.board true → RunStands script new → Legal new.play.board.setup new.play.board.history
+pub session-enters : (script : Script) (text : List ℕ) (old new : GuidedRun) (along : Along) (is : IsAlong script text old.play.board.history along)
+    → is_playable script ≡ true → (s : SessionNo) → is_declared script.setup s ≡ true
+    → next_actor script (drop along.at text) ≡ Some (Session s) → Goes (Session (record { 0 = s.0 - 1 + 1 })) old.play.board new.play.board true
+    → RunStands script new → Legal new.play.board.setup new.play.board.history
     → MakesNext script text old.play.board.history new.play.board.history along true
 session-enters script text old new along is playable s declared turn goes stands legal =
     let G : ℕ → Type 0 = λ n. Goes (Session (record { 0 = n })) old.play.board new.play.board true in
-    session-makes script text old.play.board new.play.board along is s turn (subst G (seat-number script s declared) goes) (run-stands script playable new stands legal)
+    session-makes script text old.play.board new.play.board along is s turn (subst G (seat-number script s declared) goes)
+    (run-stands script playable new stands legal)
 
 -- where the display has no line left, it has read all
-pub none-unread : (script : Script) (old new : GuidedRun) → RunStands script new → new.place ≡ length script.lines → (made : Bool) → made ≡ false → DisplayGoes old.play.board new.play.board made
+pub none-unread : (script : Script) (old new : GuidedRun) → RunStands script new → new.place ≡ length script.lines → (made : Bool) → made ≡ false
+    → DisplayGoes old.play.board new.play.board made
     → unread_lines (by_display old.play.board.history) (display_lines script.lines) ≡ []
 none-unread script old new stands end made none goes =
     let same : new.play.board.history ≡ old.play.board.history = ap (λ (m : Machine). m.history) (display-stays old.play.board new.play.board made none goes) in

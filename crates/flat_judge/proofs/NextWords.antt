@@ -1,5 +1,6 @@
 -- The first words of a report's lines tell whose entry is next, or which display was lost.
-use Rattle.std.proofs.Common.{◌≡◌, ℕ, zero, suc, ◌+◌, ◌-◌, ◌<◌, ◌≤◌, ◌^◌, ◌&&◌, ℤ, nat_lt, nat_le, Bool, true, false, cond, if◌then◌else◌, List, [], ◌∷◌, ◌++◌, length, drop, take_while, map, codes, Option, Some, None, refl, sym, ap, ◌∙◌, subst, arith, Decides, true≢false}
+use Rattle.std.proofs.Common.{◌≡◌, ℕ, zero, suc, ◌+◌, ◌-◌, ◌<◌, ◌≤◌, ◌^◌, ◌&&◌, ℤ, nat_lt, nat_le, Bool, true, false, cond, if◌then◌else◌, List, [], ◌∷◌, ◌++◌}
+use Rattle.std.proofs.Common.{length, drop, take_while, map, codes, Option, Some, None, refl, sym, ap, ◌∙◌, subst, arith, Decides, true≢false}
 use Rattle.std.specs.List.{list_all, zip}
 use Rattle.std.specs.Str.{bytes_eq}
 use Rattle.std.proofs.lemmas.Bool.{and_parts}
@@ -69,35 +70,48 @@ record Says (words : List Word) : Type 0 where
   no_end : bytes_eq first (codes "ends") ≡ false
 
 number-no-end : (n : ℕ) → bytes_eq (number n) (codes "ends") ≡ false
-number-no-end n = differs (number n) (codes "ends") (λ same. let wrong : list_all is_digit (codes "ends") ≡ true = ap (list_all is_digit) (sym same) ∙ number-digits n in true≢false (sym wrong ∙ refl))
+number-no-end n = differs (number n) (codes "ends") (λ same. let wrong : list_all is_digit (codes "ends") ≡ true = ap (list_all is_digit) (sym same)
+    ∙ number-digits n in true≢false (sym wrong ∙ refl))
 
-says : (script : Script) (frames : ℕ) (hits : ℤ → ℤ → List Hit) (line : ℕ) (made : Kind) (answer : Reply) → Says (said_words script frames hits line made answer)
+says : (script : Script) (frames : ℕ) (hits : ℤ → ℤ → List Hit) (line : ℕ) (made : Kind) (answer : Reply)
+    → Says (said_words script frames hits line made answer)
 says script frames hits line (kind.End refused) answer = record { first = codes "end"; later = number refused ∷ []; is = refl; fine = refl; no_end = refl }
-says script frames hits line made answer = record { first = number line; later = answer_words script frames hits made answer; is = refl; fine = number-word line; no_end = number-no-end line }
+says script frames hits line made answer = record {
+  first = number line;
+  later = answer_words script frames hits made answer;
+  is = refl;
+  fine = number-word line;
+  no_end = number-no-end line;
+}
 
-by-words : (script : Script) (w v : Word) (ws : List Word) (rest : List ℕ) → is_word w ≡ true → is_word v ≡ true → next_actor script (w ++ laid (v ∷ ws) rest) ≡ actor_by script w v
+by-words : (script : Script) (w v : Word) (ws : List Word) (rest : List ℕ) → is_word w ≡ true → is_word v ≡ true
+    → next_actor script (w ++ laid (v ∷ ws) rest) ≡ actor_by script w v
 by-words script w v ws rest fine fine' = λ i. actor_by script (first-word w (v ∷ ws) rest fine i) (second-word w v ws rest fine fine' i)
 
 module _ (script : Script) (named : IsNamed script) where
   within : (s : SessionNo) → is_declared script.setup s ≡ true → (1 ≤ s.0) × (s.0 ≤ script.setup.sessions)
   within s declared = (let least : 1 ≤ s.0 = grind (arith, nat_tests) in least, let most : s.0 ≤ script.setup.sessions = grind (arith, nat_tests) in most)
 
-  session-found : (s : SessionNo) → is_declared script.setup s ≡ true → session_at script (place_of script.sessions (session_name script.sessions s)) ≡ Some (Session s)
+  session-found : (s : SessionNo) → is_declared script.setup s ≡ true
+      → session_at script (place_of script.sessions (session_name script.sessions s)) ≡ Some (Session s)
   session-found s declared =
       let bounds = within s declared in
       let least = bounds.0 in
       let most = bounds.1 in
       let below : s.0 - 1 < length script.sessions = omega (arith, named.session_count, least, most) in
-      let here : nat_lt (s.0 - 1) script.setup.sessions ≡ true = (let less : s.0 - 1 < script.setup.sessions = omega (arith, least, most) in grind (arith, nat_tests)) in
+      let here : nat_lt (s.0 - 1) script.setup.sessions ≡ true =
+      (let less : s.0 - 1 < script.setup.sessions = omega (arith, least, most) in grind (arith, nat_tests)) in
       let same : s.0 - 1 + 1 ≡ s.0 = omega (arith, least) in
       ap (session_at script) (named.sessions.placed (s.0 - 1) below) ∙ rw here (ap (λ (n : ℕ). Some (Session (record { 0 = n }))) same)
 
-  actor-by : (actor : Actor) (second : Word) → Acts script actor → bytes_eq second (codes "ends") ≡ false → actor_by script (actor_name script actor) second ≡ Some actor
+  actor-by : (actor : Actor) (second : Word) → Acts script actor → bytes_eq second (codes "ends") ≡ false
+      → actor_by script (actor_name script actor) second ≡ Some actor
   actor-by Display second acting no_end = refl
   actor-by (Session s) second acting no_end =
       let name = session_name script.sessions s in
       let other : bytes_eq name (codes "display") ≡ false = differs name (codes "display") (not-display name (session-proper script named s acting)) in
-      let more : (bytes_eq name (codes "report") && bytes_eq second (codes "ends")) ≡ false = and-none (bytes_eq name (codes "report")) (bytes_eq second (codes "ends")) no_end in
+      let more : (bytes_eq name (codes "report") && bytes_eq second (codes "ends")) ≡ false =
+      and-none (bytes_eq name (codes "report")) (bytes_eq second (codes "ends")) no_end in
       rw (other, more) (session-found s acting)
     where
       and-none : (a b : Bool) → b ≡ false → (a && b) ≡ false
@@ -106,7 +120,8 @@ module _ (script : Script) (named : IsNamed script) where
   actor-by (Probe p) second acting no_end = absurd acting
 
   -- the line of an entry tells its actor
-  pub entry-next : (frames : ℕ) (hits : ℤ → ℤ → List Hit) (e : Entry) (rest : List ℕ) → Acts script e.actor → next_actor script (line_on (entry_line script frames hits e) rest) ≡ Some e.actor
+  pub entry-next : (frames : ℕ) (hits : ℤ → ℤ → List Hit) (e : Entry) (rest : List ℕ) → Acts script e.actor
+      → next_actor script (line_on (entry_line script frames hits e) rest) ≡ Some e.actor
   entry-next frames hits e rest acting =
       let name = actor_name script e.actor in
       let said = says script frames hits e.line e.kind e.reply in
@@ -116,13 +131,15 @@ module _ (script : Script) (named : IsNamed script) where
 
   -- ---- what stands behind all entries
 
-  seen-next : (history : List Entry) (line : ScriptLine) (f : ℕ) (rest : List ℕ) → is_of_probe script.setup.probes line ≡ true → next_actor script (line_on (seen_line script history (line, f)) rest) ≡ None
+  seen-next : (history : List Entry) (line : ScriptLine) (f : ℕ) (rest : List ℕ) → is_of_probe script.setup.probes line ≡ true
+      → next_actor script (line_on (seen_line script history (line, f)) rest) ≡ None
   seen-next history line f rest of = by line.actor refl of
     where
       words : List Word
       words = number line.number ∷ seen_words script history f line.body
 
-      by : (actor : Actor) → line.actor ≡ actor → is_of_probe script.setup.probes (record { number = line.number; actor = actor; body = line.body }) ≡ true → next_actor script (actor_name script line.actor ++ laid words rest) ≡ None
+      by : (actor : Actor) → line.actor ≡ actor → is_of_probe script.setup.probes (record { number = line.number; actor = actor; body = line.body }) ≡ true
+          → next_actor script (actor_name script line.actor ++ laid words rest) ≡ None
       by (Probe p) is fine =
           let low : nat_lt p script.setup.probes ≡ true = (and_parts (nat_lt p script.setup.probes) _ fine).0 in
           let less : p < script.setup.probes = grind (arith, nat_tests) in
@@ -130,7 +147,8 @@ module _ (script : Script) (named : IsNamed script) where
           let name = name_at script.probes p in
           let proper = named.probes.proper p below in
           let other : bytes_eq name (codes "display") ≡ false = differs name (codes "display") (not-display name proper) in
-          let more : (bytes_eq name (codes "report") && bytes_eq (number line.number) (codes "ends")) ≡ false = and-none (bytes_eq name (codes "report")) (bytes_eq (number line.number) (codes "ends")) (number-no-end line.number) in
+          let more : (bytes_eq name (codes "report") && bytes_eq (number line.number) (codes "ends")) ≡ false =
+          and-none (bytes_eq name (codes "report")) (bytes_eq (number line.number) (codes "ends")) (number-no-end line.number) in
           ap (λ (a : Actor). next_actor script (actor_name script a ++ laid words rest)) is
           ∙ by-words script name (number line.number) (seen_words script history f line.body) rest (name-word name proper) (number-word line.number)
           ∙ rw (other, more) (ap (session_at script) (named.apart p below))
@@ -141,24 +159,28 @@ module _ (script : Script) (named : IsNamed script) where
       by Display is fine = absurd (let wrong : false ≡ true = fine in true≢false (sym wrong))
       by (Session s) is fine = absurd (let wrong : false ≡ true = fine in true≢false (sym wrong))
 
-  pub end-next : (history : List Entry) (lines : List ScriptLine) (seen : List ℕ) (ws : List Word) (rest : List ℕ) → list_all (is_of_probe script.setup.probes) lines ≡ true
+  pub end-next : (history : List Entry) (lines : List ScriptLine) (seen : List ℕ) (ws : List Word) (rest : List ℕ)
+      → list_all (is_of_probe script.setup.probes) lines ≡ true
       → next_actor script (sheet (map (seen_line script history) (zip lines seen)) (line_on (codes "report" ∷ codes "ends" ∷ ws) rest)) ≡ None
   end-next history [] seen ws rest of = by-words script (codes "report") (codes "ends") ws rest refl refl
   end-next history (line ∷ lines) [] ws rest of = by-words script (codes "report") (codes "ends") ws rest refl refl
   end-next history (line ∷ lines) (f ∷ seen) ws rest of =
-      seen-next history line f (sheet (map (seen_line script history) (zip lines seen)) (line_on (codes "report" ∷ codes "ends" ∷ ws) rest)) (and_parts (is_of_probe script.setup.probes line) (list_all (is_of_probe script.setup.probes) lines) of).0
+      seen-next history line f (sheet (map (seen_line script history) (zip lines seen)) (line_on (codes "report" ∷ codes "ends" ∷ ws) rest))
+      (and_parts (is_of_probe script.setup.probes line) (list_all (is_of_probe script.setup.probes) lines) of).0
 
 -- ---- displays that were lost
 
 -- the line of a lost display tells its number, where that is read back
 pub loss-next : (one : Lost) (rest : List ℕ) → natural (number one.display) ≡ Some one.display → next_display (line_on (lost_line one) rest) ≡ Some one.display
 loss-next one rest back =
-    (λ i. display_by (first-word (codes "display") (number one.display ∷ codes "lost" ∷ lost_words one) rest refl i) (second-word (codes "display") (number one.display) (codes "lost" ∷ lost_words one) rest refl (number-word one.display) i))
+    (λ i. display_by (first-word (codes "display") (number one.display ∷ codes "lost" ∷ lost_words one) rest refl i)
+    (second-word (codes "display") (number one.display) (codes "lost" ∷ lost_words one) rest refl (number-word one.display) i))
     ∙ back
 
 -- ---- who is named
 
-by-place : (script : Script) (P : Actor → Type 0) → ((s : SessionNo) → is_declared script.setup s ≡ true → P (Session s)) → (found : Option ℕ) (actor : Actor) → session_at script found ≡ Some actor → P actor
+by-place : (script : Script) (P : Actor → Type 0) → ((s : SessionNo) → is_declared script.setup s ≡ true → P (Session s)) → (found : Option ℕ) (actor : Actor)
+    → session_at script found ≡ Some actor → P actor
 by-place script P here None actor is = absurd (cc)
 by-place script P here (Some place) actor is = by (nat_lt place script.setup.sessions) refl is
   where
@@ -170,8 +192,10 @@ by-place script P here (Some place) actor is = by (nat_lt place script.setup.ses
         let declared : is_declared script.setup s ≡ true = grind (arith, nat_tests) in
         subst P same (here s declared)
 
-named-by : (script : Script) (P : Actor → Type 0) → P Display → ((s : SessionNo) → is_declared script.setup s ≡ true → P (Session s)) → (first second : List ℕ) (actor : Actor) → actor_by script first second ≡ Some actor → P actor
-named-by script P display session first second actor is = by (bytes_eq first (codes "display")) (bytes_eq first (codes "report") && bytes_eq second (codes "ends")) is
+named-by : (script : Script) (P : Actor → Type 0) → P Display → ((s : SessionNo) → is_declared script.setup s ≡ true → P (Session s))
+    → (first second : List ℕ) (actor : Actor) → actor_by script first second ≡ Some actor → P actor
+named-by script P display session first second actor is =
+    by (bytes_eq first (codes "display")) (bytes_eq first (codes "report") && bytes_eq second (codes "ends")) is
   where
     by : (a b : Bool) → (if a then Some Display else (if b then None else session_at script (place_of script.sessions first))) ≡ Some actor → P actor
     by true b found = let same : Display ≡ actor = cc in subst P same display
@@ -185,7 +209,8 @@ IsOfSession script (Probe p) = ⊥
 
 -- who is next is the display or a declared session
 pub next-declared : (script : Script) (text : List ℕ) (s : SessionNo) → next_actor script text ≡ Some (Session s) → is_declared script.setup s ≡ true
-next-declared script text s is = named-by script (IsOfSession script) tt (λ s declared. declared) (first_word text) (first_word (behind_word text)) (Session s) is
+next-declared script text s is = named-by script (IsOfSession script) tt (λ s declared. declared) (first_word text) (first_word (behind_word text)) (Session s)
+    is
 
 pub next-acts : (script : Script) (text : List ℕ) (actor : Actor) → next_actor script text ≡ Some actor → IsOfSession script actor
 next-acts script text actor is = named-by script (IsOfSession script) tt (λ s declared. declared) (first_word text) (first_word (behind_word text)) actor is

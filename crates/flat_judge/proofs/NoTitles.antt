@@ -1,5 +1,6 @@
 -- No line of a script begins a report.
-use Rattle.std.proofs.Common.{◌≡◌, ℕ, ◌+◌, ◌||◌, nat_lt, Bool, true, false, cond, List, [], ◌∷◌, length, codes, Option, Some, None, Result, Ok, Err, refl, subst, sym, ap, ◌∙◌}
+use Rattle.std.proofs.Common.{◌≡◌, ℕ, ◌+◌, ◌||◌, nat_lt, Bool, true, false, cond, List, [], ◌∷◌, length, codes, Option, Some, None, Result, Ok, Err, refl}
+use Rattle.std.proofs.Common.{subst, sym, ap, ◌∙◌}
 use Rattle.std.specs.List.{list_any}
 use Rattle.std.specs.Option.{option_map_or}
 use Rattle.std.specs.Str.{bytes_eq}
@@ -41,9 +42,12 @@ no_call s Display digit = ap (mapped body.Display) (no_display s digit)
 no_call s (Session a) digit = refl
 no_call s (Probe p) digit = refl
 
-refused : (s : Script) (n : ℕ) (who : Actor) (b : Bool) (r : Reading Body) (next : Script) → r ≡ Err UnknownCall → unless_kind Limit b (mapped (with_line s n who) r) ≡ Ok next → ⊥
-refused s n who true r next none is = let wrong : unless_kind Limit true (mapped (with_line s n who) (Err UnknownCall)) ≡ Ok next = ap (λ q. unless_kind Limit true (mapped (with_line s n who) q)) (sym none) ∙ is in cc
-refused s n who false r next none is = let wrong : unless_kind Limit false (mapped (with_line s n who) (Err UnknownCall)) ≡ Ok next = ap (λ q. unless_kind Limit false (mapped (with_line s n who) q)) (sym none) ∙ is in cc
+refused : (s : Script) (n : ℕ) (who : Actor) (b : Bool) (r : Reading Body) (next : Script) → r ≡ Err UnknownCall
+    → unless_kind Limit b (mapped (with_line s n who) r) ≡ Ok next → ⊥
+refused s n who true r next none is = let wrong : unless_kind Limit true (mapped (with_line s n who) (Err UnknownCall)) ≡ Ok next =
+    ap (λ q. unless_kind Limit true (mapped (with_line s n who) q)) (sym none) ∙ is in cc
+refused s n who false r next none is = let wrong : unless_kind Limit false (mapped (with_line s n who) (Err UnknownCall)) ≡ Ok next =
+    ap (λ q. unless_kind Limit false (mapped (with_line s n who) q)) (sym none) ∙ is in cc
 
 no_body : (n digit : ℕ) (s next : Script) → body_line s n (title digit) ≡ Ok next → ⊥
 no_body n digit s next is = by (actor_named s (codes "report")) is
@@ -73,7 +77,8 @@ no_line n sofar next line read =
     of : (text : List ℕ) → bytes_eq line text ≡ true → line_read n sofar text ≡ Ok next
     of text same = ap (line_read n sofar) (sym (is-one line text same)) ∙ read
 
-    by : (p : Bool) → bytes_eq line (codes "report flatland 1") ≡ p → (q : Bool) → bytes_eq line (codes "report flatland 2") ≡ q → (r : Bool) → bytes_eq line (codes "report flatland 3") ≡ r → is_title line ≡ false
+    by : (p : Bool) → bytes_eq line (codes "report flatland 1") ≡ p → (q : Bool) → bytes_eq line (codes "report flatland 2") ≡ q → (r : Bool)
+        → bytes_eq line (codes "report flatland 3") ≡ r → is_title line ≡ false
     by true one q two r three = absurd (no_words n 49 sofar next (of (codes "report flatland 1") one))
     by false one true two r three = absurd (no_words n 50 sofar next (of (codes "report flatland 2") two))
     by false one false two true three = absurd (no_words n 51 sofar next (of (codes "report flatland 3") three))
@@ -85,7 +90,8 @@ no_lines : (n : ℕ) (sofar : Sofar) (lines : List (List ℕ)) (s : Script) → 
 no_lines n sofar [] s read = refl
 no_lines n sofar (line ∷ lines) s read = by (line_read n sofar line) refl (λ next rest. no_lines (n + 1) next lines s rest)
   where
-    by : (r : Reading Sofar) → line_read n sofar line ≡ r → ((next : Sofar) → lines_read (n + 1) next lines ≡ Ok s → list_any is_title lines ≡ false) → list_any is_title (line ∷ lines) ≡ false
+    by : (r : Reading Sofar) → line_read n sofar line ≡ r → ((next : Sofar) → lines_read (n + 1) next lines ≡ Ok s → list_any is_title lines ≡ false)
+        → list_any is_title (line ∷ lines) ≡ false
     by (Ok next) here rest =
         let later : lines_read (n + 1) next lines ≡ Ok s = rw here at read in
         let first = no_line n sofar next line here in
@@ -96,6 +102,7 @@ no_lines n sofar (line ∷ lines) s read = by (line_read n sofar line) refl (λ 
 pub scripts-have-no-title : ScriptsHaveNoTitle
 scripts-have-no-title bytes s read = by (nat_lt 16777216 (length bytes)) (lines_of bytes) read
   where
-    by : (b : Bool) (lines : List (List ℕ)) → cond {A = Result Script ScriptFault} b (Err (record { line = 0; kind = TooLong })) (lines_read 1 (part.Start, empty) lines) ≡ Ok s → list_any is_title lines ≡ false
+    by : (b : Bool) (lines : List (List ℕ)) → cond {A = Result Script ScriptFault} b (Err (record { line = 0; kind = TooLong }))
+        (lines_read 1 (part.Start, empty) lines) ≡ Ok s → list_any is_title lines ≡ false
     by true lines is = absurd (cc)
     by false lines is = no_lines 1 (part.Start, empty) lines s is

@@ -1,5 +1,6 @@
 -- What the lines of one entry more tell of a text, and of the runs that have it as their report.
-use Rattle.std.proofs.Common.{◌≡◌, ℕ, zero, suc, ◌+◌, ◌<◌, ◌≤◌, ◌^◌, ◌==◌, ◌&&◌, nat_lt, nat_le, Bool, true, false, cond, List, [], ◌∷◌, ◌++◌, length, drop, map, codes, Option, Some, None, refl, sym, ap, ◌∙◌, subst, arith, append_assoc, append-nil, length-append, true≢false}
+use Rattle.std.proofs.Common.{◌≡◌, ℕ, zero, suc, ◌+◌, ◌<◌, ◌≤◌, ◌^◌, ◌==◌, ◌&&◌, nat_lt, nat_le, Bool, true, false, cond, List, [], ◌∷◌, ◌++◌, length, drop}
+use Rattle.std.proofs.Common.{map, codes, Option, Some, None, refl, sym, ap, ◌∙◌, subst, arith, append_assoc, append-nil, length-append, true≢false}
 use Rattle.std.specs.List.{list_all, zip}
 use Rattle.std.proofs.lemmas.Bool.Decides.{nat_tests}
 use Rattle.std.proofs.lemmas.List.{append_cancel_left}
@@ -27,9 +28,11 @@ use Rattle.flat_report.proofs.lemmas.Sheets.{line_on, sheet, text-sheet}
 use Rattle.flat_report.proofs.lemmas.Tails.{onto, tail, text-append}
 use Rattle.flat_report.proofs.lemmas.Turns.{Stands, stands, stood}
 use Rattle.flat_judge.specs.declared.following.Along.{Along}
-use Rattle.flat_judge.specs.Following.{AllGoOn, AreLosses, Begins, GoesOnTo, IsAlong, IsLineTold, IsPart, IsShownTold, NoMoreLost, Passes, ReadsLosses, Stays, and_then, are_behind, events_text, own_text, shown_text, told}
+use Rattle.flat_judge.specs.Following.{AllGoOn, AreLosses, Begins, GoesOnTo, IsAlong, IsLineTold, IsPart, IsShownTold, NoMoreLost, Passes, ReadsLosses, Stays}
+use Rattle.flat_judge.specs.Following.{and_then, are_behind, events_text, own_text, shown_text, told}
 use Rattle.flat_judge.specs.Verdicts.{IsRead, NoRun, Run, report_of}
-use Rattle.flat_judge.proofs.Along.{ending, events_here, frames-one, later_text, lost-append, own_line, prefix-agrees, shown-agree, shown_here, tail-parts, text-here, then-onto, told-agrees, told-more}
+use Rattle.flat_judge.proofs.Along.{ending, events_here, frames-one, later_text, lost-append, own_line, prefix-agrees, shown-agree, shown_here, tail-parts}
+use Rattle.flat_judge.proofs.Along.{text-here, then-onto, told-agrees, told-more}
 use Rattle.flat_judge.proofs.LossesTold.{Parted, are_at, at-here, loss-parts, part, same-losses}
 use Rattle.flat_judge.proofs.Fitting.{goes_before}
 use Rattle.flat_report.proofs.lemmas.Losses.{is_at, is_small}
@@ -59,9 +62,11 @@ frames-upto before entry = by (is_finish entry.kind) (frames-one before entry)
 module _ (script : Script) (named : IsNamed script) where
   events-no-loss : (sents : List Sent) (text : List ℕ) → NoLoss text → NoLoss (sheet (map (λ sent. event_line script sent.to sent.event) sents) text)
   events-no-loss [] text none = none
-  events-no-loss (sent ∷ sents) text none = event-no-loss script named sent.to sent.event (sheet (map (λ sent. event_line script sent.to sent.event) sents) text)
+  events-no-loss (sent ∷ sents) text none = event-no-loss script named sent.to sent.event
+      (sheet (map (λ sent. event_line script sent.to sent.event) sents) text)
 
-  tail-no-loss : (lost : List Lost) (before later : List Entry) (rest : List ℕ) → Stands script.setup script.count script.lines (onto before later) → NoLoss rest → NoLoss (sheet (tail (entry_lines script lost) before later) rest)
+  tail-no-loss : (lost : List Lost) (before later : List Entry) (rest : List ℕ) → Stands script.setup script.count script.lines (onto before later)
+      → NoLoss rest → NoLoss (sheet (tail (entry_lines script lost) before later) rest)
   tail-no-loss lost before [] rest standing none = none
   tail-no-loss lost before (entry ∷ later) rest standing none =
       entry-no-loss script named before entry (frames before) (hits_at script.setup (to_finished before))
@@ -75,18 +80,28 @@ module _ (script : Script) (text : List ℕ) (before : List Entry) (entry : Entr
   abbrev pub rest_text : (run : Run script) → List Entry → List ℕ
   rest_text run later = text_of (tail (entry_lines script run.lost) (before ▹ entry) later) ++ ending run
 
-  abbrev earlier : (lost : List Lost) (frame : ℕ) (run : Run script) → frames before ≤ frame → GoesOnTo (before ▹ entry) lost frame run → GoesOnTo before lost (frames before) run
-  earlier lost frame run upto goes = record { later = entry ∷ goes.later; entries = goes.entries; more = goes.more; losses = goes.losses; behind = behind-less (frames before) frame goes.more upto goes.behind }
+  abbrev earlier : (lost : List Lost) (frame : ℕ) (run : Run script) → frames before ≤ frame → GoesOnTo (before ▹ entry) lost frame run
+      → GoesOnTo before lost (frames before) run
+  earlier lost frame run upto goes = record {
+    later = entry ∷ goes.later;
+    entries = goes.entries;
+    more = goes.more;
+    losses = goes.losses;
+    behind = behind-less (frames before) frame goes.more upto goes.behind;
+  }
 
   -- its text
-  pub run-parts : (lost : List Lost) (frame : ℕ) (run : Run script) → text ≡ report_of script run → frames before ≤ frame → (goes : GoesOnTo (before ▹ entry) lost frame run)
-      → text ≡ told script lost before ++ (own_text script before entry ++ (text_of (shown_here script run.lost before entry) ++ (events_text script before entry ++ rest_text run goes.later)))
+  pub run-parts : (lost : List Lost) (frame : ℕ) (run : Run script) → text ≡ report_of script run → frames before ≤ frame
+      → (goes : GoesOnTo (before ▹ entry) lost frame run)
+      → text ≡ told script lost before ++ (own_text script before entry
+      ++ (text_of (shown_here script run.lost before entry) ++ (events_text script before entry ++ rest_text run goes.later)))
   run-parts lost frame run is upto goes =
       text-here script text before lost run is (earlier lost frame run upto goes)
       ∙ ap (λ (t : List ℕ). told script lost before ++ t) (tail-parts script run.lost before entry goes.later (ending run))
 
   -- where the losses up to this entry are known, what it shows is known
-  shown-known : (lost : List Lost) (run : Run script) → GoesOnTo (before ▹ entry) lost (frames (before ▹ entry)) run → text_of (shown_here script run.lost before entry) ≡ shown_text script lost before entry
+  shown-known : (lost : List Lost) (run : Run script) → GoesOnTo (before ▹ entry) lost (frames (before ▹ entry)) run
+      → text_of (shown_here script run.lost before entry) ≡ shown_text script lost before entry
   shown-known lost run goes =
       ap text_of (ap (λ (ls : List Lost). shown_here script ls before entry) goes.losses
       ∙ shown-agree script (lost ++ goes.more) lost before (is_finish entry.kind) (λ finish.
@@ -95,7 +110,8 @@ module _ (script : Script) (text : List ℕ) (before : List Entry) (entry : Entr
 
   -- ---- bytes that pass
 
-  pub part-more : (part bytes : List ℕ) (frame next : ℕ) (along : Along) → IsPart script text before entry part frame along → Passes text along.at bytes (Some next) → IsPart script text before entry (part ++ bytes) frame (record along { at = next })
+  pub part-more : (part bytes : List ℕ) (frame next : ℕ) (along : Along) → IsPart script text before entry part frame along
+      → Passes text along.at bytes (Some next) → IsPart script text before entry (part ++ bytes) frame (record along { at = next })
   part-more part bytes frame next along is passes =
       let B : List ℕ → Type 0 = λ b. Begins text b next in
       record {
@@ -107,10 +123,12 @@ module _ (script : Script) (text : List ℕ) (before : List Entry) (entry : Entr
       }
 
   -- the entry's own line
-  pub line-passes : (along : Along) (next : ℕ) → IsPart script text before entry [] (frames before) along → Passes text along.at (own_text script before entry) (Some next) → IsLineTold script text before entry (record along { at = next })
+  pub line-passes : (along : Along) (next : ℕ) → IsPart script text before entry [] (frames before) along
+      → Passes text along.at (own_text script before entry) (Some next) → IsLineTold script text before entry (record along { at = next })
   line-passes along next is passes = part-more [] (own_text script before entry) (frames before) next along is passes
 
-  pub line-parts : (along : Along) → IsPart script text before entry [] (frames before) along → Passes text along.at (own_text script before entry) None → NoRun script text
+  pub line-parts : (along : Along) → IsPart script text before entry [] (frames before) along → Passes text along.at (own_text script before entry) None
+      → NoRun script text
   line-parts along is parts read run report =
       let goes = is.led read run report in
       let all = run-parts along.lost (frames before) run report (omega arith) goes in
@@ -130,7 +148,8 @@ module _ (script : Script) (text : List ℕ) (before : List Entry) (entry : Entr
 
   -- ---- the events
 
-  pub events-pass : (along : Along) (next many : ℕ) → IsShownTold script text before entry along → Passes text along.at (events_text script before entry) (Some next) → many ≡ length (posts script.setup (before ▹ entry))
+  pub events-pass : (along : Along) (next many : ℕ) → IsShownTold script text before entry along
+      → Passes text along.at (events_text script before entry) (Some next) → many ≡ length (posts script.setup (before ▹ entry))
       → IsAlong script text (before ▹ entry) (record along { at = next; posted = many })
   events-pass along next many is passes posted_are =
       let t = told script along.lost before in
@@ -148,7 +167,8 @@ module _ (script : Script) (text : List ℕ) (before : List Entry) (entry : Entr
         posted = posted_are;
       }
 
-  pub events-part : (along : Along) → IsShownTold script text before entry along → Passes text along.at (events_text script before entry) None → NoRun script text
+  pub events-part : (along : Along) → IsShownTold script text before entry along → Passes text along.at (events_text script before entry) None
+      → NoRun script text
   events-part along is parts read run report =
       let goes = is.led read run report in
       let t = told script along.lost before in
@@ -158,7 +178,8 @@ module _ (script : Script) (text : List ℕ) (before : List Entry) (entry : Entr
       let all = run-parts along.lost (frames (before ▹ entry)) run report (frames-upto before entry) goes in
       parts (t ++ (own ++ shown)) rest is.begins
       (all ∙ ap (λ (u : List ℕ). t ++ (own ++ (u ++ (events_text script before entry ++ rest)))) (shown-known along.lost run goes)
-      ∙ ap (λ (u : List ℕ). t ++ u) (sym (append_assoc own shown (events_text script before entry ++ rest))) ∙ sym (append_assoc t (own ++ shown) (events_text script before entry ++ rest)))
+      ∙ ap (λ (u : List ℕ). t ++ u) (sym (append_assoc own shown (events_text script before entry ++ rest)))
+      ∙ sym (append_assoc t (own ++ shown) (events_text script before entry ++ rest)))
 
 -- losses behind others
 loss-behind : (history : List Entry) (xs ys : List Lost) → is_loss history (xs ++ ys) ≡ true → is_loss history ys ≡ true
@@ -171,15 +192,19 @@ none-later history n [] less loss = refl
 none-later history n (x ∷ lost) less loss =
     let number_fits = nat_lt 0 x.frame.0 && nat_le x.frame.0 (frames history) in
     let first = and-left (number_fits && list_all (goes_before x) lost) (is_loss history lost) loss in
-    let low : nat_le x.frame.0 (frames history) ≡ true = and-right (nat_lt 0 x.frame.0) (nat_le x.frame.0 (frames history)) (and-left number_fits (list_all (goes_before x) lost) first) in
+    let low : nat_le x.frame.0 (frames history) ≡ true =
+    and-right (nat_lt 0 x.frame.0) (nat_le x.frame.0 (frames history)) (and-left number_fits (list_all (goes_before x) lost) first) in
     let other : (x.frame.0 == n) ≡ false = grind (arith, nat_tests) in
     rw other (none-later history n lost less (loss-parts history x lost loss).1)
 
-small-behind : (xs ys : List Lost) → list_all (λ (one : Lost). is_display_number one.display) (xs ++ ys) ≡ true → list_all (λ (one : Lost). is_display_number one.display) ys ≡ true
+small-behind : (xs ys : List Lost) → list_all (λ (one : Lost). is_display_number one.display) (xs ++ ys) ≡ true
+    → list_all (λ (one : Lost). is_display_number one.display) ys ≡ true
 small-behind [] ys all = all
-small-behind (x ∷ xs) ys all = small-behind xs ys (and-right (is_display_number x.display) (list_all (λ (one : Lost). is_display_number one.display) (xs ++ ys)) all)
+small-behind (x ∷ xs) ys all = small-behind xs ys (and-right (is_display_number x.display) (list_all (λ (one : Lost). is_display_number one.display) (xs ++ ys))
+    all)
 
-at-small : (n : ℕ) (xs ys : List Lost) → are_at n xs ≡ true → list_all (λ (one : Lost). is_display_number one.display) (xs ++ ys) ≡ true → list_all (is_at n) xs ≡ true
+at-small : (n : ℕ) (xs ys : List Lost) → are_at n xs ≡ true → list_all (λ (one : Lost). is_display_number one.display) (xs ++ ys) ≡ true
+    → list_all (is_at n) xs ≡ true
 at-small n [] ys at all = refl
 at-small n (x ∷ xs) ys at all =
     let rest = λ (zs : List Lost). list_all (λ (one : Lost). is_display_number one.display) zs in
@@ -189,7 +214,8 @@ at-small n (x ∷ xs) ys at all =
 are-there : (n : ℕ) (xs : List Lost) → list_all (is_at n) xs ≡ true → are_at n xs ≡ true
 are-there n [] at = refl
 are-there n (x ∷ xs) at =
-    and-true (and-left (x.frame.0 == n) (is_small x) (and-left (is_at n x) (list_all (is_at n) xs) at)) (are-there n xs (and-right (is_at n x) (list_all (is_at n) xs) at))
+    and-true (and-left (x.frame.0 == n) (is_small x) (and-left (is_at n x) (list_all (is_at n) xs) at))
+    (are-there n xs (and-right (is_at n x) (list_all (is_at n) xs) at))
 
 at-behind : (n m : ℕ) (xs : List Lost) → n < m → are_at m xs ≡ true → are_behind n xs ≡ true
 at-behind n m [] less at = refl
@@ -200,7 +226,8 @@ at-behind n m (x ∷ xs) less at =
 
 -- ---- a frame, and the displays that were lost at it
 
-module _ (script : Script) (text : List ℕ) (before : List Entry) (entry : Entry) (finish : is_finish entry.kind ≡ true) (along : Along) (is : IsLineTold script text before entry along) where
+module _ (script : Script) (text : List ℕ) (before : List Entry) (entry : Entry) (finish : is_finish entry.kind ≡ true) (along : Along)
+    (is : IsLineTold script text before entry along) where
   counted : frames (before ▹ entry) ≡ suc (frames before)
   counted = frames-one before entry ∙ ap (λ b. cond b (suc (frames before)) (frames before)) finish
 
@@ -220,102 +247,124 @@ module _ (script : Script) (text : List ℕ) (before : List Entry) (entry : Entr
 
   -- what a run's report has behind the entry's own line
   split-run : (run : Run script) → text ≡ report_of script run → (goes : GoesOnTo (before ▹ entry) along.lost (frames before) run)
-      → text ≡ (told script along.lost before ++ own_text script before entry) ++ (fb ++ (lost_text (lost_at (suc (frames before)) run.lost) ++ behind_events run goes.later))
+      → text ≡ (told script along.lost before ++ own_text script before entry)
+      ++ (fb ++ (lost_text (lost_at (suc (frames before)) run.lost) ++ behind_events run goes.later))
   split-run run report goes =
       run-parts script text before entry along.lost (frames before) run report (omega arith) goes
       ∙ ap (λ (u : List ℕ). told script along.lost before ++ (own_text script before entry ++ (u ++ behind_events run goes.later))) (shown-split run.lost)
-      ∙ ap (λ (u : List ℕ). told script along.lost before ++ (own_text script before entry ++ u)) (append_assoc fb (lost_text (lost_at (suc (frames before)) run.lost)) (behind_events run goes.later))
-      ∙ sym (append_assoc (told script along.lost before) (own_text script before entry) (fb ++ (lost_text (lost_at (suc (frames before)) run.lost) ++ behind_events run goes.later)))
+      ∙ ap (λ (u : List ℕ). told script along.lost before ++ (own_text script before entry ++ u))
+      (append_assoc fb (lost_text (lost_at (suc (frames before)) run.lost)) (behind_events run goes.later))
+      ∙ sym (append_assoc (told script along.lost before) (own_text script before entry)
+      (fb ++ (lost_text (lost_at (suc (frames before)) run.lost) ++ behind_events run goes.later)))
 
   pub frame-parts : Passes text along.at fb None → NoRun script text
   frame-parts parts read run report =
       let goes = is.led read run report in
-      parts (told script along.lost before ++ own_text script before entry) (lost_text (lost_at (suc (frames before)) run.lost) ++ behind_events run goes.later) is.begins (split-run run report goes)
+      parts (told script along.lost before ++ own_text script before entry) (lost_text (lost_at (suc (frames before)) run.lost) ++ behind_events run goes.later)
+      is.begins (split-run run report goes)
 
-  module _ (at next : ℕ) (new : List Lost) (passes : Passes text along.at fb (Some at)) (reads : ReadsLosses (suc (frames before)) along.lost new text at next) where
-    more-there : are_at (suc (frames before)) reads.more ≡ true
-    more-there = are-there (suc (frames before)) reads.more reads.are_at
+  module _ (at next : ℕ) (new : List Lost) (passes : Passes text along.at fb (Some at)) (reads : ReadsLosses (suc (frames before)) along.lost new text at next)
+    where
+      more-there : are_at (suc (frames before)) reads.more ≡ true
+      more-there = are-there (suc (frames before)) reads.more reads.are_at
 
-    new-agrees : told script new before ≡ told script along.lost before
-    new-agrees =
-        ap (λ (ls : List Lost). told script ls before) reads.is
-        ∙ told-agrees script (along.lost ++ reads.more) along.lost before (prefix-agrees (frames before) along.lost reads.more (at-behind (frames before) (suc (frames before)) reads.more (omega arith) more-there))
+      new-agrees : told script new before ≡ told script along.lost before
+      new-agrees =
+          ap (λ (ls : List Lost). told script ls before) reads.is
+          ∙ told-agrees script (along.lost ++ reads.more) along.lost before
+          (prefix-agrees (frames before) along.lost reads.more (at-behind (frames before) (suc (frames before)) reads.more (omega arith) more-there))
 
-    none-before : lost_at (suc (frames before)) along.lost ≡ []
-    none-before = none-later before (suc (frames before)) along.lost (omega arith) (is.losses.0 before (omega arith))
+      none-before : lost_at (suc (frames before)) along.lost ≡ []
+      none-before = none-later before (suc (frames before)) along.lost (omega arith) (is.losses.0 before (omega arith))
 
-    new-here : lost_at (suc (frames before)) new ≡ reads.more
-    new-here =
-        ap (lost_at (suc (frames before))) reads.is ∙ lost-append (suc (frames before)) along.lost reads.more
-        ∙ ap (λ (ls : List Lost). ls ++ lost_at (suc (frames before)) reads.more) none-before
-        ∙ ap (lost_at (suc (frames before))) (sym (append-nil reads.more)) ∙ at-here (suc (frames before)) reads.more [] more-there refl
+      new-here : lost_at (suc (frames before)) new ≡ reads.more
+      new-here =
+          ap (lost_at (suc (frames before))) reads.is ∙ lost-append (suc (frames before)) along.lost reads.more
+          ∙ ap (λ (ls : List Lost). ls ++ lost_at (suc (frames before)) reads.more) none-before
+          ∙ ap (lost_at (suc (frames before))) (sym (append-nil reads.more)) ∙ at-here (suc (frames before)) reads.more [] more-there refl
 
-    begins-all : Begins text (((told script along.lost before ++ own_text script before entry) ++ fb) ++ lost_text reads.more) next
-    begins-all = reads.passes.1 ((told script along.lost before ++ own_text script before entry) ++ fb) (passes.1 (told script along.lost before ++ own_text script before entry) is.begins)
+      begins-all : Begins text (((told script along.lost before ++ own_text script before entry) ++ fb) ++ lost_text reads.more) next
+      begins-all = reads.passes.1 ((told script along.lost before ++ own_text script before entry) ++ fb)
+          (passes.1 (told script along.lost before ++ own_text script before entry) is.begins)
 
-    all-is : ((told script along.lost before ++ own_text script before entry) ++ fb) ++ lost_text reads.more ≡ told script new before ++ (own_text script before entry ++ shown_text script new before entry)
-    all-is =
-        append_assoc (told script along.lost before ++ own_text script before entry) fb (lost_text reads.more)
-        ∙ append_assoc (told script along.lost before) (own_text script before entry) (fb ++ lost_text reads.more)
-        ∙ (let told_same = sym new-agrees in let here_same = sym new-here in λ i. told_same i ++ (own_text script before entry ++ (fb ++ lost_text (here_same i))))
-        ∙ ap (λ (u : List ℕ). told script new before ++ (own_text script before entry ++ u)) (sym (shown-split new))
+      all-is : ((told script along.lost before ++ own_text script before entry) ++ fb) ++ lost_text reads.more ≡ told script new before
+          ++ (own_text script before entry ++ shown_text script new before entry)
+      all-is =
+          append_assoc (told script along.lost before ++ own_text script before entry) fb (lost_text reads.more)
+          ∙ append_assoc (told script along.lost before) (own_text script before entry) (fb ++ lost_text reads.more)
+          ∙ (let told_same = sym new-agrees in let here_same = sym new-here in
+          λ i. told_same i ++ (own_text script before entry ++ (fb ++ lost_text (here_same i))))
+          ∙ ap (λ (u : List ℕ). told script new before ++ (own_text script before entry ++ u)) (sym (shown-split new))
 
-    led : AllGoOn script text (before ▹ entry) new (frames (before ▹ entry))
-    led read run report =
-        let goes = is.led read run report in
-        let kept : Kept (2 ^ 32) script = read-kept read.0 script read.1 in
-        let L : List Lost → Type 0 = λ ls. is_loss run.history ls ≡ true in
-        let N : List Lost → Type 0 = λ ls. list_all (λ (one : Lost). is_display_number one.display) ls ≡ true in
-        let M : List Lost → Type 0 = λ ls. NoMoreLost (suc (frames before)) ls (drop next text) in
-        let loss : is_loss run.history (along.lost ++ goes.more) ≡ true = subst L goes.losses run.is.loss in
-        let numbered : list_all (λ (one : Lost). is_display_number one.display) (along.lost ++ goes.more) ≡ true = subst N goes.losses run.is.numbered in
-        let two = part run.history (frames before) goes.more goes.behind (loss-behind run.history along.lost goes.more loss) in
-        let here_at : lost_at (suc (frames before)) run.lost ≡ two.here =
-        ap (lost_at (suc (frames before))) (goes.losses ∙ ap (λ (ls : List Lost). along.lost ++ ls) two.is) ∙ lost-append (suc (frames before)) along.lost (two.here ++ two.later)
-        ∙ ap (λ (ls : List Lost). ls ++ lost_at (suc (frames before)) (two.here ++ two.later)) none-before ∙ at-here (suc (frames before)) two.here two.later two.are_here two.are_later in
-        let small : list_all (is_at (suc (frames before))) two.here ≡ true = at-small (suc (frames before)) two.here two.later two.are_here (subst N two.is (small-behind along.lost goes.more numbered)) in
-        let first = told script along.lost before ++ own_text script before entry in
-        let X = behind_events run goes.later in
-        let x = drop next text in
-        let texts : (first ++ fb) ++ (lost_text reads.more ++ x) ≡ (first ++ fb) ++ (lost_text two.here ++ X) =
-        sym (append_assoc (first ++ fb) (lost_text reads.more) x) ∙ sym begins-all.is ∙ split-run run report goes ∙ sym (append_assoc first fb (lost_text (lost_at (suc (frames before)) run.lost) ++ X))
-        ∙ ap (λ (ls : List Lost). (first ++ fb) ++ (lost_text ls ++ X)) here_at in
-        let told_same : lost_text reads.more ++ x ≡ lost_text two.here ++ X = append_cancel_left (first ++ fb) (lost_text reads.more ++ x) (lost_text two.here ++ X) texts in
-        let sheets : sheet (map lost_line reads.more) x ≡ sheet (map lost_line two.here) X =
-        sym (text-sheet (map lost_line reads.more) x) ∙ told_same ∙ text-sheet (map lost_line two.here) X in
-        let S : List Entry → Type 0 = Stands script.setup script.count script.lines in
-        let whole : Stands script.setup script.count script.lines (onto (before ▹ entry) goes.later) = subst S (goes.entries ∙ then-onto (before ▹ entry) goes.later) (stands script.setup script.count script.lines run.history run.is.legal run.is.interleaves) in
-        let quiet = seen-no-loss script kept.named run.history (probe_lines script) run.seen (line_on (end_line (length run.history) (frames run.history)) []) (probe-lines-are script kept.spoken) (end-no-loss script kept.named (codes "ends" ∷ codes "entries" ∷ number (length run.history) ∷ codes "frames" ∷ number (frames run.history) ∷ []) []) in
-        let Q : List ℕ → Type 0 = NoLoss in
-        let none : NoLoss X = subst Q (sym (text-sheet (events_here script run.lost before entry) (rest_text script text before entry run goes.later)))
-        (events-no-loss script kept.named (posted script.setup before entry) (rest_text script text before entry run goes.later)
-        (subst Q (sym (text-sheet (tail (entry_lines script run.lost) (before ▹ entry) goes.later) (ending run))) (tail-no-loss script kept.named run.lost (before ▹ entry) goes.later (ending run) whole quiet))) in
-        let same : reads.more ≡ two.here =
-        same-losses (suc (frames before)) run.history along.lost reads.more two.here two.later x X reads.are_at small (subst L (ap (λ (ls : List Lost). along.lost ++ ls) two.is) loss) (subst M reads.is reads.stops) none sheets in
-        let B : ℕ → Type 0 = λ n. are_behind n two.later ≡ true in
-        record {
-          later = goes.later;
-          entries = goes.entries;
-          more = two.later;
-          losses = goes.losses ∙ ap (λ (ls : List Lost). along.lost ++ ls) two.is ∙ sym (append_assoc along.lost two.here two.later) ∙ ap (λ (ls : List Lost). (along.lost ++ ls) ++ two.later) (sym same) ∙ ap (λ (ls : List Lost). ls ++ two.later) (sym reads.is);
-          behind = subst B (sym counted) two.are_later;
-        }
+      led : AllGoOn script text (before ▹ entry) new (frames (before ▹ entry))
+      led read run report =
+          let goes = is.led read run report in
+          let kept : Kept (2 ^ 32) script = read-kept read.0 script read.1 in
+          let L : List Lost → Type 0 = λ ls. is_loss run.history ls ≡ true in
+          let N : List Lost → Type 0 = λ ls. list_all (λ (one : Lost). is_display_number one.display) ls ≡ true in
+          let M : List Lost → Type 0 = λ ls. NoMoreLost (suc (frames before)) ls (drop next text) in
+          let loss : is_loss run.history (along.lost ++ goes.more) ≡ true = subst L goes.losses run.is.loss in
+          let numbered : list_all (λ (one : Lost). is_display_number one.display) (along.lost ++ goes.more) ≡ true = subst N goes.losses run.is.numbered in
+          let two = part run.history (frames before) goes.more goes.behind (loss-behind run.history along.lost goes.more loss) in
+          let here_at : lost_at (suc (frames before)) run.lost ≡ two.here =
+          ap (lost_at (suc (frames before))) (goes.losses ∙ ap (λ (ls : List Lost). along.lost ++ ls) two.is)
+          ∙ lost-append (suc (frames before)) along.lost (two.here ++ two.later)
+          ∙ ap (λ (ls : List Lost). ls ++ lost_at (suc (frames before)) (two.here ++ two.later)) none-before
+          ∙ at-here (suc (frames before)) two.here two.later two.are_here two.are_later in
+          let small : list_all (is_at (suc (frames before))) two.here ≡ true =
+          at-small (suc (frames before)) two.here two.later two.are_here (subst N two.is (small-behind along.lost goes.more numbered)) in
+          let first = told script along.lost before ++ own_text script before entry in
+          let X = behind_events run goes.later in
+          let x = drop next text in
+          let texts : (first ++ fb) ++ (lost_text reads.more ++ x) ≡ (first ++ fb) ++ (lost_text two.here ++ X) =
+          sym (append_assoc (first ++ fb) (lost_text reads.more) x) ∙ sym begins-all.is ∙ split-run run report goes
+          ∙ sym (append_assoc first fb (lost_text (lost_at (suc (frames before)) run.lost) ++ X))
+          ∙ ap (λ (ls : List Lost). (first ++ fb) ++ (lost_text ls ++ X)) here_at in
+          let told_same : lost_text reads.more ++ x ≡ lost_text two.here ++ X =
+          append_cancel_left (first ++ fb) (lost_text reads.more ++ x) (lost_text two.here ++ X) texts in
+          let sheets : sheet (map lost_line reads.more) x ≡ sheet (map lost_line two.here) X =
+          sym (text-sheet (map lost_line reads.more) x) ∙ told_same ∙ text-sheet (map lost_line two.here) X in
+          let S : List Entry → Type 0 = Stands script.setup script.count script.lines in
+          let whole : Stands script.setup script.count script.lines (onto (before ▹ entry) goes.later) =
+          subst S (goes.entries ∙ then-onto (before ▹ entry) goes.later)
+          (stands script.setup script.count script.lines run.history run.is.legal run.is.interleaves) in
+          let quiet = seen-no-loss script kept.named run.history (probe_lines script) run.seen (line_on (end_line (length run.history) (frames run.history)) [])
+          (probe-lines-are script kept.spoken) (end-no-loss script kept.named
+          (codes "ends" ∷ codes "entries" ∷ number (length run.history) ∷ codes "frames" ∷ number (frames run.history) ∷ []) []) in
+          let Q : List ℕ → Type 0 = NoLoss in
+          let none : NoLoss X = subst Q (sym (text-sheet (events_here script run.lost before entry) (rest_text script text before entry run goes.later)))
+          (events-no-loss script kept.named (posted script.setup before entry) (rest_text script text before entry run goes.later)
+          (subst Q (sym (text-sheet (tail (entry_lines script run.lost) (before ▹ entry) goes.later) (ending run)))
+          (tail-no-loss script kept.named run.lost (before ▹ entry) goes.later (ending run) whole quiet))) in
+          let same : reads.more ≡ two.here =
+          same-losses (suc (frames before)) run.history along.lost reads.more two.here two.later x X reads.are_at small
+          (subst L (ap (λ (ls : List Lost). along.lost ++ ls) two.is) loss) (subst M reads.is reads.stops) none sheets in
+          let B : ℕ → Type 0 = λ n. are_behind n two.later ≡ true in
+          record {
+            later = goes.later;
+            entries = goes.entries;
+            more = two.later;
+            losses = goes.losses ∙ ap (λ (ls : List Lost). along.lost ++ ls) two.is ∙ sym (append_assoc along.lost two.here two.later)
+                ∙ ap (λ (ls : List Lost). (along.lost ++ ls) ++ two.later) (sym same) ∙ ap (λ (ls : List Lost). ls ++ two.later) (sym reads.is);
+            behind = subst B (sym counted) two.are_later;
+          }
 
-    pub frame-passes : next ≤ length text → IsShownTold script text before entry (record along { lost = new; at = next })
-    frame-passes within =
-        let B : List ℕ → Type 0 = λ b. Begins text b next in
-        let A : ℕ → Type 0 = λ n. AreLosses n new in
-        record {
-          begins = subst B all-is begins-all;
-          within = within;
-          led = led;
-          losses = subst A (sym counted) (reads.losses (omega arith) (losses-later (frames before) (suc (frames before)) along.lost (omega arith) is.losses));
-          posted = is.posted;
-        }
+      pub frame-passes : next ≤ length text → IsShownTold script text before entry (record along { lost = new; at = next })
+      frame-passes within =
+          let B : List ℕ → Type 0 = λ b. Begins text b next in
+          let A : ℕ → Type 0 = λ n. AreLosses n new in
+          record {
+            begins = subst B all-is begins-all;
+            within = within;
+            led = led;
+            losses = subst A (sym counted) (reads.losses (omega arith) (losses-later (frames before) (suc (frames before)) along.lost (omega arith) is.losses));
+            posted = is.posted;
+          }
 
 -- an entry's own line has bytes
 pub own-some : (script : Script) (before : List Entry) (entry : Entry) → 0 < length (own_text script before entry)
 own-some script before entry = fed (own_line script [] before entry)
   where
     fed : (words : List Word) → 0 < length (text_of (words ∷ []))
-    fed words = (let long : length (text_of (words ∷ [])) ≡ length (line_of words) + 1 = ap length (append-nil (line_of words ++ 10 ∷ [])) ∙ length-append (line_of words) (10 ∷ []) in omega (arith, long))
+    fed words = (let long : length (text_of (words ∷ [])) ≡ length (line_of words) + 1 = ap length (append-nil (line_of words ++ 10 ∷ []))
+        ∙ length-append (line_of words) (10 ∷ []) in omega (arith, long))

@@ -1,5 +1,6 @@
 -- Two texts, byte by byte.
-use Rattle.std.proofs.Common.{◌≡◌, ℕ, zero, suc, ◌+◌, ◌<◌, ◌≤◌, ◌==◌, Bool, true, false, cond, List, [], ◌∷◌, ◌++◌, length, get_or, take, drop, refl, sym, ap, ◌∙◌, arith, append_assoc, Option, Some, None}
+use Rattle.std.proofs.Common.{◌≡◌, ℕ, zero, suc, ◌+◌, ◌<◌, ◌≤◌, ◌==◌, Bool, true, false, cond, List, [], ◌∷◌, ◌++◌, length, get_or, take, drop, refl, sym, ap}
+use Rattle.std.proofs.Common.{◌∙◌, arith, append_assoc, Option, Some, None}
 use Rattle.std.proofs.Math.Seq.{drop-cons}
 use Rattle.std.proofs.lemmas.List.{append-nil}
 use Rattle.std.specs.List.{concat}
@@ -13,7 +14,8 @@ parts-none line [] (b ∷ other) is = absurd (let wrong : Some line ≡ None = i
 parts-none line (a ∷ text) [] is = absurd (let wrong : Some line ≡ None = is in cc)
 parts-none line (a ∷ text) (b ∷ other) is = by (a == b) refl is (parts-none (line + cond (a == 10) 1 0) text other)
   where
-    by : (t : Bool) → (a == b) ≡ t → cond t (parts_from (line + cond (a == 10) 1 0) text other) (Some line) ≡ None → (parts_from (line + cond (a == 10) 1 0) text other ≡ None → text ≡ other) → a ∷ text ≡ b ∷ other
+    by : (t : Bool) → (a == b) ≡ t → cond t (parts_from (line + cond (a == 10) 1 0) text other) (Some line) ≡ None
+        → (parts_from (line + cond (a == 10) 1 0) text other ≡ None → text ≡ other) → a ∷ text ≡ b ∷ other
     by true same none rest = let first : a ≡ b = eqb-true a b same in let later = rest none in λ i. first i ∷ later i
     by false same none rest = absurd (let wrong : Some line ≡ None = none in cc)
 
@@ -28,7 +30,9 @@ module _ (text piece later : List ℕ) (i j line : ℕ) (inside : j < length pie
   there : drop j piece ≡ get_or piece j 0 ∷ drop (suc j) piece
   there = drop-cons piece j 0 inside
 
-  pub parts-on : i < length text → get_or text i 0 ≡ get_or piece j 0 → parts_from line (drop i text) (drop j piece ++ later) ≡ parts_from (line + cond (get_or piece j 0 == 10) 1 0) (drop (suc i) text) (drop (suc j) piece ++ later)
+  pub parts-on : i < length text → get_or text i 0 ≡ get_or piece j 0
+      → parts_from line (drop i text) (drop j piece ++ later)
+      ≡ parts_from (line + cond (get_or piece j 0 == 10) 1 0) (drop (suc i) text) (drop (suc j) piece ++ later)
   parts-on below same =
       let here : drop i text ≡ get_or piece j 0 ∷ drop (suc i) text = drop-cons text i 0 below ∙ ap (λ (c : ℕ). c ∷ drop (suc i) text) same in
       let yes : (get_or piece j 0 == get_or piece j 0) ≡ true = eq-eqb (get_or piece j 0) (get_or piece j 0) refl in
@@ -64,11 +68,14 @@ all-past (x ∷ xs) (suc i) upto = all-past xs i (omega (arith, upto))
 pub concat-next : (pieces : List (List ℕ)) (k : ℕ) (d : List ℕ) → k < length pieces → concat (take (suc k) pieces) ≡ concat (take k pieces) ++ get_or pieces k d
 concat-next [] k d inside = absurd (omega (arith, inside))
 concat-next (p ∷ pieces) zero d inside = append-nil p
-concat-next (p ∷ pieces) (suc k) d inside = ap (λ (t : List ℕ). p ++ t) (concat-next pieces k d (omega (arith, inside))) ∙ sym (append_assoc p (concat (take k pieces)) (get_or pieces k d))
+concat-next (p ∷ pieces) (suc k) d inside = ap (λ (t : List ℕ). p ++ t) (concat-next pieces k d (omega (arith, inside)))
+    ∙ sym (append_assoc p (concat (take k pieces)) (get_or pieces k d))
 
 -- the pieces before a place, the one at it, and those behind
-pub concat-split : (pieces : List (List ℕ)) (k : ℕ) (d : List ℕ) → k < length pieces → concat pieces ≡ concat (take k pieces) ++ (get_or pieces k d ++ concat (drop (suc k) pieces))
+pub concat-split : (pieces : List (List ℕ)) (k : ℕ) (d : List ℕ) → k < length pieces
+    → concat pieces ≡ concat (take k pieces) ++ (get_or pieces k d ++ concat (drop (suc k) pieces))
 concat-split [] k d inside = absurd (omega (arith, inside))
 concat-split (p ∷ pieces) zero d inside = refl
 concat-split (p ∷ pieces) (suc k) d inside =
-    ap (λ (t : List ℕ). p ++ t) (concat-split pieces k d (omega (arith, inside))) ∙ sym (append_assoc p (concat (take k pieces)) (get_or pieces k d ++ concat (drop (suc k) pieces)))
+    ap (λ (t : List ℕ). p ++ t) (concat-split pieces k d (omega (arith, inside)))
+    ∙ sym (append_assoc p (concat (take k pieces)) (get_or pieces k d ++ concat (drop (suc k) pieces)))

@@ -1,5 +1,6 @@
 -- Whether a text has bytes at a place.
-use Rattle.std.proofs.Common.{◌≡◌, ℕ, ◌+◌, ◌-◌, ◌<◌, ◌≤◌, Bool, true, false, List, ◌++◌, length, take, drop, Some, None, refl, sym, ap, ◌∙◌, subst, arith, append_assoc, length-append, Decides, true≢false}
+use Rattle.std.proofs.Common.{◌≡◌, ℕ, ◌+◌, ◌-◌, ◌<◌, ◌≤◌, Bool, true, false, List, ◌++◌, length, take, drop, Some, None, refl, sym, ap, ◌∙◌, subst, arith}
+use Rattle.std.proofs.Common.{append_assoc, length-append, Decides, true≢false}
 use Rattle.std.proofs.lemmas.Grind.{common_steps}
 use Rattle.std.specs.Str.{bytes_eq}
 use Rattle.std.proofs.Math.Seq.{take-append_seam}
@@ -32,12 +33,15 @@ module _ (text bytes : List ℕ) (at n : ℕ) (many : n ≡ length bytes) where
   pass-some within is = (
     within,
     λ before begins.
-        (let found : take (length bytes) (drop at text) ≡ bytes = ap (λ (k : ℕ). take k (drop at text)) (sym many) ∙ same-bytes (take n (drop at text)) bytes is in
-        let here : drop at text ≡ bytes ++ drop (length bytes) (drop at text) = sym (take-append-drop (length bytes) (drop at text)) ∙ ap (λ (t : List ℕ). t ++ drop (length bytes) (drop at text)) found in
+        (let found : take (length bytes) (drop at text) ≡ bytes = ap (λ (k : ℕ). take k (drop at text)) (sym many)
+        ∙ same-bytes (take n (drop at text)) bytes is in
+        let here : drop at text ≡ bytes ++ drop (length bytes) (drop at text) =
+        sym (take-append-drop (length bytes) (drop at text)) ∙ ap (λ (t : List ℕ). t ++ drop (length bytes) (drop at text)) found in
         let long = begins.long in
         record {
           long = (let both : length (before ++ bytes) ≡ length before + length bytes = length-append before bytes in omega (arith, both, long));
-          is = begins.is ∙ ap (λ (t : List ℕ). before ++ t) (here ∙ ap (λ (t : List ℕ). bytes ++ t) (drop-more at (length bytes) text)) ∙ sym (append_assoc before bytes (drop (at + length bytes) text));
+          is = begins.is ∙ ap (λ (t : List ℕ). before ++ t) (here ∙ ap (λ (t : List ℕ). bytes ++ t) (drop-more at (length bytes) text))
+              ∙ sym (append_assoc before bytes (drop (at + length bytes) text));
         }),
   )
 

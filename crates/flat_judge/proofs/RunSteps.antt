@@ -1,5 +1,6 @@
 -- A run that is made by a guide, after one step more.
-use Rattle.std.proofs.Common.{◌≡◌, ◌≢◌, ℕ, zero, suc, ◌+◌, ◌<◌, ◌≤◌, Bool, true, false, cond, ◌==◌, List, [], ◌∷◌, length, drop, get_or, set, replicate, refl, sym, ap, ◌∙◌, subst, arith, Some, None, slice_get, slice_set, slice_index_or}
+use Rattle.std.proofs.Common.{◌≡◌, ◌≢◌, ℕ, zero, suc, ◌+◌, ◌<◌, ◌≤◌, Bool, true, false, cond, ◌==◌, List, [], ◌∷◌, length, drop, get_or, set, replicate, refl}
+use Rattle.std.proofs.Common.{sym, ap, ◌∙◌, subst, arith, Some, None, slice_get, slice_set, slice_index_or}
 use Rattle.std.proofs.lemmas.Bool.{eq-eqb, eqb-true}
 use Rattle.std.proofs.lemmas.Bool.Decides.{nat_tests}
 use Rattle.std.proofs.lemmas.Option.{slice_get-get_or}
@@ -33,7 +34,8 @@ use Rattle.flat_play.proofs.lemmas.Steps.{At}
 use Rattle.flat_play.proofs.lemmas.Unread.{later_all}
 use Rattle.flat_judge.specs.declared.guided_run.GuidedRun.{GuidedRun}
 use Rattle.flat_judge.specs.declared.seat.Seat.{Seat}
-use Rattle.flat_judge.specs.GuidedRuns.{AreBehind, ProbeGoesOn, Goes, GoesOn, HasEntered, HaveEnded, IsAt, RunStands, SeatsStand, ShowStands, Sits, SitsBy, ProbesStandAt, asked_here, is_aside}
+use Rattle.flat_judge.specs.GuidedRuns.{AreBehind, ProbeGoesOn, Goes, GoesOn, HasEntered, HaveEnded, IsAt, RunStands, SeatsStand, ShowStands, Sits, SitsBy}
+use Rattle.flat_judge.specs.GuidedRuns.{ProbesStandAt, asked_here, is_aside}
 use Rattle.flat_judge.proofs.DisplayLines.{IsDisplays, display_goes, display_passes, goes_spent, passes_spent}
 use Rattle.flat_judge.proofs.Seats.{made_one, seats_display, seats_set}
 use Rattle.flat_judge.proofs.Shows.{aside_begin, aside_finish, show_stays, shows_aside}
@@ -41,7 +43,8 @@ use Rattle.flat_judge.proofs.ProbePlaces.{probes-answer, probes-first, probes-on
 
 -- ---- before any line
 
-pub run_first : (script : Script) → is_playable script ≡ true → (guided : GuidedRun) → ShowStands script guided.play → guided.play.board.history ≡ [] → SeatsStand script [] guided.seats.items → guided.place ≡ 0 → guided.places ≡ replicate script.setup.probes 0
+pub run_first : (script : Script) → is_playable script ≡ true → (guided : GuidedRun) → ShowStands script guided.play → guided.play.board.history ≡ []
+    → SeatsStand script [] guided.seats.items → guided.place ≡ 0 → guided.places ≡ replicate script.setup.probes 0
     → guided.answers.items ≡ replicate script.setup.probes [] → RunStands script guided
 run_first script playable guided show none seats place places answers =
     let S : List Entry → Type 0 = λ h. SeatsStand script h guided.seats.items in
@@ -67,15 +70,18 @@ run_first script playable guided show none seats place places answers =
 -- ---- an entry of a session
 
 -- the seat at a place
-pub seat_sits : (script : Script) (guided : GuidedRun) (k : ℕ) (seat : Seat) → RunStands script guided → k < length guided.seats.items → seat ≡ get_or guided.seats.items k seat → Sits script (record { 0 = k + 1 }) guided.play.board.history seat
+pub seat_sits : (script : Script) (guided : GuidedRun) (k : ℕ) (seat : Seat) → RunStands script guided → k < length guided.seats.items
+    → seat ≡ get_or guided.seats.items k seat → Sits script (record { 0 = k + 1 }) guided.play.board.history seat
 seat_sits script guided k seat stands below is =
     let P : Seat → Type 0 = λ p. Sits script (record { 0 = k + 1 }) guided.play.board.history p in
     subst P (sym is) (stands.seats.each k seat below)
 
-pub seat_open : (script : Script) (s : SessionNo) (history : List Entry) (seat : Seat) → seat.has_ended ≡ false → Sits script s history seat → IsAt script s history seat
+pub seat_open : (script : Script) (s : SessionNo) (history : List Entry) (seat : Seat) → seat.has_ended ≡ false → Sits script s history seat
+    → IsAt script s history seat
 seat_open script s history seat unended sits = subst (SitsBy script s history seat) unended sits
 
-display_beside_entry : (script : Script) (place : ℕ) (old : List Entry) (e : Entry) → is_display e.actor ≡ false → is_aside e.kind ≡ true → DisplayStands script place old → DisplayStands script place (old ▹ e)
+display_beside_entry : (script : Script) (place : ℕ) (old : List Entry) (e : Entry) → is_display e.actor ≡ false → is_aside e.kind ≡ true
+    → DisplayStands script place old → DisplayStands script place (old ▹ e)
 display_beside_entry script place old e other aside stands =
     let F : List Entry → Type 0 = FollowsDisplay (display_lines script.lines) in
     let mine : by_display (old ▹ e) ≡ by_display old = rw other refl in
@@ -84,13 +90,17 @@ display_beside_entry script place old e other aside stands =
     record {
       follows = subst F (sym mine) stands.follows;
       left = ap (λ es. unread_lines es (display_lines script.lines)) mine ∙ stands.left;
-      closing = ap (λ o. frames_close o (begin_time (old ▹ e)) (drop place script.lines)) is_open ∙ ap (λ t. frames_close (is_frame_open old) t (drop place script.lines)) time ∙ stands.closing;
+      closing = ap (λ o. frames_close o (begin_time (old ▹ e)) (drop place script.lines)) is_open
+          ∙ ap (λ t. frames_close (is_frame_open old) t (drop place script.lines)) time ∙ stands.closing;
     }
 
-pub session_goes : (script : Script) (guided next : GuidedRun) (k : ℕ) (seat : Seat) (board : Machine) → k < length guided.seats.items → RunStands script guided → Goes (Session (record { 0 = k + 1 })) guided.play.board board true
-    → Sits script (record { 0 = k + 1 }) board.history seat → next.play ≡ record guided.play { board = board } → next.seats.items ≡ set guided.seats.items k seat → next.place ≡ guided.place → next.places ≡ guided.places → next.answers.items ≡ guided.answers.items
+pub session_goes : (script : Script) (guided next : GuidedRun) (k : ℕ) (seat : Seat) (board : Machine) → k < length guided.seats.items → RunStands script guided
+    → Goes (Session (record { 0 = k + 1 })) guided.play.board board true
+    → Sits script (record { 0 = k + 1 }) board.history seat → next.play ≡ record guided.play { board = board }
+    → next.seats.items ≡ set guided.seats.items k seat → next.place ≡ guided.place → next.places ≡ guided.places → next.answers.items ≡ guided.answers.items
     → RunStands script next
-session_goes script guided next k seat board below stands (Goes.enters number carries kind reply aside is) sits play_is seats_are place_is places_are answers_are =
+session_goes script guided next k seat board below stands (Goes.enters number carries kind reply aside is) sits play_is seats_are place_is places_are
+    answers_are =
     let h : List Entry = guided.play.board.history in
     let e : Entry = entry_of (Session (record { 0 = k + 1 })) number carries kind reply in
     let grown : board.history ≡ (h ▹ e) = ap (λ (m : Machine). m.history) is in
@@ -107,21 +117,25 @@ session_goes script guided next k seat board below stands (Goes.enters number ca
     let other : (k + 1 == 0) ≡ false = grind (arith, nat_tests) in
     let none : ◌≡◌ {A = ℕ} (cond (k + 1 == 0) 1 0) 0 = ap (λ b. cond b 1 0) other in
     let more : made 0 next.play.board.history ≡ made 0 h + cond (k + 1 == 0) 1 0 = ap (made 0) history ∙ made_one 0 h e in
-    let left : lines_by 0 (drop next.place script.lines) ≡ lines_by 0 (drop guided.place script.lines) = ap (λ (n : ℕ). lines_by 0 (drop n script.lines)) place_is in
+    let left : lines_by 0 (drop next.place script.lines) ≡ lines_by 0 (drop guided.place script.lines) =
+    ap (λ (n : ℕ). lines_by 0 (drop n script.lines)) place_is in
     let within = stands.within in
     let spent = stands.spent in
     let goes : Goes (Session (record { 0 = k + 1 })) guided.play.board board true = Goes.enters number carries kind reply aside is in
     record {
       show = subst H (sym play_is) (shows_aside script guided.play board (Session (record { 0 = k + 1 })) number carries kind reply aside is stands.show);
-      seats = subst S1 (sym (ap (λ (p : Play). p.board) play_is)) (subst S (sym seats_are) (seats_set script k guided.play.board board guided.seats.items seat below goes sits stands.seats));
+      seats = subst S1 (sym (ap (λ (p : Play). p.board) play_is))
+          (subst S (sym seats_are) (seats_set script k guided.play.board board guided.seats.items seat below goes sits stands.seats));
       within = omega (arith, place_is, within);
       display = subst D1 (sym history) (subst D (sym place_is) (display_beside_entry script guided.place h e refl aside stands.display));
       spent = omega (arith, more, none, left, spent);
-      probes = subst R3 (sym history) (subst R2 (sym answers_are) (subst R1 (sym places_are) (probes-on script h e guided.places guided.answers.items stands.probes)));
+      probes = subst R3 (sym history) (subst R2 (sym answers_are)
+          (subst R1 (sym places_are) (probes-on script h e guided.places guided.answers.items stands.probes)));
     }
 
 -- the seat that was set went on
-pub goes_on : (seats : List Seat) (k : ℕ) (was is : Seat) → k < length seats → was ≡ get_or seats k was → (is.has_ended ≡ false → was.place < is.place) → GoesOn k seats (slice_set seats k is)
+pub goes_on : (seats : List Seat) (k : ℕ) (was is : Seat) → k < length seats → was ≡ get_or seats k was → (is.has_ended ≡ false → was.place < is.place)
+    → GoesOn k seats (slice_set seats k is)
 goes_on seats k was is below found later = record {
   others = λ j other. got-other seats k j is other;
   on = λ a b at then not_ended.
@@ -137,9 +151,11 @@ goes_on seats k was is below found later = record {
 
 -- ---- a line of the display
 
-module _ (script : Script) (guided next : GuidedRun) (x : ScriptLine) (at : At script guided.place x) (below : guided.place < length script.lines) (stands : RunStands script guided) (place_is : next.place ≡ guided.place + 1) where
+module _ (script : Script) (guided next : GuidedRun) (x : ScriptLine) (at : At script guided.place x) (below : guided.place < length script.lines)
+    (stands : RunStands script guided) (place_is : next.place ≡ guided.place + 1) where
   -- one of another actor
-  pub line_passes : display_text x.body ≡ None → next.play ≡ guided.play → next.seats ≡ guided.seats → next.places ≡ guided.places → next.answers ≡ guided.answers → RunStands script next
+  pub line_passes : display_text x.body ≡ None → next.play ≡ guided.play → next.seats ≡ guided.seats → next.places ≡ guided.places
+      → next.answers ≡ guided.answers → RunStands script next
   line_passes none play_is seats_are places_are answers_are =
       let h : List Entry = guided.play.board.history in
       let P : Play → Type 0 = ShowStands script in
@@ -159,7 +175,9 @@ module _ (script : Script) (guided next : GuidedRun) (x : ScriptLine) (at : At s
       subst (RunStands script) (sym same) made_so
 
   -- one of the display
-  pub line_enters : (text : DisplayLine) → IsDisplays x text → ShowStands script next.play → HasEntered x.number (entry_of_display text) guided.play.board next.play.board → next.seats ≡ guided.seats → next.places ≡ guided.places → next.answers ≡ guided.answers
+  pub line_enters : (text : DisplayLine) → IsDisplays x text → ShowStands script next.play
+      → HasEntered x.number (entry_of_display text) guided.play.board next.play.board → next.seats ≡ guided.seats → next.places ≡ guided.places
+      → next.answers ≡ guided.answers
       → RunStands script next
   line_enters text is show entered_is seats_are places_are answers_are =
       let h : List Entry = guided.play.board.history in
@@ -182,10 +200,12 @@ module _ (script : Script) (guided next : GuidedRun) (x : ScriptLine) (at : At s
 
 -- ---- probes
 
-module _ (script : Script) (guided : GuidedRun) (probe place : ℕ) (below : probe < length guided.places) (at_place : slice_get guided.places probe ≡ Some place) (short : place < length script.lines) (x : ScriptLine) (at : At script place x)
+module _ (script : Script) (guided : GuidedRun) (probe place : ℕ) (below : probe < length guided.places) (at_place : slice_get guided.places probe ≡ Some place)
+    (short : place < length script.lines) (x : ScriptLine) (at : At script place x)
     (stands : RunStands script guided) where
   -- a probe passes a line that isn't its own
-  pub probe_passes : (next : GuidedRun) → asked_here probe x.actor x.body ≡ None → next.play ≡ guided.play → next.seats ≡ guided.seats → next.place ≡ guided.place → next.places ≡ slice_set guided.places probe (place + 1) → next.answers ≡ guided.answers
+  pub probe_passes : (next : GuidedRun) → asked_here probe x.actor x.body ≡ None → next.play ≡ guided.play → next.seats ≡ guided.seats
+      → next.place ≡ guided.place → next.places ≡ slice_set guided.places probe (place + 1) → next.answers ≡ guided.answers
       → RunStands script next
   probe_passes next none play_is seats_are place_is places_are answers_are =
       let then : GuidedRun = record guided { places = slice_set guided.places probe (place + 1) } in
@@ -201,14 +221,21 @@ module _ (script : Script) (guided : GuidedRun) (probe place : ℕ) (below : pro
       subst (RunStands script) (sym same) stands_then
 
   -- or one that is, which the last frame answers
-  pub probe_answers : (mid next : GuidedRun) (asked : ProbeLine) → asked_here probe x.actor x.body ≡ Some asked → mid ≡ record guided { play = record guided.play { last = mid.play.last }; answers = mid.answers }
+  pub probe_answers : (mid next : GuidedRun) (asked : ProbeLine) → asked_here probe x.actor x.body ≡ Some asked
+      → mid ≡ record guided { play = record guided.play { last = mid.play.last }; answers = mid.answers }
       → StaysLast script.setup guided.play.last mid.play.last
-      → mid.answers.items ≡ with_answer probe (answer_of (at_ratio guided.play.last.ratio script.setup) guided.play.last.reuse guided.play.last.frame.0 x.actor x.number asked) guided.answers.items
-      → next.play ≡ mid.play → next.seats ≡ mid.seats → next.place ≡ mid.place → next.places ≡ slice_set mid.places probe (place + 1) → next.answers ≡ mid.answers → RunStands script next
+      → mid.answers.items ≡ with_answer probe (answer_of (at_ratio guided.play.last.ratio script.setup) guided.play.last.reuse guided.play.last.frame.0 x.actor
+      x.number asked) guided.answers.items
+      → next.play ≡ mid.play → next.seats ≡ mid.seats → next.place ≡ mid.place → next.places ≡ slice_set mid.places probe (place + 1)
+      → next.answers ≡ mid.answers → RunStands script next
   probe_answers mid next asked asks others stays answered play_is seats_are place_is places_are answers_are =
       let last = stands.show.answers in
       let P : List (List ProbeAnswer) → Type 0 = ProbesStandAt script guided.play.board.history (slice_set guided.places probe (place + 1)) in
-      let then : GuidedRun = record guided { play = record guided.play { last = mid.play.last }; places = slice_set guided.places probe (place + 1); answers = mid.answers } in
+      let then : GuidedRun = record guided {
+        play = record guided.play { last = mid.play.last };
+        places = slice_set guided.places probe (place + 1);
+        answers = mid.answers;
+      } in
       let stands_then : RunStands script then = record {
         show = show_stays script guided.play mid.play.last stays stands.show;
         seats = stands.seats;
@@ -216,28 +243,33 @@ module _ (script : Script) (guided : GuidedRun) (probe place : ℕ) (below : pro
         display = stands.display;
         spent = stands.spent;
         probes = subst P (sym answered)
-            (probes-answer script guided.play.board.history guided.places guided.answers.items stands.probes probe place below at_place x at short asked asks (at_ratio guided.play.last.ratio script.setup) guided.play.last.reuse guided.play.last.frame.0 last.number
+            (probes-answer script guided.play.board.history guided.places guided.answers.items stands.probes probe place below at_place x at short asked asks
+            (at_ratio guided.play.last.ratio script.setup) guided.play.last.reuse guided.play.last.frame.0 last.number
             (ap (λ (n : ℕ). at_ratio n script.setup) last.scaling) last.showing);
       } in
       let plays : next.play ≡ record guided.play { last = mid.play.last } = play_is ∙ ap (λ (r : GuidedRun). r.play) others in
       let seats : next.seats ≡ guided.seats = seats_are ∙ ap (λ (r : GuidedRun). r.seats) others in
       let its_place : next.place ≡ guided.place = place_is ∙ ap (λ (r : GuidedRun). r.place) others in
-      let its_places : next.places ≡ slice_set guided.places probe (place + 1) = places_are ∙ ap (λ (r : GuidedRun). slice_set r.places probe (place + 1)) others in
+      let its_places : next.places ≡ slice_set guided.places probe (place + 1) =
+      places_are ∙ ap (λ (r : GuidedRun). slice_set r.places probe (place + 1)) others in
       let same : next ≡ then = λ i. record { play = plays i; seats = seats i; place = its_place i; places = its_places i; answers = answers_are i } in
       subst (RunStands script) (sym same) stands_then
 
 -- each probe has its answers
-pub has_answers : (script : Script) (guided : GuidedRun) (probe : ℕ) → RunStands script guided → probe < length guided.places → probe < length guided.answers.items
+pub has_answers : (script : Script) (guided : GuidedRun) (probe : ℕ) → RunStands script guided → probe < length guided.places
+    → probe < length guided.answers.items
 has_answers script guided probe stands below = let many = stands.probes.count in let as_many = stands.probes.as_many in omega (arith, below, many, as_many)
 
 -- a probe's place is within the script
-pub place_within : (script : Script) (guided : GuidedRun) (probe place : ℕ) → RunStands script guided → probe < length guided.places → slice_get guided.places probe ≡ Some place → place ≤ length script.lines
+pub place_within : (script : Script) (guided : GuidedRun) (probe place : ℕ) → RunStands script guided → probe < length guided.places
+    → slice_get guided.places probe ≡ Some place → place ≤ length script.lines
 place_within script guided probe place stands below at =
     let one : List ProbeAnswer = slice_index_or guided.answers.items probe [] in
     (stands.probes.each probe place one at (slice_get-get_or guided.answers.items probe [] (has_answers script guided probe stands below))).0
 
 -- one probe more is behind all lines
-pub behind_more : (script : Script) (probe : ℕ) (is_last : Bool) (old new : List ℕ) → is_last ≡ true → ProbeGoesOn script probe is_last old new → AreBehind script probe old → AreBehind script (probe + 1) new
+pub behind_more : (script : Script) (probe : ℕ) (is_last : Bool) (old new : List ℕ) → is_last ≡ true → ProbeGoesOn script probe is_last old new
+    → AreBehind script probe old → AreBehind script (probe + 1) new
 behind_more script probe is_last old new last go behind = λ n place below got. by n place below got (n == probe) refl
   where
     by : (n place : ℕ) → n < probe + 1 → slice_get new n ≡ Some place → (b : Bool) → (n == probe) ≡ b → place ≡ length script.lines
@@ -265,7 +297,8 @@ seat_found seats k a b below first at =
     let same : get_or seats k a ≡ b = cc in
     first ∙ same
 
-pub ended_more : (k : ℕ) (seats : List Seat) → HaveEnded k seats → ((seat : Seat) → slice_get seats k ≡ Some seat → seat.has_ended ≡ true) → HaveEnded (k + 1) seats
+pub ended_more : (k : ℕ) (seats : List Seat) → HaveEnded k seats → ((seat : Seat) → slice_get seats k ≡ Some seat → seat.has_ended ≡ true)
+    → HaveEnded (k + 1) seats
 ended_more k seats before here = λ j seat below at. by j seat below at (j == k) refl
   where
     by : (j : ℕ) (seat : Seat) → j < k + 1 → slice_get seats j ≡ Some seat → (b : Bool) → (j == k) ≡ b → seat.has_ended ≡ true
@@ -276,7 +309,8 @@ pub still_ended : (k : ℕ) (old new : List Seat) → GoesOn k old new → HaveE
 still_ended k old new on before = λ j seat below at. before j seat below (sym (on.others j (λ same. omega (arith, below, same))) ∙ at)
 
 pub must_end : (script : Script) (guided : GuidedRun) (k count : ℕ) → k < length guided.seats.items → RunStands script guided → length script.lines + 1 ≤ count
-    → ((seat : Seat) → slice_get guided.seats.items k ≡ Some seat → seat.has_ended ≡ false → count ≤ seat.place) → (seat : Seat) → slice_get guided.seats.items k ≡ Some seat → seat.has_ended ≡ true
+    → ((seat : Seat) → slice_get guided.seats.items k ≡ Some seat → seat.has_ended ≡ false → count ≤ seat.place) → (seat : Seat)
+    → slice_get guided.seats.items k ≡ Some seat → seat.has_ended ≡ true
 must_end script guided k count below stands over late seat at = by seat.has_ended refl
   where
     by : (b : Bool) → seat.has_ended ≡ b → seat.has_ended ≡ true

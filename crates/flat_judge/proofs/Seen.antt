@@ -1,5 +1,6 @@
 -- The frames that a probe has seen, among those that are named for it.
-use Rattle.std.proofs.Common.{◌≡◌, ℕ, zero, suc, ◌+◌, ◌<◌, ◌≤◌, ◌&&◌, nat_le, Bool, true, false, cond, List, [], ◌∷◌, ◌++◌, length, append_assoc, append-nil, length-append, refl, sym, ap, ◌∙◌, subst, arith, Option, Some, None, slice_get}
+use Rattle.std.proofs.Common.{◌≡◌, ℕ, zero, suc, ◌+◌, ◌<◌, ◌≤◌, ◌&&◌, nat_le, Bool, true, false, cond, List, [], ◌∷◌, ◌++◌, length, append_assoc, append-nil}
+use Rattle.std.proofs.Common.{length-append, refl, sym, ap, ◌∙◌, subst, arith, Option, Some, None, slice_get}
 use Rattle.std.specs.List.{list_all}
 use Rattle.std.proofs.lemmas.Bool.{and_parts, and_from}
 use Rattle.std.proofs.lemmas.Bool.Decides.{nat_tests}
@@ -47,7 +48,8 @@ pub seen-before : (from to : ℕ) (hints seen : List ℕ) → to ≤ from → Ha
 seen-before from to hints seen less has = record { later = has.later; is = has.is; ahead = ahead-less from to has.later less has.ahead }
 
 -- a line is answered by the frame that is named for it
-pub seen-answer : (frame : ℕ) (hints seen : List ℕ) → is_reached (slice_get hints (length seen)) frame ≡ true → length seen < length hints → HasSeen frame hints seen → HasSeen frame hints (seen ++ frame ∷ [])
+pub seen-answer : (frame : ℕ) (hints seen : List ℕ) → is_reached (slice_get hints (length seen)) frame ≡ true → length seen < length hints
+    → HasSeen frame hints seen → HasSeen frame hints (seen ++ frame ∷ [])
 seen-answer frame hints seen reached more has = by has.later has.is has.ahead
   where
     by : (later : List ℕ) → hints ≡ seen ++ later → list_all (nat_le frame) later ≡ true → HasSeen frame hints (seen ++ frame ∷ [])
@@ -61,7 +63,8 @@ seen-answer frame hints seen reached more has = by has.later has.is has.ahead
         record { later = later; is = is ∙ ap (λ (n : ℕ). seen ++ n ∷ later) same ∙ sym (append_assoc seen (frame ∷ []) later); ahead = parts.1 }
 
 -- a line waits for a later frame, and so do those behind it
-pub seen-waits : (frame : ℕ) (hints seen : List ℕ) → never_fall_from 0 hints ≡ true → is_reached (slice_get hints (length seen)) frame ≡ false → HasSeen frame hints seen → HasSeen (suc frame) hints seen
+pub seen-waits : (frame : ℕ) (hints seen : List ℕ) → never_fall_from 0 hints ≡ true → is_reached (slice_get hints (length seen)) frame ≡ false
+    → HasSeen frame hints seen → HasSeen (suc frame) hints seen
 seen-waits frame hints seen rise waits has = by has.later has.is
   where
     by : (later : List ℕ) → hints ≡ seen ++ later → HasSeen (suc frame) hints seen
@@ -72,7 +75,12 @@ seen-waits frame hints seen rise waits has = by has.later has.is
         let here : nat_le (suc frame) x ≡ true = grind (arith, nat_tests) in
         let low : suc frame ≤ x = grind (arith, nat_tests) in
         let rest : never_fall_from x later ≡ true = rise-behind 0 seen x later (ap (never_fall_from 0) (sym is) ∙ rise) in
-        record { later = x ∷ later; is = is; ahead = and_from (nat_le (suc frame) x) (list_all (nat_le (suc frame)) later) here (ahead-less x (suc frame) later low (rise-ahead x later rest)) }
+        record {
+          later = x ∷ later;
+          is = is;
+          ahead = and_from (nat_le (suc frame) x) (list_all (nat_le (suc frame)) later) here
+              (ahead-less x (suc frame) later low (rise-ahead x later rest));
+        }
 
 -- no line is left
 pub seen-whole : (from to : ℕ) (hints seen : List ℕ) → length hints ≤ length seen → HasSeen from hints seen → HasSeen to hints seen
@@ -80,7 +88,8 @@ seen-whole from to hints seen few has = by has.later has.is
   where
     by : (later : List ℕ) → hints ≡ seen ++ later → HasSeen to hints seen
     by [] is = record { later = []; is = is; ahead = refl }
-    by (x ∷ later) is = absurd (let many : length hints ≡ length seen + length (x ∷ later) = ap length is ∙ length-append seen (x ∷ later) in omega (arith, many, few))
+    by (x ∷ later) is = absurd (let many : length hints ≡ length seen + length (x ∷ later) = ap length is ∙ length-append seen (x ∷ later) in
+        omega (arith, many, few))
 
 -- no frame is left
 pub seen-end : (frames : ℕ) (hints seen : List ℕ) → list_all (λ frame. nat_le frame frames) hints ≡ true → HasSeen (suc frames) hints seen → hints ≡ seen
@@ -90,7 +99,8 @@ seen-end frames hints seen within has = by has.later has.is has.ahead
     by [] is ahead = is ∙ append-nil seen
     by (x ∷ later) is ahead =
         let above = (and_parts (nat_le (suc frames) x) (list_all (nat_le (suc frames)) later) ahead).0 in
-        let both : (list_all (λ frame. nat_le frame frames) seen && list_all (λ frame. nat_le frame frames) (x ∷ later)) ≡ true = sym (list_all-append (λ frame. nat_le frame frames) seen (x ∷ later)) ∙ ap (list_all (λ frame. nat_le frame frames)) (sym is) ∙ within in
+        let both : (list_all (λ frame. nat_le frame frames) seen && list_all (λ frame. nat_le frame frames) (x ∷ later)) ≡ true =
+        sym (list_all-append (λ frame. nat_le frame frames) seen (x ∷ later)) ∙ ap (list_all (λ frame. nat_le frame frames)) (sym is) ∙ within in
         let behind = (and_parts (list_all (λ frame. nat_le frame frames) seen) (list_all (λ frame. nat_le frame frames) (x ∷ later)) both).1 in
         let below = (and_parts (nat_le x frames) (list_all (λ frame. nat_le frame frames) later) behind).0 in
         absurd (let wrong : x < x = grind (arith, nat_tests) in omega (arith, wrong))

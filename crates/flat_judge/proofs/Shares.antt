@@ -1,5 +1,6 @@
 -- What the lines of all probes saw, sorted by probe.
-use Rattle.std.proofs.Common.{◌≡◌, ◌≢◌, ℕ, zero, suc, ◌+◌, ◌-◌, ◌<◌, ◌≤◌, ◌||◌, ◌&&◌, ◌==◌, nat_le, Bool, true, false, cond, List, [], ◌∷◌, ◌++◌, length, map, filter, take, drop, append_assoc, append-nil, length-append, refl, sym, ap, ◌∙◌, subst, arith, Some, slice_get}
+use Rattle.std.proofs.Common.{◌≡◌, ◌≢◌, ℕ, zero, suc, ◌+◌, ◌-◌, ◌<◌, ◌≤◌, ◌||◌, ◌&&◌, ◌==◌, nat_le, Bool, true, false, cond, List, [], ◌∷◌, ◌++◌, length, map}
+use Rattle.std.proofs.Common.{filter, take, drop, append_assoc, append-nil, length-append, refl, sym, ap, ◌∙◌, subst, arith, Some, slice_get}
 use Rattle.std.specs.List.{flat_map, list_all, list_any, zip, range_with_len}
 use Rattle.std.proofs.lemmas.Bool.{and_parts, and_from, eq-eqb, eqb-true}
 use Rattle.std.proofs.lemmas.Bool.Decides.{nat_tests}
@@ -18,7 +19,8 @@ none-append : {X : Type 0} (p : X → Bool) (xs ys : List X) → list_any p xs �
 none-append p [] ys first later = later
 none-append p (x ∷ xs) ys first later = by (p x) first (none-append p xs ys)
   where
-    by : (b : Bool) → (b || list_any p xs) ≡ false → (list_any p xs ≡ false → list_any p ys ≡ false → list_any p (xs ++ ys) ≡ false) → (b || list_any p (xs ++ ys)) ≡ false
+    by : (b : Bool) → (b || list_any p xs) ≡ false → (list_any p xs ≡ false → list_any p ys ≡ false → list_any p (xs ++ ys) ≡ false)
+        → (b || list_any p (xs ++ ys)) ≡ false
     by true first rest = absurd (let wrong : true ≡ false = first in cc)
     by false first rest = rest first later
 
@@ -40,7 +42,8 @@ module _ {X : Type 0} (is : ℕ → X → Bool) where
   select-none n (x ∷ lines) [] none = refl
   select-none n (x ∷ lines) (f ∷ seen) none = by (is n x) none (select-none n lines seen)
     where
-      by : (b : Bool) → (b || list_any (is n) lines) ≡ false → (list_any (is n) lines ≡ false → select n (zip lines seen) ≡ []) → cond b (f ∷ []) [] ++ select n (zip lines seen) ≡ []
+      by : (b : Bool) → (b || list_any (is n) lines) ≡ false → (list_any (is n) lines ≡ false → select n (zip lines seen) ≡ [])
+          → cond b (f ∷ []) [] ++ select n (zip lines seen) ≡ []
       by true none rest = absurd (let wrong : true ≡ false = none in cc)
       by false none rest = rest none
 
@@ -57,7 +60,8 @@ module _ {X : Type 0} (is : ℕ → X → Bool) where
   all-own n [] = refl
   all-own n (x ∷ lines) = by (is n x) refl (all-own n lines)
     where
-      by : (b : Bool) → is n x ≡ b → list_all (is n) (filter (is n) lines) ≡ true → list_all (is n) (cond b (x ∷ filter (is n) lines) (filter (is n) lines)) ≡ true
+      by : (b : Bool) → is n x ≡ b → list_all (is n) (filter (is n) lines) ≡ true
+          → list_all (is n) (cond b (x ∷ filter (is n) lines) (filter (is n) lines)) ≡ true
       by true here rest = and_from (is n x) (list_all (is n) (filter (is n) lines)) here rest
       by false here rest = rest
 
@@ -71,14 +75,16 @@ module _ {X : Type 0} (is : ℕ → X → Bool) where
         not-both true too here = absurd (other (one n k x too here))
         not-both false other_one here = refl
 
-        by : (b : Bool) → is k x ≡ b → list_any (is n) (filter (is k) lines) ≡ false → list_any (is n) (cond b (x ∷ filter (is k) lines) (filter (is k) lines)) ≡ false
+        by : (b : Bool) → is k x ≡ b → list_any (is n) (filter (is k) lines) ≡ false
+            → list_any (is n) (cond b (x ∷ filter (is k) lines) (filter (is k) lines)) ≡ false
         by true here rest = let apart : is n x ≡ false = not-both (is n x) refl here in rw apart rest
         by false here rest = rest
 
     none-later : (n k count : ℕ) (lines : List X) → n < k → list_any (is n) (all_of k count lines) ≡ false
     none-later n k zero lines before = refl
     none-later n k (suc count) lines before =
-        none-append (is n) (filter (is k) lines) (all_of (k + 1) count lines) (none-own n k lines (λ same. omega (arith, same, before))) (none-later n (k + 1) count lines (omega (arith, before)))
+        none-append (is n) (filter (is k) lines) (all_of (k + 1) count lines) (none-own n k lines (λ same. omega (arith, same, before)))
+        (none-later n (k + 1) count lines (omega (arith, before)))
 
     module _ (k count : ℕ) (lines : List X) (seen : List ℕ) (many : length seen ≡ length (all_of k (suc count) lines)) where
       abbrev few : ℕ
@@ -94,10 +100,13 @@ module _ {X : Type 0} (is : ℕ → X → Bool) where
       rest-many = let all = both in let rest : length (drop few seen) ≡ length seen - few = grind (arith, common_steps) in omega (arith, all, rest)
 
       cut : zip (all_of k (suc count) lines) seen ≡ zip (filter (is k) lines) (take few seen) ++ zip (all_of (k + 1) count lines) (drop few seen)
-      cut = ap (zip (all_of k (suc count) lines)) (sym (take-append-drop few seen)) ∙ zip-behind (filter (is k) lines) (all_of (k + 1) count lines) (take few seen) (drop few seen) first-many
+      cut = ap (zip (all_of k (suc count) lines)) (sym (take-append-drop few seen))
+          ∙ zip-behind (filter (is k) lines) (all_of (k + 1) count lines) (take few seen) (drop few seen) first-many
 
-      pub select-cut : (n : ℕ) → select n (zip (all_of k (suc count) lines) seen) ≡ select n (zip (filter (is k) lines) (take few seen)) ++ select n (zip (all_of (k + 1) count lines) (drop few seen))
-      select-cut n = ap (select n) cut ∙ flat_map-append (λ (pair : X × ℕ). cond (is n pair.0) (pair.1 ∷ []) []) (zip (filter (is k) lines) (take few seen)) (zip (all_of (k + 1) count lines) (drop few seen))
+      pub select-cut : (n : ℕ) → select n (zip (all_of k (suc count) lines) seen) ≡ select n (zip (filter (is k) lines) (take few seen))
+          ++ select n (zip (all_of (k + 1) count lines) (drop few seen))
+      select-cut n = ap (select n) cut ∙ flat_map-append (λ (pair : X × ℕ). cond (is n pair.0) (pair.1 ∷ []) []) (zip (filter (is k) lines) (take few seen))
+          (zip (all_of (k + 1) count lines) (drop few seen))
 
       pub select-here : select k (zip (all_of k (suc count) lines) seen) ≡ take few seen
       select-here =
@@ -107,31 +116,38 @@ module _ {X : Type 0} (is : ℕ → X → Bool) where
 
       pub select-later : (n : ℕ) → n ≢ k → select n (zip (all_of k (suc count) lines) seen) ≡ select n (zip (all_of (k + 1) count lines) (drop few seen))
       select-later n other =
-          select-cut n ∙ ap (λ (s : List ℕ). s ++ select n (zip (all_of (k + 1) count lines) (drop few seen))) (select-none n (filter (is k) lines) (take few seen) (none-own n k lines other))
+          select-cut n ∙ ap (λ (s : List ℕ). s ++ select n (zip (all_of (k + 1) count lines) (drop few seen)))
+          (select-none n (filter (is k) lines) (take few seen) (none-own n k lines other))
 
       pub select-many : length (select k (zip (all_of k (suc count) lines) seen)) ≡ length (filter (is k) lines)
       select-many = ap length select-here ∙ first-many
 
     -- what all lines saw is what those of each saw, one after the other
-    pub selected : (k count : ℕ) (lines : List X) (seen : List ℕ) → length seen ≡ length (all_of k count lines) → flat_map (λ n. select n (zip (all_of k count lines) seen)) (range_with_len k count) ≡ seen
+    pub selected : (k count : ℕ) (lines : List X) (seen : List ℕ) → length seen ≡ length (all_of k count lines)
+        → flat_map (λ n. select n (zip (all_of k count lines) seen)) (range_with_len k count) ≡ seen
     selected k zero lines [] many = refl
     selected k zero lines (f ∷ seen) many = absurd (omega (arith, many))
     selected k (suc count) lines seen many =
         let m = length (filter (is k) lines) in
         let here = select-here k count lines seen many in
-        let later = agree (λ n. select n (zip (all_of k (suc count) lines) seen)) (λ n. select n (zip (all_of (k + 1) count lines) (drop m seen))) (k + 1) count (λ n above. select-later k count lines seen many n (λ same. omega (arith, same, above))) in
+        let later = agree (λ n. select n (zip (all_of k (suc count) lines) seen)) (λ n. select n (zip (all_of (k + 1) count lines) (drop m seen))) (k + 1) count
+        (λ n above. select-later k count lines seen many n (λ same. omega (arith, same, above))) in
         let rest = selected (k + 1) count lines (drop m seen) (rest-many k count lines seen many) in
         (λ i. here i ++ (later ∙ rest) i) ∙ take-append-drop m seen
 
     -- and each saw as many as it has lines
-    pub as-many : (k count : ℕ) (lines : List X) (seen : List ℕ) → length seen ≡ length (all_of k count lines) → (n : ℕ) → k ≤ n → n < k + count → length (select n (zip (all_of k count lines) seen)) ≡ length (filter (is n) lines)
+    pub as-many : (k count : ℕ) (lines : List X) (seen : List ℕ) → length seen ≡ length (all_of k count lines) → (n : ℕ) → k ≤ n → n < k + count
+        → length (select n (zip (all_of k count lines) seen)) ≡ length (filter (is n) lines)
     as-many k zero lines seen many n low high = absurd (omega (arith, low, high))
-    as-many k (suc count) lines seen many n low high = by (n == k) refl (as-many (k + 1) count lines (drop (length (filter (is k) lines)) seen) (rest-many k count lines seen many) n)
+    as-many k (suc count) lines seen many n low high = by (n == k) refl
+        (as-many (k + 1) count lines (drop (length (filter (is k) lines)) seen) (rest-many k count lines seen many) n)
       where
         m : ℕ
         m = length (filter (is k) lines)
 
-        by : (b : Bool) → (n == k) ≡ b → (k + 1 ≤ n → n < k + 1 + count → length (select n (zip (all_of (k + 1) count lines) (drop m seen))) ≡ length (filter (is n) lines)) → length (select n (zip (all_of k (suc count) lines) seen)) ≡ length (filter (is n) lines)
+        by : (b : Bool) → (n == k) ≡ b → (k + 1 ≤ n → n < k + 1 + count
+            → length (select n (zip (all_of (k + 1) count lines) (drop m seen))) ≡ length (filter (is n) lines))
+            → length (select n (zip (all_of k (suc count) lines) seen)) ≡ length (filter (is n) lines)
         by true same rest =
             let here : k ≡ n = sym (eqb-true n k same) in
             let P : ℕ → Type 0 = λ j. length (select j (zip (all_of k (suc count) lines) seen)) ≡ length (filter (is j) lines) in

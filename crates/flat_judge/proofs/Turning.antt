@@ -12,20 +12,24 @@ use Rattle.flat_judge.specs.Verdicts.{NoRun}
 
 module _ (script : Script) (text : List ℕ) where
   -- the text has the lines
-  pub held : {So : Along → Type 0} (frame from : ℕ) (along : Along) (b : Bool) → b ≡ true → Stays script text frame from So along b → So along × (from ≤ along.at)
+  pub held : {So : Along → Type 0} (frame from : ℕ) (along : Along) (b : Bool) → b ≡ true → Stays script text frame from So along b
+      → So along × (from ≤ along.at)
   held frame from along true is (Stays.stays so upto) = (so, upto)
   held frame from along false is (Stays.parts none losses) = absurd (true≢false (sym is))
 
   -- it hasn't
-  pub parted : {So So' : Along → Type 0} (n m from from' : ℕ) (along : Along) (b : Bool) → b ≡ false → ((lost : AreLosses n along.lost) → AreLosses m along.lost) → Stays script text n from So along b → Stays script text m from' So' along false
+  pub parted : {So So' : Along → Type 0} (n m from from' : ℕ) (along : Along) (b : Bool) → b ≡ false
+      → ((lost : AreLosses n along.lost) → AreLosses m along.lost) → Stays script text n from So along b → Stays script text m from' So' along false
   parted n m from from' along false is later (Stays.parts none losses) = Stays.parts none (later losses)
   parted n m from from' along true is later (Stays.stays so upto) = absurd (true≢false is)
 
-  from-earlier : {So : Along → Type 0} (frame from from' : ℕ) (along : Along) (b : Bool) → from' ≤ from → Stays script text frame from So along b → Stays script text frame from' So along b
+  from-earlier : {So : Along → Type 0} (frame from from' : ℕ) (along : Along) (b : Bool) → from' ≤ from → Stays script text frame from So along b
+      → Stays script text frame from' So along b
   from-earlier frame from from' along true less (Stays.stays so upto) = Stays.stays so (omega (arith, less, upto))
   from-earlier frame from from' along false less (Stays.parts none losses) = Stays.parts none losses
 
-  pub result-earlier : {E : Type 0} (So : Along → Type 0) (frame from from' : ℕ) (along : Along) (r : Result Bool E) → from' ≤ from → IfOk r (Stays script text frame from So along) → IfOk r (Stays script text frame from' So along)
+  pub result-earlier : {E : Type 0} (So : Along → Type 0) (frame from from' : ℕ) (along : Along) (r : Result Bool E) → from' ≤ from
+      → IfOk r (Stays script text frame from So along) → IfOk r (Stays script text frame from' So along)
   result-earlier So frame from from' along (Ok b) less stays = from-earlier frame from from' along b less stays
   result-earlier So frame from from' along (Err e) less stays = tt
 
@@ -33,7 +37,8 @@ module _ (script : Script) (text : List ℕ) where
 
 module _ (script : Script) (text : List ℕ) (old new : Followed) where
   -- no entry comes next
-  pub turn-stops : (b : Bool) → b ≡ false → IsAlong script text old.run.play.board.history old.along → MakesNext script text old.run.play.board.history new.run.play.board.history old.along b → new.along ≡ old.along → Follows script text old new false
+  pub turn-stops : (b : Bool) → b ≡ false → IsAlong script text old.run.play.board.history old.along
+      → MakesNext script text old.run.play.board.history new.run.play.board.history old.along b → new.along ≡ old.along → Follows script text old new false
   turn-stops false is along (MakesNext.stops same only) along_is =
       let H : List Entry → Along → Type 0 = HasStopped script text in
       let H1 : List Entry → Type 0 = λ h. H h old.along in
@@ -51,11 +56,13 @@ module _ (script : Script) (text : List ℕ) (old new : Followed) where
   tells-from was history b same tells = let T : Along → Type 0 = λ a. Tells a new.along history b in subst T same tells
 
   -- an entry whose lines the text hasn't
-  pub turn-parts : (made b : Bool) → made ≡ true → b ≡ false → (after : List Entry) → MakesNext script text old.run.play.board.history after old.along made → Tells old.along new.along after b → new.run.play.board.history ≡ after → Follows script text old new false
+  pub turn-parts : (made b : Bool) → made ≡ true → b ≡ false → (after : List Entry) → MakesNext script text old.run.play.board.history after old.along made
+      → Tells old.along new.along after b → new.run.play.board.history ≡ after → Follows script text old new false
   turn-parts true false made is after (MakesNext.makes entry grown part) tells same =
       by (tells old.run.play.board.history entry grown part) (ap frames (grown))
     where
-      by : Stays script text (frames (old.run.play.board.history ▹ entry)) (old.along.at + 1) (IsAlong script text (old.run.play.board.history ▹ entry)) new.along false → frames after ≡ frames (old.run.play.board.history ▹ entry) → Follows script text old new false
+      by : Stays script text (frames (old.run.play.board.history ▹ entry)) (old.along.at + 1) (IsAlong script text (old.run.play.board.history ▹ entry))
+          new.along false → frames after ≡ frames (old.run.play.board.history ▹ entry) → Follows script text old new false
       by (Stays.parts none losses) many =
           let A : ℕ → Type 0 = λ n. AreLosses n new.along.lost in
           Follows.stops (record { only = λ read run report. absurd (none read run report); losses = subst A (sym (ap frames same ∙ many)) losses })
@@ -63,10 +70,12 @@ module _ (script : Script) (text : List ℕ) (old new : Followed) where
   turn-parts false b made is after made_it tells same = absurd (true≢false (sym made))
 
   -- an entry whose lines it has
-  pub turn-goes : (made b : Bool) → made ≡ true → b ≡ true → (after : List Entry) → MakesNext script text old.run.play.board.history after old.along made → Tells old.along new.along after b → new.run.play.board.history ≡ after → Follows script text old new true
+  pub turn-goes : (made b : Bool) → made ≡ true → b ≡ true → (after : List Entry) → MakesNext script text old.run.play.board.history after old.along made
+      → Tells old.along new.along after b → new.run.play.board.history ≡ after → Follows script text old new true
   turn-goes true true made is after (MakesNext.makes entry grown part) tells same = by (tells old.run.play.board.history entry grown part)
     where
-      by : Stays script text (frames (old.run.play.board.history ▹ entry)) (old.along.at + 1) (IsAlong script text (old.run.play.board.history ▹ entry)) new.along true → Follows script text old new true
+      by : Stays script text (frames (old.run.play.board.history ▹ entry)) (old.along.at + 1) (IsAlong script text (old.run.play.board.history ▹ entry))
+          new.along true → Follows script text old new true
       by (Stays.stays along upto) =
           let A : List Entry → Type 0 = λ h. IsAlong script text h new.along in
           Follows.goes (subst A (sym (same ∙ grown)) along) (omega (arith, upto))
@@ -75,10 +84,12 @@ module _ (script : Script) (text : List ℕ) (old new : Followed) where
 
 -- ---- turn after turn
 
-pub follows-true : (script : Script) (text : List ℕ) (old new : Followed) (b : Bool) → b ≡ true → Follows script text old new b → IsAlong script text new.run.play.board.history new.along × (old.along.at < new.along.at)
+pub follows-true : (script : Script) (text : List ℕ) (old new : Followed) (b : Bool) → b ≡ true → Follows script text old new b
+    → IsAlong script text new.run.play.board.history new.along × (old.along.at < new.along.at)
 follows-true script text old new true is (Follows.goes along less) = (along, less)
 follows-true script text old new false is (Follows.stops stopped) = absurd (true≢false (sym is))
 
-pub follows-false : (script : Script) (text : List ℕ) (old new : Followed) (b : Bool) → b ≡ false → Follows script text old new b → HasStopped script text new.run.play.board.history new.along
+pub follows-false : (script : Script) (text : List ℕ) (old new : Followed) (b : Bool) → b ≡ false → Follows script text old new b
+    → HasStopped script text new.run.play.board.history new.along
 follows-false script text old new false is (Follows.stops stopped) = stopped
 follows-false script text old new true is (Follows.goes along less) = absurd (true≢false is)

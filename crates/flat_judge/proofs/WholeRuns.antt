@@ -1,5 +1,6 @@
 -- A run that was made by a guide to its end, and its report.
-use Rattle.std.proofs.Common.{◌≡◌, ℕ, zero, suc, ◌+◌, ◌<◌, ◌≤◌, ◌^◌, nat_lt, true, false, List, [], ◌∷◌, length, map, reverse, drop, get_or, refl, sym, ap, ◌∙◌, subst, arith, Some, slice_get}
+use Rattle.std.proofs.Common.{◌≡◌, ℕ, zero, suc, ◌+◌, ◌<◌, ◌≤◌, ◌^◌, nat_lt, true, false, List, [], ◌∷◌, length, map, reverse, drop, get_or, refl, sym, ap, ◌∙◌}
+use Rattle.std.proofs.Common.{subst, arith, Some, slice_get}
 use Rattle.std.specs.List.{list_all}
 use Rattle.std.proofs.lemmas.Option.{slice_get-get_or}
 use Rattle.std.proofs.lemmas.Grind.{common_steps}
@@ -63,7 +64,8 @@ line_asks setup (Probe p) (body.Display said) played = absurd (let wrong : false
 line_asks setup Display text played = refl
 line_asks setup (Session s) text played = refl
 
-lines_ask : (setup : Setup) (lines : List ScriptLine) → list_all (λ (next : ScriptLine). is_played setup next.actor next.body) lines ≡ true → list_all (λ (line : ScriptLine). is_asking line.actor line.body) lines ≡ true
+lines_ask : (setup : Setup) (lines : List ScriptLine) → list_all (λ (next : ScriptLine). is_played setup next.actor next.body) lines ≡ true
+    → list_all (λ (line : ScriptLine). is_asking line.actor line.body) lines ≡ true
 lines_ask setup [] played = refl
 lines_ask setup (line ∷ lines) played =
     let here = line_asks setup line.actor line.body (and-left (is_played setup line.actor line.body) _ played) in
@@ -75,7 +77,8 @@ module _ (script : Script) (playable : is_playable script ≡ true) (guided : Gu
   history = guided.play.board.history
 
   -- each session has read all its lines
-  has_read : (k : ℕ) → k < script.setup.sessions → IsReading script.setup script.count (session_lines (record { 0 = k + 1 }) script.lines) (own (record { 0 = k + 1 }) history)
+  has_read : (k : ℕ) → k < script.setup.sessions → IsReading script.setup script.count (session_lines (record { 0 = k + 1 }) script.lines)
+      (own (record { 0 = k + 1 }) history)
   has_read k below =
       let seats = whole.stands.seats in
       let many = seats.count in
@@ -101,7 +104,8 @@ module _ (script : Script) (playable : is_playable script ≡ true) (guided : Gu
       (λ n one got. let below = within guided.answers.items n one got in let a = probes.count in let b = probes.as_many in omega (arith, below, a, b))
 
   -- the run, with losses that fit it
-  abbrev pub run : FramesAreSeen → Legal guided.play.board.setup history → (lost : List Lost) → is_loss history lost ≡ true → list_all (λ (one : Lost). is_display_number one.display) lost ≡ true → Run script
+  abbrev pub run : FramesAreSeen → Legal guided.play.board.setup history → (lost : List Lost) → is_loss history lost ≡ true
+      → list_all (λ (one : Lost). is_display_number one.display) lost ≡ true → Run script
   run seen legal lost loss numbered = record {
     history = history;
     lost = lost;
@@ -116,16 +120,21 @@ module _ (script : Script) (playable : is_playable script ≡ true) (guided : Gu
   }
 
   -- what it hands to the report is written as its report
-  pub handed : HandedIsReport → (texts : FrameTexts) → kept.Texts texts ≡ guided.play.kept → (lost : List Lost) (entries : List Entry) (sent : List Post) (probes : List (List ProbeAnswer)) → probes ≡ guided.answers.items → history_of entries ≡ history
-      → sent ≡ posts guided.play.board.setup history → handed_report script entries sent texts.texts.items lost guided.play.answers probes ≡ report script history lost (frames_seen guided.answers.items)
+  pub handed : HandedIsReport → (texts : FrameTexts) → kept.Texts texts ≡ guided.play.kept
+      → (lost : List Lost) (entries : List Entry) (sent : List Post) (probes : List (List ProbeAnswer)) → probes ≡ guided.answers.items
+      → history_of entries ≡ history
+      → sent ≡ posts guided.play.board.setup history → handed_report script entries sent texts.texts.items lost guided.play.answers probes
+      ≡ report script history lost (frames_seen guided.answers.items)
   handed law texts texts_are lost entries sent probes probes_are entries_are sent_are =
       let show = whole.stands.show in
       let K : Kept → Type 0 = λ k. Keeps script k (finished script.setup history) in
       let A : List Entry → Type 0 = λ h. ProbesAnswered script h guided.answers.items in
       let written : AreTexts script (finished script.setup history) texts = subst K (sym texts_are) show.keeps in
       ap (λ (ps : List (List ProbeAnswer)). handed_report script entries sent texts.texts.items lost guided.play.answers ps) probes_are
-      ∙ law script entries sent texts.texts.items lost guided.play.answers guided.answers.items (subst A (sym entries_are) answered) (lines_ask script.setup script.lines (played_all script playable))
-      (sent_are ∙ ap (λ (st : Setup). posts st history) show.setup ∙ ap (posts script.setup) (sym entries_are)) (written.texts ∙ ap (λ (h : List Entry). map (frame_text script) (finished script.setup h)) (sym entries_are))
+      ∙ law script entries sent texts.texts.items lost guided.play.answers guided.answers.items (subst A (sym entries_are) answered)
+      (lines_ask script.setup script.lines (played_all script playable))
+      (sent_are ∙ ap (λ (st : Setup). posts st history) show.setup ∙ ap (posts script.setup) (sym entries_are))
+      (written.texts ∙ ap (λ (h : List Entry). map (frame_text script) (finished script.setup h)) (sym entries_are))
       (show.answers.answering ∙ ap (answers_of script.setup) (sym entries_are))
       ∙ ap (λ (h : List Entry). report script h lost (frames_seen guided.answers.items)) entries_are
 

@@ -156,7 +156,8 @@ item-session at (Some p) item is = by_test (has_no_point (visible_rect at p.w p.
 pub hit-session : (x y : ℤ) (at : Placed) (hit : Hit) → hit_on x y at ≡ Some hit → at.session ≡ hit.session
 hit-session x y at hit is = by_region (find (λ (region : HitRegion). has_point (region_rect at region.area) x y) at.hits) is
   where
-    by_region : (o : Option HitRegion) → option_map (λ (region : HitRegion). let h : Hit = record { session = at.session; interaction = region.interaction } in h) o ≡ Some hit → at.session ≡ hit.session
+    by_region : (o : Option HitRegion) → option_map (λ (region : HitRegion). let h : Hit = record { session = at.session; interaction = region.interaction } in
+        h) o ≡ Some hit → at.session ≡ hit.session
     by_region None none = absurd (cc)
     by_region (Some region) same = cc
 
@@ -195,7 +196,8 @@ absent setup h s none =
     record {
       views = views-avoid s.0 None (display_rect at) (display_space at) (join at states) avoids;
       items = all-given (IsOther s.0) (IsOtherItem s.0) node_item
-          (λ n item other is. λ same. other (ap (λ (t : SessionNo). t.0) (item-session n (painting_of n.opacity n.content) item is) ∙ same)) (placed_nodes at states) nodes;
+          (λ n item other is. λ same. other (ap (λ (t : SessionNo). t.0) (item-session n (painting_of n.opacity n.content) item is) ∙ same))
+          (placed_nodes at states) nodes;
       hits = λ x y. all-first (IsOtherHit s.0) (filter_map (hit_on (x *ℤ unit) (y *ℤ unit)) (reverse (placed_nodes at states)))
           (all-given (IsOther s.0) (IsOtherHit s.0) (hit_on (x *ℤ unit) (y *ℤ unit))
           (λ n hit other is. λ same. other (ap (λ (t : SessionNo). t.0) (hit-session (x *ℤ unit) (y *ℤ unit) n hit is) ∙ same))

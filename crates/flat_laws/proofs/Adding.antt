@@ -84,10 +84,12 @@ module _ (f : Event → ℕ) (other : IsOther f) where
       (flat-zero f (λ p. told_event setup p (layout_of p) before e) (λ p. answer-zero p _ _) (views_of setup s))
       (flat-zero f (λ p. told_event setup p (status_of p) before e) (λ p. answer-zero p _ _) (views_of setup s))
       (flat-zero f (λ p. flat_map (λ n. told_event setup p (child_of p n) before e) (up_to (length (viewport_uses p before))))
-      (λ p. flat-zero f (λ n. told_event setup p (child_of p n) before e) (λ n. answer-zero p _ _) (up_to (length (viewport_uses p before)))) (viewports_of setup s))
+      (λ p. flat-zero f (λ n. told_event setup p (child_of p n) before e) (λ n. answer-zero p _ _) (up_to (length (viewport_uses p before))))
+      (viewports_of setup s))
 
 -- an open session is sent all news
-pub sent-open : (setup : Setup) (before : List Entry) (e : Entry) (s : SessionNo) → is_closed s (before ▹ e) ≡ false → events_to setup before e s ≡ news_for setup before e s
+pub sent-open : (setup : Setup) (before : List Entry) (e : Entry) (s : SessionNo) → is_closed s (before ▹ e) ≡ false
+    → events_to setup before e s ≡ news_for setup before e s
 sent-open setup before e s opened = ap (λ b. cond b [] (news_for setup before e s)) opened
 
 -- ---- presented
@@ -131,9 +133,11 @@ presented-add-up setup (h ▹ e) legal s opened =
         ≡ sum_by presented_by (cond (is_finish e.kind) (at_finish setup h s) []) + sum_by presented_by (cond (is_begin e.kind) (at_begin setup h e s) [])
     count = ap (sum_by presented_by) (sent-open setup h e s opened) ∙ news-count presented_by presented-other setup h e s
 
-    by_finish : added_up setup presented_by s h ≡ taken setup (to_finished h) s → (b : Bool) → is_finish e.kind ≡ b → added_up setup presented_by s h + sum_by presented_by (events_to setup h e s) ≡ taken setup (cond b (to_begin h) (to_finished h)) s
+    by_finish : added_up setup presented_by s h ≡ taken setup (to_finished h) s → (b : Bool) → is_finish e.kind ≡ b
+        → added_up setup presented_by s h + sum_by presented_by (events_to setup h e s) ≡ taken setup (cond b (to_begin h) (to_finished h)) s
     by_finish before false is =
-        let none : sum_by presented_by (cond (is_finish e.kind) (at_finish setup h s) []) ≡ 0 = ap (λ b. sum_by presented_by (cond b (at_finish setup h s) [])) is in
+        let none : sum_by presented_by (cond (is_finish e.kind) (at_finish setup h s) []) ≡ 0 =
+        ap (λ b. sum_by presented_by (cond b (at_finish setup h s) [])) is in
         omega (arith, before, count, none, credits-part)
     by_finish before true is =
         let some : sum_by presented_by (cond (is_finish e.kind) (at_finish setup h s) []) ≡ frame_took setup h s =
@@ -168,7 +172,8 @@ tokens-kept setup before s =
 five-kept : (a b c d e : List Event) → kept a ≡ [] → kept b ≡ [] → kept c ≡ [] → kept e ≡ [] → kept (a ++ b ++ c ++ d ++ e) ≡ kept d
 five-kept a b c d e na nb nc ne =
     filter-append is_presented (a ++ b ++ c ++ d) e
-    ∙ ap (λ x. x ++ kept e) (filter-append is_presented (a ++ b ++ c) d ∙ ap (λ x. x ++ kept d) (filter-append is_presented (a ++ b) c ∙ ap (λ x. x ++ kept c) (filter-append is_presented a b)))
+    ∙ ap (λ x. x ++ kept e) (filter-append is_presented (a ++ b ++ c) d
+    ∙ ap (λ x. x ++ kept d) (filter-append is_presented (a ++ b) c ∙ ap (λ x. x ++ kept c) (filter-append is_presented a b)))
     ∙ (λ i. ((na i ++ nb i) ++ nc i) ++ kept d ++ ne i)
     ∙ append-nil (kept d)
 
@@ -181,7 +186,8 @@ took-kept : (b : Bool) (n : ℕ) → kept (cond b (event.FramePresented n ∷ []
 took-kept true n = refl
 took-kept false n = refl
 
-news-kept : (setup : Setup) (before : List Entry) (e : Entry) (s : SessionNo) → kept (news_for setup before e s) ≡ cond (is_finish e.kind) (presented_event (frame_took setup before s)) []
+news-kept : (setup : Setup) (before : List Entry) (e : Entry) (s : SessionNo)
+    → kept (news_for setup before e s) ≡ cond (is_finish e.kind) (presented_event (frame_took setup before s)) []
 news-kept setup before e s =
     five-kept
     (flat_map (λ p. told_event setup p (layout_of p) before e) (views_of setup s))
@@ -192,7 +198,8 @@ news-kept setup before e s =
     (flat-kept (λ p. told_event setup p (layout_of p) before e) (λ p. answer-kept p _ _) (views_of setup s))
     (flat-kept (λ p. told_event setup p (status_of p) before e) (λ p. answer-kept p _ _) (views_of setup s))
     (flat-kept (λ p. flat_map (λ n. told_event setup p (child_of p n) before e) (up_to (length (viewport_uses p before))))
-    (λ p. flat-kept (λ n. told_event setup p (child_of p n) before e) (λ n. answer-kept p _ _) (up_to (length (viewport_uses p before)))) (viewports_of setup s))
+    (λ p. flat-kept (λ n. told_event setup p (child_of p n) before e) (λ n. answer-kept p _ _) (up_to (length (viewport_uses p before))))
+    (viewports_of setup s))
     (credits-kept (is_begin e.kind) _ _)
     ∙ by_finish (is_finish e.kind)
   where
@@ -222,7 +229,8 @@ presented-once setup before e legal s opened =
 credited-other : IsOther credited_by
 credited-other = record { told = λ p get value. refl; back = λ p. refl }
 
-presented-uncredited : (b c : Bool) (n : ℕ) (rest : List Event) → sum_by credited_by rest ≡ 0 → sum_by credited_by (cond b (cond c (event.FramePresented n ∷ []) [] ++ rest) []) ≡ 0
+presented-uncredited : (b c : Bool) (n : ℕ) (rest : List Event) → sum_by credited_by rest ≡ 0
+    → sum_by credited_by (cond b (cond c (event.FramePresented n ∷ []) [] ++ rest) []) ≡ 0
 presented-uncredited true true n rest none = none
 presented-uncredited true false n rest none = none
 presented-uncredited false c n rest none = refl
@@ -231,7 +239,8 @@ presented-uncredited false c n rest none = refl
 abbrev most : ℕ → ℕ
 most n = cond (n == 0) 1 5
 
-made-and-left : CreditsAddUp → (setup : Setup) (h : List Entry) → Legal setup h → (s : SessionNo) → credits setup h s + length (presents s h) ≡ most (taken setup h s) + taken setup h s
+made-and-left : CreditsAddUp → (setup : Setup) (h : List Entry) → Legal setup h → (s : SessionNo)
+    → credits setup h s + length (presents s h) ≡ most (taken setup h s) + taken setup h s
 made-and-left law setup h legal s =
     let adds = law setup h legal s in
     let few = taken-made setup s h in
@@ -245,7 +254,8 @@ begin-publishes-none : (kind : Kind) (reply : Reply) (made : List Call) → is_b
 begin-publishes-none (Begin time) reply made is = refl
 begin-publishes-none _ reply made is = absurd (let wrong : false ≡ true = is in cc)
 
-gained : (t t' c c' m : ℕ) → t ≤ t' → c + m ≡ most t + t → c' + m ≡ most t' + t' → c + sum_by credited_by (cond (nat_lt t t') (event.Credits (c' - c) ∷ []) []) ≡ c'
+gained : (t t' c c' m : ℕ) → t ≤ t' → c + m ≡ most t + t → c' + m ≡ most t' + t'
+    → c + sum_by credited_by (cond (nat_lt t t') (event.Credits (c' - c) ∷ []) []) ≡ c'
 gained t t' c c' m rises was is = by_more (nat_lt t t') refl
   where
     most-more : most t ≤ most t'
@@ -279,7 +289,8 @@ credits-are-told law setup (h ▹ e) legal s opened =
     by_begin : credits setup h s + length (presents s h) ≡ 1 + added_up setup credited_by s h → (b : Bool) → is_begin e.kind ≡ b
         → credits setup (h ▹ e) s + length (presents s (h ▹ e)) ≡ 1 + (added_up setup credited_by s h + sum_by credited_by (events_to setup h e s))
     by_begin before false is =
-        let none : sum_by credited_by (cond (is_begin e.kind) (at_begin setup h e s) []) ≡ 0 = ap (λ b. sum_by credited_by (cond b (at_begin setup h e s) [])) is in
+        let none : sum_by credited_by (cond (is_begin e.kind) (at_begin setup h e s) []) ≡ 0 =
+        ap (λ b. sum_by credited_by (cond b (at_begin setup h e s) [])) is in
         let same : taken setup (h ▹ e) s ≡ taken setup h s = taken-quiet setup h e s is in
         let all : most (taken setup (h ▹ e) s) ≡ most (taken setup h s) = ap most same in
         let c : ℕ = credits setup (h ▹ e) s in
@@ -290,5 +301,6 @@ credits-are-told law setup (h ▹ e) legal s opened =
         let some : sum_by credited_by (cond (is_begin e.kind) (at_begin setup h e s) []) ≡ sum_by credited_by (at_begin setup h e s) =
         ap (λ b. sum_by credited_by (cond b (at_begin setup h e s) [])) is in
         let rises : taken setup h s ≤ taken setup (h ▹ e) s = omega arith in
-        let more = gained (taken setup h s) (taken setup (h ▹ e) s) (credits setup h s) (credits setup (h ▹ e) s) (length (presents s h)) rises was (omega (arith, now, few)) in
+        let more = gained (taken setup h s) (taken setup (h ▹ e) s) (credits setup h s) (credits setup (h ▹ e) s) (length (presents s h)) rises was
+        (omega (arith, now, few)) in
         omega (arith, before, count, some, presented-part, more, few)

@@ -21,10 +21,12 @@ use Rattle.flat_scene.specs.Trees.{first}
 use Rattle.flat_topology.specs.declared.Placed.{Placed}
 use Rattle.flat_topology.specs.Draw.{node_item, painting_of}
 use Rattle.flat_topology.specs.Hits.{hit_on}
-use Rattle.flat_topology.specs.Join.{JoinedTree, Viewer, child_view, joined_nodes, joined_sessions, led_from, led_to, linked_to, node, nothing, sessions_in, viewed, viewer_from}
+use Rattle.flat_topology.specs.Join.{JoinedTree, Viewer, child_view, joined_nodes, joined_sessions, led_from, led_to, linked_to, node, nothing, sessions_in}
+use Rattle.flat_topology.specs.Join.{viewed, viewer_from}
 use Rattle.flat_topology.specs.Laws.{JoinsEachOnce}
 use Rattle.flat_topology.specs.Pairs.{display_pair}
-use Rattle.flat_topology.specs.Place.{Space, display_rect, display_space, linked_space, node_matrix, node_space, placed_in, placed_node, placed_nodes, viewport_rect}
+use Rattle.flat_topology.specs.Place.{Space, display_rect, display_space, linked_space, node_matrix, node_space, placed_in, placed_node, placed_nodes}
+use Rattle.flat_topology.specs.Place.{viewport_rect}
 use Rattle.flat_topology.specs.Shown.{Shown}
 use Rattle.flat_topology.specs.Views.{content_bounds, view_nodes, viewport_bounds, views_in}
 use Rattle.flat_topology.proofs.lemmas.Distinct.{Distinct, In, distinct-apart, distinct-left, distinct-pairs, distinct-right, in-left, in-right}
@@ -89,7 +91,8 @@ linked-within bounds here None within = within
 linked-within bounds here (Some (content.Fill serial rgba w h)) within = within
 linked-within bounds here (Some (content.Image serial buffers index sample w h blend flip opacity)) within = within
 linked-within bounds here (Some (content.Viewport serial pair props)) within =
-    within-through bounds here.clip (linked_space here (Some (content.Viewport serial pair props))).clip within (shared-first here.clip (viewport_rect here.matrix props))
+    within-through bounds here.clip (linked_space here (Some (content.Viewport serial pair props))).clip within
+    (shared-first here.clip (viewport_rect here.matrix props))
 
 -- all nodes of a tree lie inside a rectangle in which its space does
 all-within : (bounds : Rect) (outer : Space) (tree : JoinedTree) → IsWithin bounds outer.clip → All (λ at. IsWithin bounds at.clip) (placed_in outer tree)
@@ -110,7 +113,8 @@ all-within bounds outer (child_view s root) within = all-within bounds outer roo
 
 -- the views of what a pair leads to cover its nodes, wherever it stands
 abbrev IsCovered : JoinedTree → Type 0
-IsCovered tree = (parent : Option SessionNo) (bounds : Rect) (outer : Space) → IsWithin bounds outer.clip → AllCover (views_in parent bounds outer tree) (placed_in outer tree)
+IsCovered tree = (parent : Option SessionNo) (bounds : Rect) (outer : Space) → IsWithin bounds outer.clip
+    → AllCover (views_in parent bounds outer tree) (placed_in outer tree)
 
 module _ (led : ℕ → JoinedTree) (each : (q : ℕ) → Distinct (sessions_in (led q)) → IsCovered (led q))
     (on : (q : ℕ) (outer : Space) → All (IsIn (sessions_in (led q))) (placed_in outer (led q))) where
@@ -120,7 +124,8 @@ module _ (led : ℕ → JoinedTree) (each : (q : ℕ) → Distinct (sessions_in 
   linked-covered t here n distinct = by_content n.content refl distinct
     where
       Goal : Option Content → Type 0
-      Goal what = AllCover (views_in (Some (record { 0 = t })) (content_bounds (placed_node t here n) what) (linked_space here what) (linked_to led what)) (placed_in (linked_space here what) (linked_to led what))
+      Goal what = AllCover (views_in (Some (record { 0 = t })) (content_bounds (placed_node t here n) what) (linked_space here what) (linked_to led what))
+          (placed_in (linked_space here what) (linked_to led what))
 
       by_content : (what : Option Content) → n.content ≡ what → Distinct (sessions_in (linked_to led what)) → Goal what
       by_content None is d = All-nil (λ v. All (Covers v) [])
@@ -175,9 +180,12 @@ module _ (led : ℕ → JoinedTree) (each : (q : ℕ) → Distinct (sessions_in 
       let inb : All (IsIn (t ∷ b)) pb = in-nodes led on t here children in
       let inc : All (IsIn (t ∷ c)) pc = in-nodes led on t outer rest in
       let intop : All (IsIn (t ∷ [])) top = All-cons (IsIn (t ∷ [])) (placed_node t here n) [] (inl refl) (All-nil (IsIn (t ∷ []))) in
-      let not_a : (x : ℕ) (ys : List ℕ) → (In x a → In x ys → ⊥) → In x a → In x (t ∷ ys) → ⊥ = λ x ys apart on_a. other x ys (λ same. free (in-left t a (b ++ c) (subst (λ y. In y a) same on_a))) (apart on_a) in
-      let not_b : (x : ℕ) (ys : List ℕ) → (In x b → In x ys → ⊥) → In x b → In x (t ∷ ys) → ⊥ = λ x ys apart on_b. other x ys (λ same. free (in-right t a (b ++ c) (in-left t b c (subst (λ y. In y b) same on_b)))) (apart on_b) in
-      let not_c : (x : ℕ) (ys : List ℕ) → (In x c → In x ys → ⊥) → In x c → In x (t ∷ ys) → ⊥ = λ x ys apart on_c. other x ys (λ same. free (in-right t a (b ++ c) (in-right t b c (subst (λ y. In y c) same on_c)))) (apart on_c) in
+      let not_a : (x : ℕ) (ys : List ℕ) → (In x a → In x ys → ⊥) → In x a → In x (t ∷ ys) → ⊥ =
+      λ x ys apart on_a. other x ys (λ same. free (in-left t a (b ++ c) (subst (λ y. In y a) same on_a))) (apart on_a) in
+      let not_b : (x : ℕ) (ys : List ℕ) → (In x b → In x ys → ⊥) → In x b → In x (t ∷ ys) → ⊥ =
+      λ x ys apart on_b. other x ys (λ same. free (in-right t a (b ++ c) (in-left t b c (subst (λ y. In y b) same on_b)))) (apart on_b) in
+      let not_c : (x : ℕ) (ys : List ℕ) → (In x c → In x ys → ⊥) → In x c → In x (t ∷ ys) → ⊥ =
+      λ x ys apart on_c. other x ys (λ same. free (in-right t a (b ++ c) (in-right t b c (subst (λ y. In y c) same on_c)))) (apart on_c) in
       let row_a : AllCover va (top ++ (pa ++ (pb ++ pc))) =
       cover-append va top (pa ++ (pb ++ pc)) (cover-others a (t ∷ []) (λ x on_a. not_a x [] (λ h none. none) on_a) va top ona intop)
       (cover-append va pa (pb ++ pc) (linked-covered t here n da)
@@ -200,7 +208,8 @@ module _ (led : ℕ → JoinedTree) (each : (q : ℕ) → Distinct (sessions_in 
       other x ys differs apart (inl same) = differs same
       other x ys differs apart (inr on_ys) = apart on_ys
 
-      linked-on : (here : Space) (what : Option Content) → All (IsIn (sessions_in (linked_to led what))) (placed_in (linked_space here what) (linked_to led what))
+      linked-on : (here : Space) (what : Option Content) → All (IsIn (sessions_in (linked_to led what)))
+          (placed_in (linked_space here what) (linked_to led what))
       linked-on here None = All-nil (IsIn [])
       linked-on here (Some (content.Fill serial rgba w h)) = All-nil (IsIn [])
       linked-on here (Some (content.Image serial buffers index sample w h blend flip opacity)) = All-nil (IsIn [])

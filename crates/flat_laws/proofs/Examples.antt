@@ -47,7 +47,8 @@ released : is_signalled shell_with_two_apps-setup history (f 2) ≡ true
 released = refl
 
 -- nodes of the shell have the display's rectangle above them, those of the applications a viewport's too
-framed : map (λ (framed : NodeInViewports). length framed.viewports) (nodes_in_viewports shell_with_two_apps-setup (shown_states shell_with_two_apps-setup begun))
+framed : map (λ (framed : NodeInViewports). length framed.viewports)
+    (nodes_in_viewports shell_with_two_apps-setup (shown_states shell_with_two_apps-setup begun))
     ≡ 1 ∷ 1 ∷ 2 ∷ 1 ∷ 2 ∷ []
 framed = refl
 

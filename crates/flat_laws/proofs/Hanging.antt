@@ -18,7 +18,8 @@ use Rattle.flat_rules.specs.Shown.{shown_states}
 use Rattle.flat_laws.specs.Shows.{FramesHaveViewTrees}
 
 -- a pixel ratio plays no part in who hangs below whom
-child-at : (r : ℕ) (setup : Setup) (shown : Shown) (c : ℕ) (parent : Option SessionNo) → IsChild (at_ratio r setup) shown c parent → IsChild setup shown c parent
+child-at : (r : ℕ) (setup : Setup) (shown : Shown) (c : ℕ) (parent : Option SessionNo) → IsChild (at_ratio r setup) shown c parent
+    → IsChild setup shown c parent
 child-at r setup shown c None top = record { pair = top.pair; viewport = top.viewport; view = top.view }
 child-at r setup shown c (Some parent) below = below
 

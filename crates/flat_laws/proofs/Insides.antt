@@ -20,9 +20,11 @@ use Rattle.flat_topology.specs.declared.Placed.{Placed}
 use Rattle.flat_topology.specs.Draw.{Painting, painting_of, item_of, node_item, visible_rect, scene_matrix}
 use Rattle.flat_topology.specs.Hits.{hit_on, region_rect}
 use Rattle.flat_topology.specs.Join.{JoinedTree, nothing, node, child_view, join}
-use Rattle.flat_topology.specs.Place.{Space, cut_clip, display_rect, display_space, node_matrix, node_space, linked_space, viewport_rect, placed_in, placed_node}
+use Rattle.flat_topology.specs.Place.{Space, cut_clip, display_rect, display_space, node_matrix, node_space, linked_space, viewport_rect, placed_in}
+use Rattle.flat_topology.specs.Place.{placed_node}
 use Rattle.flat_topology.specs.Shown.{Shown}
-use Rattle.flat_laws.specs.Places.{NodeInViewports, viewports_of_child, in_viewports, nodes_in_viewports, NodesInViewportsArePlaced, ItemsStayInViewports, HitsStayInViewports}
+use Rattle.flat_laws.specs.Places.{NodeInViewports, viewports_of_child, in_viewports, nodes_in_viewports, NodesInViewportsArePlaced, ItemsStayInViewports}
+use Rattle.flat_laws.specs.Places.{HitsStayInViewports}
 
 -- ---- rectangles
 
@@ -117,7 +119,8 @@ display-inside setup shown =
 
 -- ---- the framed nodes are the placed nodes
 
-framed-placed : (above : List Rect) (outer : Space) (tree : JoinedTree) → map (λ (framed : NodeInViewports). framed.at) (in_viewports above outer tree) ≡ placed_in outer tree
+framed-placed : (above : List Rect) (outer : Space) (tree : JoinedTree)
+    → map (λ (framed : NodeInViewports). framed.at) (in_viewports above outer tree) ≡ placed_in outer tree
 framed-placed above outer nothing = refl
 framed-placed above outer (node s n linked below after) =
     let here : Space = node_space outer n in
@@ -128,7 +131,8 @@ framed-placed above outer (node s n linked below after) =
     ap (λ ps. placed_node s here n ∷ ps)
     (map-append at child (lower ++ later)
     ∙ ap (λ ps. map at child ++ ps) (map-append at lower later)
-    ∙ (λ i. framed-placed (viewports_of_child above here n.content) (linked_space here n.content) linked i ++ (framed-placed above here below i ++ framed-placed above outer after i)))
+    ∙ (λ i. framed-placed (viewports_of_child above here n.content) (linked_space here n.content) linked i
+    ++ (framed-placed above here below i ++ framed-placed above outer after i)))
 framed-placed above outer (child_view s root) = framed-placed above outer root
 
 pub nodes-in-viewports-are-placed : NodesInViewportsArePlaced
@@ -158,7 +162,8 @@ item-within at (Some p) item is = by_test (has_no_point (visible_rect at p.w p.h
 
 pub items-stay-in-viewports : ItemsStayInViewports
 items-stay-in-viewports setup shown = All-weaker IsInside
-    (λ (framed : NodeInViewports). (item : DrawItem) → node_item framed.at ≡ Some item → IsWithin framed.at.clip item.visible × All (λ rect. IsWithin rect item.visible) framed.viewports)
+    (λ (framed : NodeInViewports). (item : DrawItem) → node_item framed.at ≡ Some item
+    → IsWithin framed.at.clip item.visible × All (λ rect. IsWithin rect item.visible) framed.viewports)
     (λ framed all item is.
     let within = item-within framed.at (painting_of framed.at.opacity framed.at.content) item is in
     (within, above-through framed.viewports framed.at.clip item.visible all within))
@@ -170,7 +175,8 @@ region-within : (at : Placed) (area : Option IntRect) → IsWithin at.clip (regi
 region-within at None = within-itself at.clip
 region-within at (Some area) = shared-second _ at.clip
 
-found-passes : {X Y : Type 0} (test : X → Bool) (f : X → Y) (P : Type 0) → ((x : X) → test x ≡ true → P) → (xs : List X) (y : Y) → option_map f (find test xs) ≡ Some y → P
+found-passes : {X Y : Type 0} (test : X → Bool) (f : X → Y) (P : Type 0) → ((x : X) → test x ≡ true → P) → (xs : List X) (y : Y)
+    → option_map f (find test xs) ≡ Some y → P
 found-passes test f P each [] y is = absurd (cc)
 found-passes test f P each (x ∷ xs) y is = by_test (λ rest. found-passes test f P each xs y rest) (test x) refl is
   where
@@ -185,8 +191,12 @@ hit-within x y at hit is =
 
 pub hits-stay-in-viewports : HitsStayInViewports
 hits-stay-in-viewports setup shown x y = All-weaker IsInside
-    (λ (framed : NodeInViewports). (hit : Hit) → hit_on x y framed.at ≡ Some hit → (has_point framed.at.clip x y ≡ true) × All (λ rect. has_point rect x y ≡ true) framed.viewports)
+    (λ (framed : NodeInViewports). (hit : Hit) → hit_on x y framed.at ≡ Some hit
+    → (has_point framed.at.clip x y ≡ true) × All (λ rect. has_point rect x y ≡ true) framed.viewports)
     (λ framed all hit is.
-    let within = hit-within x y framed.at hit is in
-    (within, All-weaker (λ rect. IsWithin rect framed.at.clip) (λ rect. has_point rect x y ≡ true) (λ rect w. within-point rect framed.at.clip x y w within) framed.viewports all))
+    let within = hit-within x y framed.at hit is in (
+      within,
+      All-weaker (λ rect. IsWithin rect framed.at.clip) (λ rect. has_point rect x y ≡ true) (λ rect w. within-point rect framed.at.clip x y w within)
+          framed.viewports all,
+    ))
     (nodes_in_viewports setup shown) (display-inside setup shown)

@@ -26,7 +26,8 @@ use Rattle.flat_facts.proofs.lemmas.Earlier.{IsEarlier, itself, one-earlier, beg
 
 -- ---- closed sessions
 
-closed-one : (b : Bool) (e : Entry) (xs : List Entry) → list_any (λ entry. closes entry.reply) xs ≡ true → list_any (λ entry. closes entry.reply) (cond b (e ∷ xs) xs) ≡ true
+closed-one : (b : Bool) (e : Entry) (xs : List Entry) → list_any (λ entry. closes entry.reply) xs ≡ true
+    → list_any (λ entry. closes entry.reply) (cond b (e ∷ xs) xs) ≡ true
 closed-one true e xs closed = or_right (closes e.reply) (list_any (λ entry. closes entry.reply) xs) closed
 closed-one false e xs closed = closed
 
@@ -47,14 +48,16 @@ end-publishes-none _ reply made is = absurd (let wrong : false ≡ true = is in 
 
 closed-ends : (h : List Entry) (kind : Kind) (s : SessionNo) → is_closed s h ≡ true → goes_on h kind (Session s) ≡ true → is_end kind ≡ true
 closed-ends h kind s closed on =
-    let either : (is_end kind || not (is_closed s h)) ≡ true = (and_parts (not (list_any (λ entry. is_end entry.kind) (own s h))) (is_end kind || not (is_closed s h)) on).1 in
+    let either : (is_end kind || not (is_closed s h)) ≡ true =
+    (and_parts (not (list_any (λ entry. is_end entry.kind) (own s h))) (is_end kind || not (is_closed s h)) on).1 in
     by_end (or_cases (is_end kind) (not (is_closed s h)) either)
   where
     by_end : (is_end kind ≡ true) ⊎ (not (is_closed s h) ≡ true) → is_end kind ≡ true
     by_end (inl ends) = ends
     by_end (inr opened) = absurd (let wrong : true ≡ false = sym closed ∙ not-true (is_closed s h) opened in cc)
 
-closed-presents-next : (setup : Setup) (h : List Entry) (e : Entry) (s : SessionNo) → Legal setup (h ▹ e) → is_closed s h ≡ true → presents s (h ▹ e) ≡ presents s h
+closed-presents-next : (setup : Setup) (h : List Entry) (e : Entry) (s : SessionNo) → Legal setup (h ▹ e) → is_closed s h ≡ true
+    → presents s (h ▹ e) ≡ presents s h
 closed-presents-next setup h e s legal closed = by_owner (is_session s e.actor) refl
   where
     by_owner : (b : Bool) → is_session s e.actor ≡ b → presents s (h ▹ e) ≡ presents s h
@@ -74,20 +77,23 @@ closed-presents setup k h s before legal closed = ap (presents s) before.is ∙ 
 
 -- ---- presents by their numbers
 
-pub serial-later : (s : SessionNo) (k h : List Entry) (n : ℕ) (present : Published) → IsEarlier k h → of_serial (presents s k) n ≡ Some present → of_serial (presents s h) n ≡ Some present
+pub serial-later : (s : SessionNo) (k h : List Entry) (n : ℕ) (present : Published) → IsEarlier k h → of_serial (presents s k) n ≡ Some present
+    → of_serial (presents s h) n ≡ Some present
 serial-later s k h n present before is =
     let all = presents-begin s k h before in
     ap (λ ps. of_serial ps n) all.is ∙ serial-append (presents s k) all.more n (serial-within (presents s k) n present is) ∙ is
 
 -- a present that was there already is the same
-pub serial-earlier : (s : SessionNo) (k h : List Entry) (n : ℕ) (present : Published) → IsEarlier k h → n ≤ length (presents s k) → of_serial (presents s h) n ≡ Some present → of_serial (presents s k) n ≡ Some present
+pub serial-earlier : (s : SessionNo) (k h : List Entry) (n : ℕ) (present : Published) → IsEarlier k h → n ≤ length (presents s k)
+    → of_serial (presents s h) n ≡ Some present → of_serial (presents s k) n ≡ Some present
 serial-earlier s k h n present before few is =
     let all = presents-begin s k h before in
     sym (serial-append (presents s k) all.more n few) ∙ sym (ap (λ ps. of_serial ps n) all.is) ∙ is
 
 -- ---- fences
 
-pub signalled-next : (setup : Setup) (h : List Entry) (e : Entry) (fence : FenceNo) → is_signalled setup h fence ≡ true → is_signalled setup (h ▹ e) fence ≡ true
+pub signalled-next : (setup : Setup) (h : List Entry) (e : Entry) (fence : FenceNo) → is_signalled setup h fence ≡ true
+    → is_signalled setup (h ▹ e) fence ≡ true
 signalled-next setup h e fence was =
     or_left (is_signalled setup h fence) (signals (sessions_to setup.sessions) e.kind (going setup h) fence) was
 

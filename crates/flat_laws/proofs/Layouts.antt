@@ -26,7 +26,8 @@ shown-seen setup p n s props (before ▹ entry) is = by_kind (is_finish entry.ki
   where
     by_kind : (b : Bool) → (props_shown setup (to_finished before) s p n ≡ Some props → props_seen setup p n s before ≡ Some props)
         → props_shown setup (cond b (to_begin before) (to_finished before)) s p n ≡ Some props
-        → option_or (cond b (option_and_then (props_of p n) (result_ok (draft_of setup (taken_calls setup (to_begin before) s)))) None) (props_seen setup p n s before)
+        → option_or (cond b (option_and_then (props_of p n) (result_ok (draft_of setup (taken_calls setup (to_begin before) s)))) None)
+        (props_seen setup p n s before)
         ≡ Some props
     by_kind true earlier here = ap (λ o. option_or o (props_seen setup p n s before)) here
     by_kind false earlier here = earlier here

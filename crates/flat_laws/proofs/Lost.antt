@@ -1,5 +1,6 @@
 -- Ends that are lost stay so.
-use Rattle.std.proofs.Common.{◌≡◌, ◌∙◌, sym, subst, ap, refl, ℕ, ◌<◌, ◌≤◌, ◌⊎◌, inl, inr, Bool, true, false, List, [], ◌∷◌, ◌++◌, length, arith, Option, Some, None, Ok}
+use Rattle.std.proofs.Common.{◌≡◌, ◌∙◌, sym, subst, ap, refl, ℕ, ◌<◌, ◌≤◌, ◌⊎◌, inl, inr, Bool, true, false, List, [], ◌∷◌, ◌++◌, length, arith, Option, Some}
+use Rattle.std.proofs.Common.{None, Ok}
 use Rattle.std.specs.Prelude.{cond, ◌+◌, ◌&&◌, ◌||◌, ◌==◌, not, option_map}
 use Rattle.std.proofs.lemmas.Bool.{and_parts, or_cases, or_left, or_right, ltb-true, lt-ltb, eqb-true}
 use Rattle.flat_base.specs.declared.ids.Actor.{Actor}
@@ -20,13 +21,15 @@ use Rattle.flat_scene.specs.Draft.{Draft, empty_draft}
 use Rattle.flat_scene.specs.Frames.{taken}
 use Rattle.flat_scene.specs.History.{◌▹◌, is_closed, presents}
 use Rattle.flat_scene.proofs.lemmas.TakingLemmas.{taken-made}
-use Rattle.flat_rules.specs.Ends.{clears_viewport, ends_view, happens, has_ended, is_done, loses, taken_calls, times, to_finished, uses_view, uses_viewport, view_owner, view_uses, viewport_owner, viewport_uses}
+use Rattle.flat_rules.specs.Ends.{clears_viewport, ends_view, happens, has_ended, is_done, loses, taken_calls, times, to_finished, uses_view, uses_viewport}
+use Rattle.flat_rules.specs.Ends.{view_owner, view_uses, viewport_owner, viewport_uses}
 use Rattle.flat_rules.specs.Legal.{has_token, Legal, reply_to, refused_token}
 use Rattle.flat_rules.specs.Watch.{are_joined, child_of, is_connected_by, layout_in, layout_of, props_told, ratio_told, shows_view, status_of}
 use Rattle.flat_facts.proofs.lemmas.Earlier.{IsEarlier, calls-taken, itself, taken-earlier, times-rise}
 use Rattle.flat_facts.proofs.lemmas.Tests.{same-pair}
 use Rattle.flat_facts.proofs.lemmas.ViewLaw.{made_at}
-use Rattle.flat_laws.specs.Ends.{GoneStaysGone, LostViewportsStayLost, LostViewsStayLost, times_back, ViewEndsAreUsedOnce, ViewportEndsAreUsedInTurn, gives_back}
+use Rattle.flat_laws.specs.Ends.{GoneStaysGone, LostViewportsStayLost, LostViewsStayLost, times_back, ViewEndsAreUsedOnce, ViewportEndsAreUsedInTurn}
+use Rattle.flat_laws.specs.Ends.{gives_back}
 use Rattle.flat_laws.proofs.Later.{closed-earlier, finished-later}
 
 -- ---- lost
@@ -37,11 +40,14 @@ happens-later setup test k h s before is =
     let count : List Call → ℕ = λ cs. times setup test (Ok empty_draft) cs in
     let then : taken_calls setup k s ≡ made_at (presents s h) (taken setup k s) = calls-taken setup s k h before in
     let now : taken_calls setup h s ≡ made_at (presents s h) (taken setup h s) = calls-taken setup s h h (itself h) in
-    let rise : times setup test (Ok empty_draft) (made_at (presents s h) (taken setup k s)) ≤ times setup test (Ok empty_draft) (made_at (presents s h) (taken setup h s)) =
+    let rise : times setup test (Ok empty_draft) (made_at (presents s h) (taken setup k s)) ≤ times setup test (Ok empty_draft)
+    (made_at (presents s h) (taken setup h s)) =
     times-rise setup test s h (taken setup k s) (taken setup h s) (taken-earlier setup s k h before) (taken-made setup s h) in
     let some : 0 < times setup test (Ok empty_draft) (taken_calls setup k s) = ltb-true 0 (times setup test (Ok empty_draft) (taken_calls setup k s)) is in
-    let a : times setup test (Ok empty_draft) (taken_calls setup k s) ≡ times setup test (Ok empty_draft) (made_at (presents s h) (taken setup k s)) = ap count then in
-    let b : times setup test (Ok empty_draft) (taken_calls setup h s) ≡ times setup test (Ok empty_draft) (made_at (presents s h) (taken setup h s)) = ap count now in
+    let a : times setup test (Ok empty_draft) (taken_calls setup k s) ≡ times setup test (Ok empty_draft) (made_at (presents s h) (taken setup k s)) =
+    ap count then in
+    let b : times setup test (Ok empty_draft) (taken_calls setup h s) ≡ times setup test (Ok empty_draft) (made_at (presents s h) (taken setup h s)) =
+    ap count now in
     lt-ltb 0 (times setup test (Ok empty_draft) (taken_calls setup h s)) (omega (arith, rise, some, a, b))
 
 ended-later : (setup : Setup) (test : Draft → Call → Bool) (k h : List Entry) (s : SessionNo) → IsEarlier k h
@@ -92,15 +98,18 @@ no-child false is = cc
 pub gone-stays : GoneStaysGone
 gone-stays setup before later (layout_of p) is =
     let lost = gone-if _ _ (no-layout (are_joined setup before p) (ratio_told setup before) (props_told setup (viewport_owner setup p) before p)) is in
-    let still = loses-later setup (clears_viewport p) (to_finished before) (to_finished (later ++ before)) (viewport_owner setup p) (finished-later before later) lost in
+    let still = loses-later setup (clears_viewport p) (to_finished before) (to_finished (later ++ before)) (viewport_owner setup p)
+    (finished-later before later) lost in
     rw still refl
 gone-stays setup before later (status_of p) is =
     let lost = gone-if _ _ (no-status (are_joined setup before p) (is_connected_by setup (to_finished before) p)) is in
-    let still = loses-later setup (clears_viewport p) (to_finished before) (to_finished (later ++ before)) (viewport_owner setup p) (finished-later before later) lost in
+    let still = loses-later setup (clears_viewport p) (to_finished before) (to_finished (later ++ before)) (viewport_owner setup p)
+    (finished-later before later) lost in
     rw still refl
 gone-stays setup before later (child_of p n) is =
     let lost = gone-if _ _ (no-child (shows_view setup (to_finished before) p)) is in
-    let still = loses-later setup (ends_view p) (to_finished before) (to_finished (later ++ before)) (option_map Session (view_owner setup p)) (finished-later before later) lost in
+    let still = loses-later setup (ends_view p) (to_finished before) (to_finished (later ++ before)) (option_map Session (view_owner setup p))
+    (finished-later before later) lost in
     rw still refl
 
 -- ---- view ends

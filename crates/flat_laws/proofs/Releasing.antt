@@ -1,5 +1,6 @@
 -- Which fences the ends of frames signal.
-use Rattle.std.proofs.Common.{◌≡◌, ◌∙◌, sym, subst, ap, refl, ℕ, zero, suc, ◌+◌, ◌<◌, ◌≤◌, ◌⊎◌, inl, inr, Bool, true, false, List, [], ◌∷◌, ◌++◌, length, drop, arith, Some, None, slice_get}
+use Rattle.std.proofs.Common.{◌≡◌, ◌∙◌, sym, subst, ap, refl, ℕ, zero, suc, ◌+◌, ◌<◌, ◌≤◌, ◌⊎◌, inl, inr, Bool, true, false, List, [], ◌∷◌, ◌++◌, length, drop}
+use Rattle.std.proofs.Common.{arith, Some, None, slice_get}
 use Rattle.std.specs.Prelude.{cond, ◌||◌, nat_lt, nat_le}
 use Rattle.std.specs.List.{list_any}
 use Rattle.std.proofs.lemmas.Bool.{and_parts, cases_lt, leb-true, ltb-true, or_cases, or_left, or_parts, or_right}
@@ -74,11 +75,13 @@ going-begin : (setup : Setup) (h : List Entry) (s : SessionNo) → going setup h
 going-begin setup [] s = refl
 going-begin setup (h ▹ e) s = by_kind (going-begin setup h s) (is_begin e.kind) refl
   where
-    by_kind : going setup h s ≡ going setup (to_begin h) s → (b : Bool) → is_begin e.kind ≡ b → going setup (h ▹ e) s ≡ going setup (cond b (h ▹ e) (to_begin h)) s
+    by_kind : going setup h s ≡ going setup (to_begin h) s → (b : Bool) → is_begin e.kind ≡ b
+        → going setup (h ▹ e) s ≡ going setup (cond b (h ▹ e) (to_begin h)) s
     by_kind was true is = refl
     by_kind was false is = going-quiet setup h e s is ∙ was
 
-takes-going : (k : Kind) (f : FenceNo → Bool) (closed : Bool) (w g : List Published) → 0 < length (takes k f closed w) → lets_go k f closed w g ≡ takes k f closed w
+takes-going : (k : Kind) (f : FenceNo → Bool) (closed : Bool) (w g : List Published) → 0 < length (takes k f closed w)
+    → lets_go k f closed w g ≡ takes k f closed w
 takes-going (Begin time) f true w g some = absurd (omega (arith, some))
 takes-going (Begin time) f false w g some = refl
 takes-going _ f closed w g some = absurd (omega (arith, some))
@@ -107,7 +110,8 @@ finish-signals setup Finish g fence is = refl
 finish-signals setup _ g fence is = absurd (let wrong : false ≡ true = is in cc)
 
 -- a session that isn't declared has no present
-declared-presents : (setup : Setup) (h : List Entry) → Legal setup h → (s : SessionNo) (n : ℕ) (present : Published) → of_serial (presents s h) n ≡ Some present → is_declared setup s ≡ true
+declared-presents : (setup : Setup) (h : List Entry) → Legal setup h → (s : SessionNo) (n : ℕ) (present : Published) → of_serial (presents s h) n ≡ Some present
+    → is_declared setup s ≡ true
 declared-presents setup h legal s n present is = by_test (is_declared setup s) refl
   where
     by_test : (b : Bool) → is_declared setup s ≡ b → b ≡ true
@@ -166,7 +170,8 @@ begin-begins : (h k : List Entry) (b : Entry) → to_begin h ≡ (k ▹ b) → i
 begin-begins [] k b is = absurd (cc)
 begin-begins (h ▹ e) k b is = by_kind (λ rest. begin-begins h k b rest) (is_begin e.kind) refl is
   where
-    by_kind : (to_begin h ≡ (k ▹ b) → is_begin b.kind ≡ true) → (c : Bool) → is_begin e.kind ≡ c → cond c (h ▹ e) (to_begin h) ≡ (k ▹ b) → is_begin b.kind ≡ true
+    by_kind : (to_begin h ≡ (k ▹ b) → is_begin b.kind ≡ true) → (c : Bool) → is_begin e.kind ≡ c → cond c (h ▹ e) (to_begin h) ≡ (k ▹ b)
+        → is_begin b.kind ≡ true
     by_kind later true begins same = let entry : e ≡ b = cc in subst (λ (x : Entry). is_begin x.kind ≡ true) entry begins
     by_kind later false begins rest = later rest
 
@@ -180,7 +185,8 @@ closed-goes (Begin time) f closed w g begins shut = ap (λ b. cond b w (ready_pr
 closed-goes _ f closed w g begins shut = absurd (let wrong : false ≡ true = begins in cc)
 
 -- so a present that no frame took goes
-waiting-releases : (setup : Setup) (h begin : List Entry) → to_begin h ≡ begin → (s : SessionNo) → is_closed s (drop 1 begin) ≡ true → (n : ℕ) (present : Published)
+waiting-releases : (setup : Setup) (h begin : List Entry) → to_begin h ≡ begin → (s : SessionNo) → is_closed s (drop 1 begin) ≡ true
+    → (n : ℕ) (present : Published)
     → of_serial (presents s (drop 1 begin)) n ≡ Some present → taken setup begin s < n
     → (fence : FenceNo) → is_among present.args.release fence ≡ true → is_released_by (going setup begin s) fence ≡ true
 waiting-releases setup h [] is s closed n present accepted more fence among = absurd (cc)
@@ -188,7 +194,8 @@ waiting-releases setup h (k ▹ b) is s closed zero present accepted more fence 
 waiting-releases setup h (k ▹ b) is s closed (suc m) present accepted more fence among =
     let d = split (taken setup k s) m (omega (arith, more)) in
     let there : slice_get (waiting setup k s) d.0 ≡ Some present =
-    sym (serial-get (presents s k) (taken setup k s + d.0) ∙ get-drop (taken setup k s) d.0 (presents s k)) ∙ ap (λ j. of_serial (presents s k) (suc j)) (sym d.1) ∙ accepted in
+    sym (serial-get (presents s k) (taken setup k s + d.0) ∙ get-drop (taken setup k s) d.0 (presents s k))
+    ∙ ap (λ j. of_serial (presents s k) (suc j)) (sym d.1) ∙ accepted in
     let all : going setup (k ▹ b) s ≡ waiting setup k s =
     closed-goes b.kind (is_signalled setup k) (is_closed s k) (waiting setup k s) (going setup k s) (begin-begins h k b is) closed in
     ap (λ ps. is_released_by ps fence) all ∙ any-get (λ (p : Published). is_among p.args.release fence) (waiting setup k s) d.0 present there among
@@ -198,7 +205,8 @@ closed-release setup [] legal s n present accepted closed fence among = absurd (
 closed-release setup (h ▹ e) legal s n present accepted closed fence among =
     by_finish (λ was shut. closed-release setup h legal.0 s n present was shut fence among) (is_finish e.kind) refl closed
   where
-    was_there : (k : List Entry) → IsEarlier k h → is_closed s k ≡ true → (of_serial (presents s h) n ≡ Some present) × (of_serial (presents s k) n ≡ Some present)
+    was_there : (k : List Entry) → IsEarlier k h → is_closed s k ≡ true
+        → (of_serial (presents s h) n ≡ Some present) × (of_serial (presents s k) n ≡ Some present)
     was_there k before shut =
         let late = closed-presents setup k (h ▹ e) s (one-earlier k h e before) legal shut in
         let soon = closed-presents setup k h s before legal.0 shut in
@@ -214,7 +222,8 @@ closed-release setup (h ▹ e) legal s n present accepted closed fence among =
       where
         by_taken : (taken setup (to_begin h) s < n) ⊎ (n ≤ taken setup (to_begin h) s) → is_signalled setup (h ▹ e) fence ≡ true
         by_taken (inr few) =
-            taken-release setup (h ▹ e) legal s n present accepted (subst (λ b. n ≤ taken setup (cond b (to_begin h) (to_finished h)) s) (sym is) few) fence among
+            taken-release setup (h ▹ e) legal s n present accepted (subst (λ b. n ≤ taken setup (cond b (to_begin h) (to_finished h)) s) (sym is) few) fence
+            among
         by_taken (inl more) =
             let there = was_there (drop 1 (to_begin h)) (begun-earlier h) shut in
             let released = waiting-releases setup h (to_begin h) refl s shut n present there.1 more fence among in
@@ -270,7 +279,8 @@ goes-at setup k b s (Begin time) false i present is shut begins there =
     }
 goes-at setup k b s _ closed i present is shut begins there = absurd (let wrong : false ≡ true = begins in cc)
 
-finish-releases : (setup : Setup) (h begin : List Entry) (e : Entry) (fence : FenceNo) (s : SessionNo) → is_finish e.kind ≡ true → to_begin h ≡ begin → IsEarlier begin h
+finish-releases : (setup : Setup) (h begin : List Entry) (e : Entry) (fence : FenceNo) (s : SessionNo) → is_finish e.kind ≡ true → to_begin h ≡ begin
+    → IsEarlier begin h
     → is_released_by (going setup begin s) fence ≡ true → IsReleased setup (h ▹ e) fence
 finish-releases setup h [] e fence s ends is before released = absurd (cc)
 finish-releases setup h (k ▹ b) e fence s ends is before released =

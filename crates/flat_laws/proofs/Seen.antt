@@ -59,7 +59,8 @@ module _ (led : ℕ → JoinedTree) (each : (q : ℕ) (outer : Space) → All (I
   in-linked here (Some (content.Image serial buffers index sample w h blend flip opacity)) = All-nil (IsIn [])
   in-linked here (Some (content.Viewport serial pair props)) = each pair.0 (linked_space here (Some (content.Viewport serial pair props)))
 
-  pub in-nodes : (t : ℕ) (outer : Space) (nodes : Children) → All (IsIn (t ∷ sessions_in (joined_nodes led t nodes))) (placed_in outer (joined_nodes led t nodes))
+  pub in-nodes : (t : ℕ) (outer : Space) (nodes : Children)
+      → All (IsIn (t ∷ sessions_in (joined_nodes led t nodes))) (placed_in outer (joined_nodes led t nodes))
   in-nodes t outer Empty = All-nil (IsIn (t ∷ []))
   in-nodes t outer (first serial scale turn place clip opacity hits what children rest) =
       let n : Node = record {
@@ -89,7 +90,8 @@ module _ (led : ℕ → JoinedTree) (each : (q : ℕ) (outer : Space) → All (I
       (in-wider t c (a ++ (b ++ c)) (λ x on. in-right x a (b ++ c) (in-right x b c on)) later (in-nodes t outer rest))))
 
 module _ (shown : Shown) where
-  in-viewed : (views : ℕ) (found : Option Viewer) → ((q : ℕ) (outer : Space) → All (IsIn (sessions_in (led_to shown views q))) (placed_in outer (led_to shown views q)))
+  in-viewed : (views : ℕ) (found : Option Viewer) → ((q : ℕ) (outer : Space)
+      → All (IsIn (sessions_in (led_to shown views q))) (placed_in outer (led_to shown views q)))
       → (outer : Space) → All (IsIn (sessions_in (viewed (led_to shown views) found))) (placed_in outer (viewed (led_to shown views) found))
   in-viewed views None each outer = All-nil (IsIn [])
   in-viewed views (Some viewer) each outer = in-nodes (led_to shown views) each viewer.session outer viewer.nodes
@@ -107,18 +109,21 @@ module _ (shown : Shown) where
 
 -- ---- views
 
-any-mapped : (s : ℕ) (views : List ViewNode) → list_any (λ t. t == s) (map (λ (v : ViewNode). v.session.0) views) ≡ true → list_any (λ (v : ViewNode). v.session.0 == s) views ≡ true
+any-mapped : (s : ℕ) (views : List ViewNode) → list_any (λ t. t == s) (map (λ (v : ViewNode). v.session.0) views) ≡ true
+    → list_any (λ (v : ViewNode). v.session.0 == s) views ≡ true
 any-mapped s [] some = some
 any-mapped s (v ∷ views) some = by_first (v.session.0 == s) (any-mapped s views) some
   where
-    by_first : (b : Bool) → (list_any (λ t. t == s) (map (λ (u : ViewNode). u.session.0) views) ≡ true → list_any (λ (u : ViewNode). u.session.0 == s) views ≡ true)
+    by_first : (b : Bool) → (list_any (λ t. t == s) (map (λ (u : ViewNode). u.session.0) views) ≡ true
+        → list_any (λ (u : ViewNode). u.session.0 == s) views ≡ true)
         → (b || list_any (λ t. t == s) (map (λ (u : ViewNode). u.session.0) views)) ≡ true → (b || list_any (λ (u : ViewNode). u.session.0 == s) views) ≡ true
     by_first true later h = refl
     by_first false later h = later h
 
 -- a session of the joined tree has a view
 module _ (joined : ViewsTheJoined) (setup : Setup) (begun : List Entry) where
-  view-found : (s : SessionNo) → list_any (λ t. t == s.0) (joined_sessions (setup_at setup begun) (shown_states setup begun)) ≡ true → is_node (views_at setup begun) s ≡ true
+  view-found : (s : SessionNo) → list_any (λ t. t == s.0) (joined_sessions (setup_at setup begun) (shown_states setup begun)) ≡ true
+      → is_node (views_at setup begun) s ≡ true
   view-found s some =
       any-mapped s.0 (views_at setup begun)
       (ap (list_any (λ t. t == s.0)) (joined (setup_at setup begun) (shown_states setup begun)) ∙ some)
@@ -157,7 +162,8 @@ seen-have-views joined setup begun =
 
 -- ---- connected
 
-connected-then : (lost joined connected : Bool) → cond lost (Some tell.Gone) (cond joined (Some (cond connected tell.Connected tell.Disconnected)) None) ≡ Some tell.Connected
+connected-then : (lost joined connected : Bool) → cond lost (Some tell.Gone) (cond joined (Some (cond connected tell.Connected tell.Disconnected)) None)
+    ≡ Some tell.Connected
     → connected ≡ true
 connected-then true j c is = absurd (cc)
 connected-then false true true is = refl
@@ -168,9 +174,11 @@ pub connected-have-views : ViewsTheJoined → ConnectedHaveViews
 connected-have-views joined setup history p s owner told_connected =
     let begun : List Entry = to_finished history in
     let connected : is_connected_by setup (to_finished history) p ≡ true =
-    connected-then (is_viewport_lost setup (to_finished history) p) (are_joined setup history p) (is_connected_by setup (to_finished history) p) told_connected in
+    connected-then (is_viewport_lost setup (to_finished history) p) (are_joined setup history p) (is_connected_by setup (to_finished history) p)
+    told_connected in
     let by_owner : unwrap_or (option_map (is_connected setup (to_finished history)) (view_owner setup p)) false ≡ true =
-    (and_parts (shows_view setup (to_finished history) p) (unwrap_or (option_map (is_connected setup (to_finished history)) (view_owner setup p)) false) connected).1 in
+    (and_parts (shows_view setup (to_finished history) p) (unwrap_or (option_map (is_connected setup (to_finished history)) (view_owner setup p)) false)
+    connected).1 in
     let here : is_connected setup (to_finished history) s ≡ true =
     sym (ap (λ (o : Option SessionNo). unwrap_or (option_map (is_connected setup (to_finished history)) o) false) owner) ∙ by_owner in
     view-found joined setup (to_finished history) s here

@@ -61,7 +61,8 @@ idle-show-the-same setup begun begun' later is ratios same closed =
     let closed_same : (s : SessionNo) → is_closed s (later ++ begun) ≡ is_closed s begun = λ s. ap (λ h. is_closed s h) (sym is) ∙ closed s in
     let states : shown_states setup begun' ≡ shown_states setup begun =
     ap (shown_states setup) is
-    ∙ map-same (shown setup (later ++ begun)) (shown setup begun) (λ s. shown-same setup begun later s (taken_same s) (closed_same s)) (sessions_to setup.sessions) in
+    ∙ map-same (shown setup (later ++ begun)) (shown setup begun) (λ s. shown-same setup begun later s (taken_same s) (closed_same s))
+    (sessions_to setup.sessions) in
     let setups : setup_at setup begun' ≡ setup_at setup begun = ap (λ r. at_ratio r setup) ratios in
     record {
       items = λ i. draw_list (setups i) (states i);

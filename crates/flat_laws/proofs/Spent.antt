@@ -46,7 +46,8 @@ module _ (setup : Setup) (watcher : Watcher) where
   told-gone : (h : List Entry) → (watching setup watcher h).last ≡ gone → told setup h watcher ≡ gone
   told-gone [] is = absurd (cc)
   told-gone (h ▹ e) is =
-      settled-last (is_open setup (listener setup watcher) (h ▹ e)) (told setup (h ▹ e) watcher) (asking (asked setup watcher h e) (watching setup watcher h)) is
+      settled-last (is_open setup (listener setup watcher) (h ▹ e)) (told setup (h ▹ e) watcher) (asking (asked setup watcher h e) (watching setup watcher h))
+      is
       (λ was. gone-stays setup h (e ∷ []) watcher (told-gone h was))
 
   no-news : (now last : Option Told) → now ≡ gone → last ≡ gone → news now last ≡ None

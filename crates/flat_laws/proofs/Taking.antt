@@ -1,5 +1,6 @@
 -- Which present of a session is which of those that an entry takes.
-use Rattle.std.proofs.Common.{◌≡◌, ◌∙◌, sym, subst, ap, refl, inl, inr, ℕ, zero, suc, ◌+◌, ◌<◌, ◌≤◌, Bool, true, false, List, [], ◌∷◌, ◌++◌, length, drop, arith, Some, slice_get}
+use Rattle.std.proofs.Common.{◌≡◌, ◌∙◌, sym, subst, ap, refl, inl, inr, ℕ, zero, suc, ◌+◌, ◌<◌, ◌≤◌, Bool, true, false, List, [], ◌∷◌, ◌++◌, length, drop}
+use Rattle.std.proofs.Common.{arith, Some, slice_get}
 use Rattle.std.specs.Prelude.{cond, nat_le}
 use Rattle.std.specs.List.{list_all}
 use Rattle.std.proofs.lemmas.Bool.{and_parts, leb-true}
@@ -105,7 +106,8 @@ taken-were-due setup before e s n t =
 -- ---- unsquashable and squashed presents
 
 -- an item that ends a list up to the first such one is its last
-ends-last : {A : Type 0} (ends : A → Bool) (xs : List A) (i : ℕ) (x : A) → slice_get (up_to_first ends xs) i ≡ Some x → ends x ≡ true → length (up_to_first ends xs) ≡ suc i
+ends-last : {A : Type 0} (ends : A → Bool) (xs : List A) (i : ℕ) (x : A) → slice_get (up_to_first ends xs) i ≡ Some x → ends x ≡ true
+    → length (up_to_first ends xs) ≡ suc i
 ends-last ends [] i x is end = absurd (cc)
 ends-last ends (y ∷ xs) zero x is end =
     let same : y ≡ x = cc in

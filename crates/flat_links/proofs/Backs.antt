@@ -12,7 +12,8 @@ parted q [] = omega arith
 parted q (x ∷ xs) = by_test (parted q xs) (q x)
   where
     by_test : length (filter (λ y. not (q y)) xs) + length (filter q xs) ≡ length xs → (b : Bool)
-        → length (cond (not b) (x ∷ filter (λ y. not (q y)) xs) (filter (λ y. not (q y)) xs)) + length (cond b (x ∷ filter q xs) (filter q xs)) ≡ length (x ∷ xs)
+        → length (cond (not b) (x ∷ filter (λ y. not (q y)) xs) (filter (λ y. not (q y)) xs)) + length (cond b (x ∷ filter q xs) (filter q xs))
+        ≡ length (x ∷ xs)
     by_test rest true = omega (arith, rest)
     by_test rest false = omega (arith, rest)
 
@@ -32,7 +33,8 @@ pub put-in-place : (one : OutToken) (outs : List OutToken) → insert outs (plac
 put-in-place one [] = refl
 put-in-place one (out ∷ outs) = by_test (put-in-place one outs) (nat_lt one.pair.0 out.pair.0)
   where
-    by_test : insert outs (place_of one.pair.0 outs) one ≡ with_out one outs → (b : Bool) → insert (out ∷ outs) (cond b 0 (place_of one.pair.0 outs + 1)) one ≡ cond b (one ∷ out ∷ outs) (out ∷ with_out one outs)
+    by_test : insert outs (place_of one.pair.0 outs) one ≡ with_out one outs → (b : Bool)
+        → insert (out ∷ outs) (cond b 0 (place_of one.pair.0 outs + 1)) one ≡ cond b (one ∷ out ∷ outs) (out ∷ with_out one outs)
     by_test rest true = refl
     by_test rest false = rw add-one (ap (λ (l : List OutToken). out ∷ l) rest)
 

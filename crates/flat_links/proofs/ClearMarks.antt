@@ -34,7 +34,8 @@ and-true true b is = is
 and-true false b is = refl
 
 -- one that the calls clear, and then the others
-pub clears-more : (one : Live) (live : List Live) (calls : List Call) (k : ℕ) (a b c : List PairState) → is_cleared one.name calls ≡ true → ClearsOne one.pair k a b → ClearsLive live calls k b c → ClearsLive (one ∷ live) calls k a c
+pub clears-more : (one : Live) (live : List Live) (calls : List Call) (k : ℕ) (a b c : List PairState) → is_cleared one.name calls ≡ true
+    → ClearsOne one.pair k a b → ClearsLive live calls k b c → ClearsLive (one ∷ live) calls k a c
 clears-more one live calls k a b c is first later = record {
   count = later.count ∙ first.count;
   each = λ i d below.
@@ -42,17 +43,20 @@ clears-more one live calls k a b c is first later = record {
       let x : PairState = slice_index_or a i d in
       later.each i d (omega (arith, below, first.count)) ∙ ap (cleared_if (clears_pair q live calls) k) (first.each i d below)
       ∙ ap (with_clear x) (stamp-or x.cleared (one.pair.0 == i) (clears_pair q live calls) k)
-      ∙ ap (λ (t : Bool). with_clear x (stamp_then x.cleared (t || clears_pair q live calls) k)) (sym (and-true (one.pair.0 == i) (is_cleared one.name calls) is));
+      ∙ ap (λ (t : Bool). with_clear x (stamp_then x.cleared (t || clears_pair q live calls) k))
+      (sym (and-true (one.pair.0 == i) (is_cleared one.name calls) is));
 }
 
 -- one that they don't
-pub clears-less : (one : Live) (live : List Live) (calls : List Call) (k : ℕ) (a c : List PairState) → is_cleared one.name calls ≡ false → ClearsLive live calls k a c → ClearsLive (one ∷ live) calls k a c
+pub clears-less : (one : Live) (live : List Live) (calls : List Call) (k : ℕ) (a c : List PairState) → is_cleared one.name calls ≡ false
+    → ClearsLive live calls k a c → ClearsLive (one ∷ live) calls k a c
 clears-less one live calls k a c is later = record {
   count = later.count;
   each = λ i d below.
       let q : PairNo = record { 0 = i } in
       let x : PairState = slice_index_or a i d in
-      later.each i d below ∙ ap (λ (t : Bool). with_clear x (stamp_then x.cleared (t || clears_pair q live calls) k)) (sym (and_right (one.pair.0 == i) (is_cleared one.name calls) is));
+      later.each i d below ∙ ap (λ (t : Bool). with_clear x (stamp_then x.cleared (t || clears_pair q live calls) k))
+      (sym (and_right (one.pair.0 == i) (is_cleared one.name calls) is));
 }
 
 no-clear : (name : ContentId) (calls : List Call) → list_any is_clear calls ≡ false → is_cleared name calls ≡ false
@@ -66,17 +70,22 @@ no-clear name (Clear ∷ calls) none = let wrong : true ≡ false = none in cc
 no-clear name (_ ∷ calls) none = no-clear name calls none
 
 -- calls without a Clear
-pub clears-nothing : (live : List Live) (calls : List Call) (k : ℕ) (pairs : List PairState) → list_any is_clear calls ≡ false → ClearsLive live calls k pairs pairs
+pub clears-nothing : (live : List Live) (calls : List Call) (k : ℕ) (pairs : List PairState) → list_any is_clear calls ≡ false
+    → ClearsLive live calls k pairs pairs
 clears-nothing [] calls k pairs none = clears-none calls k pairs
-clears-nothing (one ∷ live) calls k pairs none = clears-less one live calls k pairs pairs (no-clear one.name calls none) (clears-nothing live calls k pairs none)
+clears-nothing (one ∷ live) calls k pairs none = clears-less one live calls k pairs pairs (no-clear one.name calls none)
+    (clears-nothing live calls k pairs none)
 
 -- calls that clear the same viewports do the same
-same-pair : (p : PairNo) (live : List Live) (calls calls' : List Call) → ((name : ContentId) → is_cleared name calls' ≡ is_cleared name calls) → clears_pair p live calls' ≡ clears_pair p live calls
+same-pair : (p : PairNo) (live : List Live) (calls calls' : List Call) → ((name : ContentId) → is_cleared name calls' ≡ is_cleared name calls)
+    → clears_pair p live calls' ≡ clears_pair p live calls
 same-pair p [] calls calls' same = refl
 same-pair p (one ∷ live) calls calls' same = rw (same one.name, same-pair p live calls calls' same) refl
 
-pub clears-same : (live : List Live) (calls calls' : List Call) (k : ℕ) (a b : List PairState) → ((name : ContentId) → is_cleared name calls' ≡ is_cleared name calls) → ClearsLive live calls' k a b → ClearsLive live calls k a b
+pub clears-same : (live : List Live) (calls calls' : List Call) (k : ℕ) (a b : List PairState)
+    → ((name : ContentId) → is_cleared name calls' ≡ is_cleared name calls) → ClearsLive live calls' k a b → ClearsLive live calls k a b
 clears-same live calls calls' k a b same clears = record {
   count = clears.count;
-  each = λ i d below. let q : PairNo = record { 0 = i } in clears.each i d below ∙ ap (λ (t : Bool). cleared_if t k (slice_index_or a i d)) (same-pair q live calls calls' same);
+  each = λ i d below. let q : PairNo = record { 0 = i } in clears.each i d below
+      ∙ ap (λ (t : Bool). cleared_if t k (slice_index_or a i d)) (same-pair q live calls calls' same);
 }

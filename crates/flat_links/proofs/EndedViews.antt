@@ -38,17 +38,22 @@ item-there [] i below = absurd (omega (arith, below))
 item-there (x ∷ xs) zero below = (x, refl, refl)
 item-there (x ∷ xs) (suc i) below = item-there xs i (omega arith)
 
-pub end-of : (setup : Setup) (s : SessionNo) (h : List Entry) {followings : List Following} (pairs : List PairState) → AreTied setup h followings pairs → (p : PairNo) → owns_view setup s p ≡ true → IsEndOf setup s h pairs p
+pub end-of : (setup : Setup) (s : SessionNo) (h : List Entry) {followings : List Following} (pairs : List PairState) → AreTied setup h followings pairs
+    → (p : PairNo) → owns_view setup s p ≡ true → IsEndOf setup s h pairs p
 end-of setup s h pairs tied p owned =
     let owner : view_owner setup p ≡ Some s = owner-of s (view_owner setup p) owned in
-    let below : p.0 < length pairs = (let declared : p.0 < length setup.pairs = declared-pair (λ pair. pair.view) s setup.pairs p.0 owner in omega (arith, declared, tied.count)) in
+    let below : p.0 < length pairs = (let declared : p.0 < length setup.pairs = declared-pair (λ pair. pair.view) s setup.pairs p.0 owner in
+    omega (arith, declared, tied.count)) in
     let state = item-there pairs p.0 below in
     let kept = tied.each_pair p.0 state.0 below in
-    let is : end_stamp pairs p ≡ (slice_index_or pairs p.0 state.0).ended = ap (option_and_then (λ (x : PairState). x.ended)) state.1 ∙ sym (ap (λ (x : PairState). x.ended) state.2) in
+    let is : end_stamp pairs p ≡ (slice_index_or pairs p.0 state.0).ended =
+    ap (option_and_then (λ (x : PairState). x.ended)) state.1 ∙ sym (ap (λ (x : PairState). x.ended) state.2) in
     record { owner = owner; stamp = rw is (kept.ended s owner) }
 
 -- whether it has, while the session is open
-pub ended-is : (setup : Setup) (s : SessionNo) (h : List Entry) {followings : List Following} (pairs : List PairState) → AreTied setup h followings pairs → is_closed s h ≡ false → (p : PairNo) → owns_view setup s p ≡ true
+pub ended-is : (setup : Setup) (s : SessionNo) (h : List Entry) {followings : List Following} (pairs : List PairState) → AreTied setup h followings pairs
+    → is_closed s h ≡ false → (p : PairNo) → owns_view setup s p ≡ true
     → is_ended pairs p ≡ happens setup (ends_view p) (calls s h)
 ended-is setup s h pairs tied opened p owned =
-    ap is_some ((end-of setup s h pairs tied p owned).stamp.opened opened) ∙ (stamped (happens setup (ends_view p)) (happening-lasts setup (ends_view p)) s h).some
+    ap is_some ((end-of setup s h pairs tied p owned).stamp.opened opened)
+    ∙ (stamped (happens setup (ends_view p)) (happening-lasts setup (ends_view p)) s h).some

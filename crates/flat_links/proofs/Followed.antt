@@ -31,24 +31,30 @@ module _ (setup : Setup) (s : SessionNo) (h : List Entry) (e : Entry) where
   contents-own : is_session s e.actor ≡ true → length (contents_made (calls s (h ▹ e))) ≡ length (contents_made (calls s h)) + length (contents_made e.calls)
   contents-own mine =
       let all : calls s (h ▹ e) ≡ calls s h ++ e.calls = rw mine refl in
-      ap (λ (cs : List Call). length (contents_made cs)) all ∙ ap (length {A = Option PairNo}) (contents-append (calls s h) e.calls) ∙ length-append (contents_made (calls s h)) (contents_made e.calls)
+      ap (λ (cs : List Call). length (contents_made cs)) all ∙ ap (length {A = Option PairNo}) (contents-append (calls s h) e.calls)
+      ∙ length-append (contents_made (calls s h)) (contents_made e.calls)
 
   -- its own entry, of no frame
-  pub followed-own : is_session s e.actor ≡ true → is_begin e.kind ≡ false → is_finish e.kind ≡ false → (carries : List Call) → e.calls ≡ carries → (state new : Following)
+  pub followed-own : is_session s e.actor ≡ true → is_begin e.kind ≡ false → is_finish e.kind ≡ false → (carries : List Call) → e.calls ≡ carries
+      → (state new : Following)
       → ((n : ℕ) → state.contents ≡ capped n → new.contents ≡ capped (n + length (contents_made carries)))
-      → is_within new.losing (Some (length (presents s h))) ≡ true → new.begun ≡ state.begun → new.finished ≡ state.finished → IsFollowed setup h s state → IsFollowed setup (h ▹ e) s new
+      → is_within new.losing (Some (length (presents s h))) ≡ true → new.begun ≡ state.begun → new.finished ≡ state.finished → IsFollowed setup h s state
+      → IsFollowed setup (h ▹ e) s new
   followed-own mine no_begin no_finish carries carried state new contents losing begun finished old = record {
     losing = losing-stays s h e new.losing losing;
     contents = λ o.
-        contents (length (contents_made (calls s h))) (old.contents (before-open o)) ∙ ap (λ (cs : List Call). capped (length (contents_made (calls s h)) + length (contents_made cs))) (sym carried)
+        contents (length (contents_made (calls s h))) (old.contents (before-open o))
+        ∙ ap (λ (cs : List Call). capped (length (contents_made (calls s h)) + length (contents_made cs))) (sym carried)
         ∙ ap capped (sym (contents-own mine));
     begun = begun ∙ old.begun ∙ ap (λ (k : List Entry). sight_of setup k s) (sym (begin-same no_begin));
     finished = finished ∙ old.finished ∙ ap (λ (k : List Entry). sight_of setup k s) (sym (finished-same no_finish));
   }
 
   -- another's, and its own once it was closed: the calls that count stay
-  pub followed-still : (is_session s e.actor ≡ true → is_closed s h ≡ true) → (state new : Following) → new.contents ≡ state.contents → new.losing ≡ state.losing
-      → new.begun ≡ sight_of setup (to_begin (h ▹ e)) s → new.finished ≡ sight_of setup (to_finished (h ▹ e)) s → IsFollowed setup h s state → IsFollowed setup (h ▹ e) s new
+  pub followed-still : (is_session s e.actor ≡ true → is_closed s h ≡ true) → (state new : Following) → new.contents ≡ state.contents
+      → new.losing ≡ state.losing
+      → new.begun ≡ sight_of setup (to_begin (h ▹ e)) s → new.finished ≡ sight_of setup (to_finished (h ▹ e)) s → IsFollowed setup h s state
+      → IsFollowed setup (h ▹ e) s new
   followed-still shut state new contents losing begun finished old = record {
     losing = rw losing (losing-stays s h e state.losing old.losing);
     contents = λ o. contents ∙ old.contents (before-open o) ∙ ap (λ (cs : List Call). capped (length (contents_made cs))) (sym (same o));
@@ -63,6 +69,8 @@ module _ (setup : Setup) (s : SessionNo) (h : List Entry) (e : Entry) where
           by_actor false other = rw other refl
           by_actor true mine = let wrong : true ≡ false = sym (shut-stays s h e (shut mine)) ∙ o in cc
 
-  pub followed-idle : (is_session s e.actor ≡ true → is_closed s h ≡ true) → is_begin e.kind ≡ false → is_finish e.kind ≡ false → (state : Following) → IsFollowed setup h s state → IsFollowed setup (h ▹ e) s state
+  pub followed-idle : (is_session s e.actor ≡ true → is_closed s h ≡ true) → is_begin e.kind ≡ false → is_finish e.kind ≡ false → (state : Following)
+      → IsFollowed setup h s state → IsFollowed setup (h ▹ e) s state
   followed-idle shut no_begin no_finish state old =
-      followed-still shut state state refl refl (old.begun ∙ ap (λ (k : List Entry). sight_of setup k s) (sym (begin-same no_begin))) (old.finished ∙ ap (λ (k : List Entry). sight_of setup k s) (sym (finished-same no_finish))) old
+      followed-still shut state state refl refl (old.begun ∙ ap (λ (k : List Entry). sight_of setup k s) (sym (begin-same no_begin)))
+      (old.finished ∙ ap (λ (k : List Entry). sight_of setup k s) (sym (finished-same no_finish))) old

@@ -1,5 +1,6 @@
 -- What the viewports of the tree that a frame took say of the last use of a pair.
-use Rattle.std.proofs.Common.{◌≡◌, ◌∙◌, sym, subst, ℕ, ◌+◌, ◌-◌, ◌<◌, ◌≤◌, Bool, true, false, cond, List, [], ◌∷◌, length, map, filter_map, drop, refl, arith, ap, Some, None, Ok}
+use Rattle.std.proofs.Common.{◌≡◌, ◌∙◌, sym, subst, ℕ, ◌+◌, ◌-◌, ◌<◌, ◌≤◌, Bool, true, false, cond, List, [], ◌∷◌, length, map, filter_map, drop, refl, arith}
+use Rattle.std.proofs.Common.{ap, Some, None, Ok}
 use Rattle.std.specs.Prelude.{◌&&◌, ◌||◌, ◌==◌, nat_le, Option, option_and_then, option_map}
 use Rattle.std.specs.List.{list_any, list_all}
 use Rattle.std.specs.Result.{result_ok}
@@ -55,7 +56,8 @@ or-same false x = refl
 
 -- where the content of a serial is of the pair, if it is a viewport, its properties are found among those that live
 among-uses : (p : PairNo) (d : Draft) (serial : ℕ) → ((m : Made) → of_serial d.contents serial ≡ Some m → is_made_of p m ≡ true) → (vs : List ℕ)
-    → props_among p (filter_map (use_of d) vs) serial ≡ cond (list_any (λ live. live == serial) vs) (option_and_then props_in (of_serial d.contents serial)) None
+    → props_among p (filter_map (use_of d) vs) serial ≡ cond (list_any (λ live. live == serial) vs) (option_and_then props_in (of_serial d.contents serial))
+    None
 among-uses p d serial fits [] = refl
 among-uses p d serial fits (v ∷ vs) = by_made (among-uses p d serial fits vs) (of_serial d.contents v) refl (v == serial) refl
   where
@@ -70,30 +72,37 @@ among-uses p d serial fits (v ∷ vs) = by_made (among-uses p d serial fits vs) 
     skipped m at none false is = refl
     skipped m at none true is =
         let same : v ≡ serial = grind (arith, nat_tests) in
-        let nothing : option_and_then props_in (of_serial d.contents serial) ≡ None = ap (λ (n : ℕ). option_and_then props_in (of_serial d.contents n)) (sym same) ∙ ap (option_and_then props_in) at ∙ none in
+        let nothing : option_and_then props_in (of_serial d.contents serial) ≡ None =
+        ap (λ (n : ℕ). option_and_then props_in (of_serial d.contents n)) (sym same) ∙ ap (option_and_then props_in) at ∙ none in
         (rw nothing (either (list_any (λ live. live == serial) vs))) ∙ sym nothing
 
     by_made : props_among p (filter_map (use_of d) vs) serial ≡ rest → (m : Option Made) → of_serial d.contents v ≡ m → (b : Bool) → (v == serial) ≡ b
-        → props_among p (filter_map (use_of d) (v ∷ vs)) serial ≡ cond (b || list_any (λ live. live == serial) vs) (option_and_then props_in (of_serial d.contents serial)) None
+        → props_among p (filter_map (use_of d) (v ∷ vs)) serial
+        ≡ cond (b || list_any (λ live. live == serial) vs) (option_and_then props_in (of_serial d.contents serial)) None
     by_made later None at b is = rw at (later ∙ skipped None at refl b is)
     by_made later (Some (an_image i)) at b is = rw at (later ∙ skipped (Some (an_image i)) at refl b is)
     by_made later (Some (a_fill x)) at b is = rw at (later ∙ skipped (Some (a_fill x)) at refl b is)
     by_made later (Some (a_viewport q props)) at false is =
         let off : (q.0 == p.0 && v == serial) ≡ false = and_right (q.0 == p.0) (v == serial) is in
-        rw at (ap (λ (b : Bool). option_or (props_among p (filter_map (use_of d) vs) serial) (cond b (Some props) None)) off ∙ or-none (props_among p (filter_map (use_of d) vs) serial) ∙ later)
+        rw at (ap (λ (b : Bool). option_or (props_among p (filter_map (use_of d) vs) serial) (cond b (Some props) None)) off
+        ∙ or-none (props_among p (filter_map (use_of d) vs) serial) ∙ later)
     by_made later (Some (a_viewport q props)) at true is =
         let found : of_serial d.contents serial ≡ Some (a_viewport q props) = here (a_viewport q props) at is in
         let mine : (q.0 == p.0) ≡ true = fits (a_viewport q props) found in
         let props_are : option_and_then props_in (of_serial d.contents serial) ≡ Some props = ap (option_and_then props_in) found in
-        let before : props_among p (filter_map (use_of d) vs) serial ≡ cond (list_any (λ live. live == serial) vs) (Some props) None = later ∙ ap (λ (o : Option ViewportProps). cond (list_any (λ live. live == serial) vs) o None) props_are in
-        rw at (rw (mine, is) (ap (λ (o : Option ViewportProps). option_or o (Some props)) before ∙ or-same (list_any (λ live. live == serial) vs) props) ∙ sym props_are)
+        let before : props_among p (filter_map (use_of d) vs) serial ≡ cond (list_any (λ live. live == serial) vs) (Some props) None =
+        later ∙ ap (λ (o : Option ViewportProps). cond (list_any (λ live. live == serial) vs) o None) props_are in
+        rw at (rw (mine, is) (ap (λ (o : Option ViewportProps). option_or o (Some props)) before ∙ or-same (list_any (λ live. live == serial) vs) props)
+        ∙ sym props_are)
 
 -- of a pair that isn't owned there is none
-among-foreign : (setup : Setup) (s : SessionNo) (p : PairNo) → owns_viewport setup s p ≡ false → (d : Draft) → list_all (made_owned setup s) d.contents ≡ true → (n : ℕ) (vs : List ℕ) → props_among p (filter_map (use_of d) vs) n ≡ None
+among-foreign : (setup : Setup) (s : SessionNo) (p : PairNo) → owns_viewport setup s p ≡ false → (d : Draft) → list_all (made_owned setup s) d.contents ≡ true
+    → (n : ℕ) (vs : List ℕ) → props_among p (filter_map (use_of d) vs) n ≡ None
 among-foreign setup s p foreign d owned n [] = refl
 among-foreign setup s p foreign d owned n (v ∷ vs) = by_made (among-foreign setup s p foreign d owned n vs) (of_serial d.contents v) refl
   where
-    by_made : props_among p (filter_map (use_of d) vs) n ≡ None → (m : Option Made) → of_serial d.contents v ≡ m → props_among p (filter_map (use_of d) (v ∷ vs)) n ≡ None
+    by_made : props_among p (filter_map (use_of d) vs) n ≡ None → (m : Option Made) → of_serial d.contents v ≡ m
+        → props_among p (filter_map (use_of d) (v ∷ vs)) n ≡ None
     by_made later None at = rw at later
     by_made later (Some (an_image i)) at = rw at later
     by_made later (Some (a_fill x)) at = rw at later
@@ -103,32 +112,42 @@ among-foreign setup s p foreign d owned n (v ∷ vs) = by_made (among-foreign se
         rw at (rw (other, later) refl)
 
 -- a serial that a pair has leads to a content of the pair
-serial-pair : (p : PairNo) (next : ℕ) (ms : List Made) (n x : ℕ) → of_serial (serials_of p next ms) n ≡ Some x → (next ≤ x) × ((m : Made) → of_serial ms (x + 1 - next) ≡ Some m → is_made_of p m ≡ true)
+serial-pair : (p : PairNo) (next : ℕ) (ms : List Made) (n x : ℕ) → of_serial (serials_of p next ms) n ≡ Some x
+    → (next ≤ x) × ((m : Made) → of_serial ms (x + 1 - next) ≡ Some m → is_made_of p m ≡ true)
 serial-pair p next [] n x is = cc
 serial-pair p next (first ∷ ms) n x is = by_pair (λ k h. serial-pair p (next + 1) ms k x h) (is_made_of p first) refl is
   where
-    later : (next + 1 ≤ x) × ((m : Made) → of_serial ms (x + 1 - (next + 1)) ≡ Some m → is_made_of p m ≡ true) → (next ≤ x) × ((m : Made) → of_serial (first ∷ ms) (x + 1 - next) ≡ Some m → is_made_of p m ≡ true)
+    later : (next + 1 ≤ x) × ((m : Made) → of_serial ms (x + 1 - (next + 1)) ≡ Some m → is_made_of p m ≡ true)
+        → (next ≤ x) × ((m : Made) → of_serial (first ∷ ms) (x + 1 - next) ≡ Some m → is_made_of p m ≡ true)
     later rest =
         let few : next + 1 ≤ x = rest.0 in
         let past : (x + 1 - next == 1) ≡ false = grind (arith, nat_tests) in
         let less : x + 1 - (next + 1) ≡ x + 1 - next - 1 = omega arith in
         (omega (arith, few), λ m at. rest.1 m (ap (of_serial ms) less ∙ sym (rw past refl) ∙ at))
 
-    by_place : ((k : ℕ) → of_serial (serials_of p (next + 1) ms) k ≡ Some x → (next + 1 ≤ x) × ((m : Made) → of_serial ms (x + 1 - (next + 1)) ≡ Some m → is_made_of p m ≡ true)) → is_made_of p first ≡ true
-        → (b : Bool) → cond b (Some next) (of_serial (serials_of p (next + 1) ms) (n - 1)) ≡ Some x → (next ≤ x) × ((m : Made) → of_serial (first ∷ ms) (x + 1 - next) ≡ Some m → is_made_of p m ≡ true)
+    by_place : ((k : ℕ) → of_serial (serials_of p (next + 1) ms) k ≡ Some x
+        → (next + 1 ≤ x) × ((m : Made) → of_serial ms (x + 1 - (next + 1)) ≡ Some m → is_made_of p m ≡ true)) → is_made_of p first ≡ true
+        → (b : Bool) → cond b (Some next) (of_serial (serials_of p (next + 1) ms) (n - 1)) ≡ Some x
+        → (next ≤ x) × ((m : Made) → of_serial (first ∷ ms) (x + 1 - next) ≡ Some m → is_made_of p m ≡ true)
     by_place rest mine false h = later (rest (n - 1) h)
     by_place rest mine true h =
         let same : next ≡ x = cc in
-        let one : x + 1 - next ≡ 1 = omega (arith, same) in
-        (omega (arith, same), λ m at. let found : Some first ≡ Some m = ap (of_serial (first ∷ ms)) (sym one) ∙ at in let it : first ≡ m = cc in ap (is_made_of p) (sym it) ∙ mine)
+        let one : x + 1 - next ≡ 1 = omega (arith, same) in (
+          omega (arith, same),
+          λ m at. let found : Some first ≡ Some m = ap (of_serial (first ∷ ms)) (sym one) ∙ at in let it : first ≡ m = cc in
+              ap (is_made_of p) (sym it) ∙ mine,
+        )
 
-    by_pair : ((k : ℕ) → of_serial (serials_of p (next + 1) ms) k ≡ Some x → (next + 1 ≤ x) × ((m : Made) → of_serial ms (x + 1 - (next + 1)) ≡ Some m → is_made_of p m ≡ true)) → (b : Bool) → is_made_of p first ≡ b
-        → of_serial (cond b (next ∷ serials_of p (next + 1) ms) (serials_of p (next + 1) ms)) n ≡ Some x → (next ≤ x) × ((m : Made) → of_serial (first ∷ ms) (x + 1 - next) ≡ Some m → is_made_of p m ≡ true)
+    by_pair : ((k : ℕ) → of_serial (serials_of p (next + 1) ms) k ≡ Some x
+        → (next + 1 ≤ x) × ((m : Made) → of_serial ms (x + 1 - (next + 1)) ≡ Some m → is_made_of p m ≡ true)) → (b : Bool) → is_made_of p first ≡ b
+        → of_serial (cond b (next ∷ serials_of p (next + 1) ms) (serials_of p (next + 1) ms)) n ≡ Some x
+        → (next ≤ x) × ((m : Made) → of_serial (first ∷ ms) (x + 1 - next) ≡ Some m → is_made_of p m ≡ true)
     by_pair rest true mine h = by_place rest mine (n == 1) h
     by_pair rest false other h = later (rest n h)
 
 -- the content of the last use's serial is of the pair
-serial-fits : (setup : Setup) (cs : List Call) (d : Draft) → draft_of setup cs ≡ Ok d → (p : PairNo) (n serial : ℕ) → Has p n serial cs → (m : Made) → of_serial d.contents serial ≡ Some m → is_made_of p m ≡ true
+serial-fits : (setup : Setup) (cs : List Call) (d : Draft) → draft_of setup cs ≡ Ok d → (p : PairNo) (n serial : ℕ) → Has p n serial cs → (m : Made)
+    → of_serial d.contents serial ≡ Some m → is_made_of p m ≡ true
 serial-fits setup cs d good p n serial has m at =
     let contents : map pair_made d.contents ≡ contents_made cs = draft-contents setup cs d good in
     let count : length (contents_made cs) ≡ length d.contents = ap (length {A = Option PairNo}) (sym contents) ∙ length-map d.contents pair_made in
@@ -144,7 +163,9 @@ serial-fits setup cs d good p n serial has m at =
 viewports-are : (d : Draft) (t : Tree) → tree d ≡ Some t → t.viewports ≡ filter_map (use_of d) d.viewports
 viewports-are d t is = by_nodes (all_nodes d) (tree-unfolded d t is)
   where
-    by_nodes : (all : Option Children) → option_map (λ all. let u : Tree = record { view = d.view; root = head_of all; viewports = filter_map (use_of d) d.viewports } in u) all ≡ Some t → t.viewports ≡ filter_map (use_of d) d.viewports
+    by_nodes : (all : Option Children) → option_map (λ all. let u : Tree =
+        record { view = d.view; root = head_of all; viewports = filter_map (use_of d) d.viewports } in u) all ≡ Some t
+        → t.viewports ≡ filter_map (use_of d) d.viewports
     by_nodes None h = cc
     by_nodes (Some all) h =
         let same : record { view = d.view; root = head_of all; viewports = filter_map (use_of d) d.viewports } ≡ t = cc in
@@ -191,7 +212,8 @@ module _ (setup : Setup) (v : SessionNo) (k h : List Entry) (legal : Legal setup
       by_present (Some present) it =
           let t = in-tree present it in
           let none : of_serial t.draft.contents 0 ≡ None = serial-zero t.draft.contents in
-          ap (λ (us : List ViewportUse). props_among p us 0) t.uses ∙ among-uses p t.draft 0 (λ m at. let wrong : None ≡ Some m = sym none ∙ at in cc) t.draft.viewports
+          ap (λ (us : List ViewportUse). props_among p us 0) t.uses
+          ∙ among-uses p t.draft 0 (λ m at. let wrong : None ≡ Some m = sym none ∙ at in cc) t.draft.viewports
           ∙ (rw none (either (list_any (λ live. live == 0) t.draft.viewports)))
 
   -- of the last use it has the properties that the calls which were taken gave it
@@ -200,10 +222,12 @@ module _ (setup : Setup) (v : SessionNo) (k h : List Entry) (legal : Legal setup
   last-uses serial some is = by_present (last_taken setup k v) refl sound ∙ sym (seen-props setup v p k h serial legal before some is)
     where
       tells : Has p (length (viewport_uses p h)) serial (taken_calls setup k v)
-      tells = subst (Has p (length (viewport_uses p h)) serial) (sym (calls-taken setup v k h before)) (is.tells (taken setup k v) (taken-fits setup v k h before))
+      tells = subst (Has p (length (viewport_uses p h)) serial) (sym (calls-taken setup v k h before))
+          (is.tells (taken setup k v) (taken-fits setup v k h before))
 
       by_present : (o : Option Published) → last_taken setup k v ≡ o → MaySound setup v o
-          → props_among p (uses_in (option_and_then (tree_of setup) o)) serial ≡ option_and_then (λ (t : Tree). props_at_serial t.viewports serial) (option_and_then (tree_of setup) o)
+          → props_among p (uses_in (option_and_then (tree_of setup) o)) serial
+          ≡ option_and_then (λ (t : Tree). props_at_serial t.viewports serial) (option_and_then (tree_of setup) o)
       by_present None at it = refl
       by_present (Some present) at it =
           let d : Draft = it.0 in
@@ -213,7 +237,8 @@ module _ (setup : Setup) (v : SessionNo) (k h : List Entry) (legal : Legal setup
           let has : Has p (length (viewport_uses p h)) serial present.made = rw at at tells in
           let fits = serial-fits setup present.made it.0 it.1.made p (length (viewport_uses p h)) serial has in
           let same : props_among p t.0.viewports serial ≡ props_at_serial t.0.viewports serial =
-          ap (λ (us : List ViewportUse). props_among p us serial) uses ∙ among-uses p it.0 serial fits it.0.viewports ∙ sym (uses-props it.0 serial it.0.viewports)
+          ap (λ (us : List ViewportUse). props_among p us serial) uses ∙ among-uses p it.0 serial fits it.0.viewports
+          ∙ sym (uses-props it.0 serial it.0.viewports)
           ∙ ap (λ (us : List ViewportUse). props_at_serial us serial) (sym uses) in
           rw tree_is same
 
@@ -222,7 +247,8 @@ module _ (setup : Setup) (v : SessionNo) (k h : List Entry) (legal : Legal setup
 module _ (setup : Setup) (v : SessionNo) where
   -- what the last finished frame had is seen already
   pub seen-already : (p : PairNo) (n : ℕ) (h : List Entry)
-      → option_or (option_and_then (props_of p n) (result_ok (draft_of setup (taken_calls setup (to_finished h) v)))) (props_seen setup p n v h) ≡ props_seen setup p n v h
+      → option_or (option_and_then (props_of p n) (result_ok (draft_of setup (taken_calls setup (to_finished h) v)))) (props_seen setup p n v h)
+      ≡ props_seen setup p n v h
   seen-already p n [] = refl
   seen-already p n (h ▹ e) = by_kind (seen-already p n h) (is_finish e.kind) refl
     where
@@ -234,7 +260,8 @@ module _ (setup : Setup) (v : SessionNo) where
       twice None y = refl
 
       by_kind : option_or (had (to_finished h)) (props_seen setup p n v h) ≡ props_seen setup p n v h → (b : Bool) → is_finish e.kind ≡ b
-          → option_or (had (cond b (to_begin h) (to_finished h))) (option_or (cond b (had (to_begin h)) None) (props_seen setup p n v h)) ≡ option_or (cond b (had (to_begin h)) None) (props_seen setup p n v h)
+          → option_or (had (cond b (to_begin h) (to_finished h))) (option_or (cond b (had (to_begin h)) None) (props_seen setup p n v h))
+          ≡ option_or (cond b (had (to_begin h)) None) (props_seen setup p n v h)
       by_kind before true is = twice (had (to_begin h)) (props_seen setup p n v h)
       by_kind before false is = before
 
@@ -251,7 +278,8 @@ module _ (setup : Setup) (v : SessionNo) where
       not_mine begins false is = refl
       not_mine begins true mine = let wrong : true ≡ false = sym begins ∙ no-begin setup v h e legal mine in cc
 
-      by_kind : (is_closed v (to_begin h) ≡ true → taken setup (to_begin h) v ≡ taken setup (drop 1 (to_begin h)) v) → (b : Bool) → is_begin e.kind ≡ b → is_closed v (cond b (h ▹ e) (to_begin h)) ≡ true
+      by_kind : (is_closed v (to_begin h) ≡ true → taken setup (to_begin h) v ≡ taken setup (drop 1 (to_begin h)) v) → (b : Bool) → is_begin e.kind ≡ b
+          → is_closed v (cond b (h ▹ e) (to_begin h)) ≡ true
           → taken setup (cond b (h ▹ e) (to_begin h)) v ≡ taken setup (drop 1 (cond b (h ▹ e) (to_begin h))) v
       by_kind before false quiet s = before s
       by_kind before true begins s =

@@ -1,5 +1,6 @@
 -- What is kept before any entry.
-use Rattle.std.proofs.Common.{◌≡◌, ◌∙◌, sym, subst, ℕ, zero, suc, ◌+◌, ◌<◌, Bool, false, List, [], ◌∷◌, length, map, replicate, refl, arith, ap, Some, None, slice_index_or}
+use Rattle.std.proofs.Common.{◌≡◌, ◌∙◌, sym, subst, ℕ, zero, suc, ◌+◌, ◌<◌, Bool, false, List, [], ◌∷◌, length, map, replicate, refl, arith, ap, Some, None}
+use Rattle.std.proofs.Common.{slice_index_or}
 use Rattle.std.specs.Prelude.{Option}
 use Rattle.std.proofs.lemmas.List.{get_or-replicate, length-replicate}
 use Rattle.flat_base.specs.declared.ids.SessionNo.{SessionNo}
@@ -33,7 +34,8 @@ from-nowhere shown none (Some p) = led-nowhere shown none (length shown) p
 
 not-connected : (setup : Setup) (s : SessionNo) → is_connected setup [] s ≡ false
 not-connected setup s =
-    let none : sessions_in (join setup (shown_states setup [])) ≡ [] = from-nowhere (shown_states setup []) (λ n p. no-viewer (shown setup []) (λ t. refl) n p (sessions_to setup.sessions)) (display_pair setup) in
+    let none : sessions_in (join setup (shown_states setup [])) ≡ [] =
+    from-nowhere (shown_states setup []) (λ n p. no-viewer (shown setup []) (λ t. refl) n p (sessions_to setup.sessions)) (display_pair setup) in
     rw none refl
 
 nothing-seen : (setup : Setup) (s : SessionNo) → nothing ≡ sight_of setup [] s
@@ -56,7 +58,8 @@ new-kept setup i = record {
   pending = λ v owner. refl;
 }
 
-pub new-tied : (setup : Setup) (followings : List Following) (pairs : List PairState) (n : ℕ) → followings ≡ replicate setup.sessions new_following → pairs ≡ replicate n new_pair → n ≡ length setup.pairs → AreTied setup [] followings pairs
+pub new-tied : (setup : Setup) (followings : List Following) (pairs : List PairState) (n : ℕ) → followings ≡ replicate setup.sessions new_following
+    → pairs ≡ replicate n new_pair → n ≡ length setup.pairs → AreTied setup [] followings pairs
 new-tied setup followings pairs n all each count =
     let many : length followings ≡ setup.sessions = ap (length {A = Following}) all ∙ length-replicate setup.sessions new_following in
     let long : length pairs ≡ n = ap (length {A = PairState}) each ∙ length-replicate n new_pair in
@@ -64,12 +67,15 @@ new-tied setup followings pairs n all each count =
       sessions = many;
       count = long ∙ count;
       each_session = λ i d below.
-          let is : slice_index_or followings i d ≡ new_following = ap (λ (xs : List Following). slice_index_or xs i d) all ∙ get_or-replicate setup.sessions i new_following d (omega (arith, below, many)) in
+          let is : slice_index_or followings i d ≡ new_following =
+          ap (λ (xs : List Following). slice_index_or xs i d) all ∙ get_or-replicate setup.sessions i new_following d (omega (arith, below, many)) in
           subst (IsFollowed setup [] (number i)) (sym is) (new-followed setup (number i));
       each_pair = λ i d below.
-          let is : slice_index_or pairs i d ≡ new_pair = ap (λ (xs : List PairState). slice_index_or xs i d) each ∙ get_or-replicate n i new_pair d (omega (arith, below, long)) in
+          let is : slice_index_or pairs i d ≡ new_pair = ap (λ (xs : List PairState). slice_index_or xs i d) each
+          ∙ get_or-replicate n i new_pair d (omega (arith, below, long)) in
           subst (IsPairKept setup [] (pair i)) (sym is) (new-kept setup i);
       bound = λ i d below.
-          let is : slice_index_or pairs i d ≡ new_pair = ap (λ (xs : List PairState). slice_index_or xs i d) each ∙ get_or-replicate n i new_pair d (omega (arith, below, long)) in
+          let is : slice_index_or pairs i d ≡ new_pair = ap (λ (xs : List PairState). slice_index_or xs i d) each
+          ∙ get_or-replicate n i new_pair d (omega (arith, below, long)) in
           subst (IsBound setup (losings followings) (pair i)) (sym is) (record { ended = λ w owner. refl; cleared = λ v owner. refl });
     }

@@ -19,7 +19,8 @@ third-not = refl
 
 noted-before : (i : ℕ) (ps : List PairNo) (p : PairNo) → is_noted i (ps ++ p ∷ []) ≡ false → is_noted i ps ≡ false
 noted-before i [] p h = refl
-noted-before i (q ∷ ps) p h = or-false (none-left (q.0 == i) (is_noted i (ps ++ p ∷ [])) h) (noted-before i ps p (none-right (q.0 == i) (is_noted i (ps ++ p ∷ [])) h))
+noted-before i (q ∷ ps) p h = or-false (none-left (q.0 == i) (is_noted i (ps ++ p ∷ [])) h)
+    (noted-before i ps p (none-right (q.0 == i) (is_noted i (ps ++ p ∷ [])) h))
 
 noted-last : (i : ℕ) (ps : List PairNo) (p : PairNo) → is_noted i (ps ++ p ∷ []) ≡ false → (p.0 == i) ≡ false
 noted-last i [] p h = none-left (p.0 == i) false h
@@ -49,7 +50,8 @@ settled-start noted old kept = record {
   again = λ i d below. refl;
 }
 
-pub settled-on : (p : PairNo) (left : List PairNo) (old now next : List PairState) → SettlesOne p now next → SettledBut (p ∷ left) old now → SettledBut left old next
+pub settled-on : (p : PairNo) (left : List PairNo) (old now next : List PairState) → SettlesOne p now next → SettledBut (p ∷ left) old now
+    → SettledBut left old next
 settled-on p left old now next one so_far = record {
   count = one.count ∙ so_far.count;
   each = λ i d below none.
@@ -61,7 +63,8 @@ settled-on p left old now next one so_far = record {
       again_by (slice_index_or old i d) (slice_index_or now i d) (slice_index_or next i d) (p.0 == i) (one.each i d within) (so_far.again i d below);
 }
   where
-    by_place : (was now next : PairState) (b : Bool) → next ≡ cond b (settled now) now → settled now ≡ settled was → (b ≡ false → now ≡ settled was) → next ≡ settled was
+    by_place : (was now next : PairState) (b : Bool) → next ≡ cond b (settled now) now → settled now ≡ settled was → (b ≡ false → now ≡ settled was)
+        → next ≡ settled was
     by_place was now next true is again each = is ∙ again
     by_place was now next false is again each = is ∙ each refl
 

@@ -29,19 +29,23 @@ within-more m n less = grind (arith, nat_tests)
 presents-rise : (s : SessionNo) (h : List Entry) (e : Entry) (b : Bool) → is_session s e.actor ≡ b → length (presents s h) ≤ length (presents s (h ▹ e))
 presents-rise s h e true mine =
     let more : List Published = published e.kind e.reply (calls s h ++ e.calls) in
-    let count : length (presents s (h ▹ e)) ≡ length (presents s h) + length more = ap (length {A = Published}) (presents-own s h e mine) ∙ length-append (presents s h) more in
+    let count : length (presents s (h ▹ e)) ≡ length (presents s h) + length more =
+    ap (length {A = Published}) (presents-own s h e mine) ∙ length-append (presents s h) more in
     omega (arith, count)
 presents-rise s h e false other =
     let count : length (presents s (h ▹ e)) ≡ length (presents s h) = ap (length {A = Published}) (presents-other s h e other) in
     omega (arith, count)
 
 -- what was no later than the presents of before is no later than those of now
-pub losing-stays : (s : SessionNo) (h : List Entry) (e : Entry) (losing : Option ℕ) → is_within losing (Some (length (presents s h))) ≡ true → is_within losing (Some (length (presents s (h ▹ e)))) ≡ true
+pub losing-stays : (s : SessionNo) (h : List Entry) (e : Entry) (losing : Option ℕ) → is_within losing (Some (length (presents s h))) ≡ true
+    → is_within losing (Some (length (presents s (h ▹ e)))) ≡ true
 losing-stays s h e losing is =
-    within-trans losing (Some (length (presents s h))) (Some (length (presents s (h ▹ e)))) is (within-more (length (presents s h)) (length (presents s (h ▹ e))) (presents-rise s h e (is_session s e.actor) refl))
+    within-trans losing (Some (length (presents s h))) (Some (length (presents s (h ▹ e)))) is
+    (within-more (length (presents s h)) (length (presents s (h ▹ e))) (presents-rise s h e (is_session s e.actor) refl))
 
 -- calls after which it may have lost an end
-pub losing-next : (carries : List Call) (n : ℕ) (losing : Option ℕ) → is_within losing (Some n) ≡ true → (is_within losing (losing_then carries n losing) ≡ true) × (is_within (losing_then carries n losing) (Some n) ≡ true)
+pub losing-next : (carries : List Call) (n : ℕ) (losing : Option ℕ) → is_within losing (Some n) ≡ true
+    → (is_within losing (losing_then carries n losing) ≡ true) × (is_within (losing_then carries n losing) (Some n) ≡ true)
 losing-next carries n losing is = by_loss (list_any is_loss carries)
   where
     by_loss : (b : Bool) → (is_within losing (cond b (Some n) losing) ≡ true) × (is_within (cond b (Some n) losing) (Some n) ≡ true)

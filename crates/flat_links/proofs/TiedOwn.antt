@@ -17,7 +17,8 @@ use Rattle.flat_rules.proofs.lemmas.Locality.{same-session}
 use Rattle.flat_links.proofs.lemmas.TiesSteps.{tied-idle}
 
 -- of one that is open
-pub own-entry : (setup : Setup) (h : List Entry) (e : Entry) (s : SessionNo) (carries : List Call) (state : SessionState) (ends : Viewports) → IsOwn setup h e s carries state ends → is_closed s h ≡ false → (live : List Live) → live ≡ ends.live.items
+pub own-entry : (setup : Setup) (h : List Entry) (e : Entry) (s : SessionNo) (carries : List Call) (state : SessionState) (ends : Viewports)
+    → IsOwn setup h e s carries state ends → is_closed s h ≡ false → (live : List Live) → live ≡ ends.live.items
     → IsOwnEntry setup h e s carries state.account live
 own-entry setup h e s carries state ends own opened live is = record {
   legal = own.legal;
@@ -30,13 +31,17 @@ own-entry setup h e s carries state ends own opened live is = record {
 }
 
 -- where the session is open, its calls are noted
-pub noted-open : (s : SessionNo) (carries : List Call) (state : SessionState) (ends : Viewports) (old new : Ties) (live : List Live) → live ≡ ends.live.items → state.closed ≡ false
-    → ((setup : Setup) (h : List Entry) (e : Entry) → IsOwnEntry setup h e s carries state.account live → UsesNone e → AreTied setup h old.followings.items old.pairs.items → AreTied setup (h ▹ e) new.followings.items new.pairs.items)
+pub noted-open : (s : SessionNo) (carries : List Call) (state : SessionState) (ends : Viewports) (old new : Ties) (live : List Live) → live ≡ ends.live.items
+    → state.closed ≡ false
+    → ((setup : Setup) (h : List Entry) (e : Entry) → IsOwnEntry setup h e s carries state.account live → UsesNone e
+    → AreTied setup h old.followings.items old.pairs.items → AreTied setup (h ▹ e) new.followings.items new.pairs.items)
     → TiesNoted s carries state ends old new
-noted-open s carries state ends old new live is opened note setup h e own uses tied = note setup h e (own-entry setup h e s carries state ends own (sym own.closed ∙ opened) live is) uses tied
+noted-open s carries state ends old new live is opened note setup h e own uses tied =
+    note setup h e (own-entry setup h e s carries state ends own (sym own.closed ∙ opened) live is) uses tied
 
 -- and where it is closed there is nothing to note
-pub noted-shut : (s : SessionNo) (carries : List Call) (state : SessionState) (ends : Viewports) (ties : Ties) → state.closed ≡ true → TiesNoted s carries state ends ties ties
+pub noted-shut : (s : SessionNo) (carries : List Call) (state : SessionState) (ends : Viewports) (ties : Ties) → state.closed ≡ true
+    → TiesNoted s carries state ends ties ties
 noted-shut s carries state ends ties shut setup h e own uses tied =
     tied-idle setup h e
     (record {

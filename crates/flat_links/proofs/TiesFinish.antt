@@ -25,8 +25,10 @@ use Rattle.flat_links.proofs.lemmas.PairIdle.{pair-still}
 use Rattle.flat_links.proofs.TiesBegin.{FollowedUpTo, followed-end, followed-here, followed-on}
 
 -- what is pending before the end of a frame is so after it
-pending-stays : (setup : Setup) (p : PairNo) (n : ℕ) (v : SessionNo) (h : List Entry) (line : ℕ) → props_pending setup p n v h ≡ props_pending setup p n v (finished h line)
-pending-stays setup p n v h line = once (option_and_then (props_of p n) (result_ok (draft_of setup (taken_calls setup (to_begin h) v)))) (props_seen setup p n v h)
+pending-stays : (setup : Setup) (p : PairNo) (n : ℕ) (v : SessionNo) (h : List Entry) (line : ℕ)
+    → props_pending setup p n v h ≡ props_pending setup p n v (finished h line)
+pending-stays setup p n v h line = once (option_and_then (props_of p n) (result_ok (draft_of setup (taken_calls setup (to_begin h) v))))
+    (props_seen setup p n v h)
   where
     once : (x y : Option ViewportProps) → option_or x y ≡ option_or x (option_or x y)
     once (Some a) y = refl
@@ -41,15 +43,18 @@ module _ (setup : Setup) (h : List Entry) (line : ℕ) (legal : Legal setup (fin
       (λ v owner. ap (λ (x : PairState). x.pending) is ∙ kept.pending v owner ∙ pending-stays setup p (length (viewport_uses p h)) v h line) kept
 
   -- one session more
-  pub finished-on : (i : ℕ) (followings : List Following) (was : Following) → i < length followings → was ≡ slice_index_or followings i was → AllNumbered (FollowedUpTo setup h (finished h line) i) followings
+  pub finished-on : (i : ℕ) (followings : List Following) (was : Following) → i < length followings → was ≡ slice_index_or followings i was
+      → AllNumbered (FollowedUpTo setup h (finished h line) i) followings
       → AllNumbered (FollowedUpTo setup h (finished h line) (i + 1)) (slice_set followings i (let new : Following = record was { finished = was.begun } in new))
   finished-on i followings was below is each =
       let old : IsFollowed setup h (number i) was = followed-here setup h (finished h line) i followings was each below is in
       let new : Following = record was { finished = was.begun } in
-      followed-on setup h (finished h line) i followings new each (followed-still setup (number i) h (finish_entry line) (λ mine. let wrong : false ≡ true = mine in cc) was new refl refl old.begun old.begun old)
+      followed-on setup h (finished h line) i followings new each
+      (followed-still setup (number i) h (finish_entry line) (λ mine. let wrong : false ≡ true = mine in cc) was new refl refl old.begun old.begun old)
 
   -- all of them
-  pub tied-finished : (old followings : List Following) (pairs new : List PairState) → AreTied setup h old pairs → length followings ≡ setup.sessions → AllNumbered (FollowedUpTo setup h (finished h line) setup.sessions) followings
+  pub tied-finished : (old followings : List Following) (pairs new : List PairState) → AreTied setup h old pairs → length followings ≡ setup.sessions
+      → AllNumbered (FollowedUpTo setup h (finished h line) setup.sessions) followings
       → losings followings ≡ losings old → SettlesPairs pairs new → AreTied setup (finished h line) followings new
   tied-finished old followings pairs new tied count each same settles = record {
     bound = bounds-settled setup (losings old) (losings followings) pairs new same settles tied.bound;

@@ -33,7 +33,8 @@ use Rattle.flat_rules.specs.Shown.{last_taken, shown, tree_of}
 use Rattle.flat_links.specs.Usage.{SeesOne, SeesUses, props_among, uses_if, uses_in, with_pending}
 use Rattle.flat_rules.specs.Watch.{props_seen}
 use Rattle.std.specs.Option.{option_or}
-use Rattle.flat_facts.proofs.lemmas.Earlier.{IsEarlier, begin-earlier, calls-taken, finished-earlier, itself, one-earlier, taken-begin, taken-earlier, taken-finished}
+use Rattle.flat_facts.proofs.lemmas.Earlier.{IsEarlier, begin-earlier, calls-taken, finished-earlier, itself, one-earlier, taken-begin, taken-earlier}
+use Rattle.flat_facts.proofs.lemmas.Earlier.{taken-finished}
 use Rattle.flat_links.proofs.FrameSees.{closed-took, foreign-uses, last-uses, no-uses, seen-already}
 use Rattle.flat_links.proofs.lemmas.PairIdle.{idle-serial, pair-still}
 use Rattle.flat_rules.proofs.lemmas.ShownSteps.{serial-zero}
@@ -51,7 +52,8 @@ pub record PairUpTo (setup : Setup) (h after : List Entry) (i : ℕ) (p : PairNo
   pub was : PairState
   pub kept : IsPairKept setup h p was
   pub same : state ≡ with_pending was state.pending
-  pub pending : (v : SessionNo) → viewport_owner setup p ≡ Some (Session v) → state.pending ≡ props_pending setup p (length (viewport_uses p h)) v (cond (is_done_by i v) after h)
+  pub pending : (v : SessionNo) → viewport_owner setup p ≡ Some (Session v)
+      → state.pending ≡ props_pending setup p (length (viewport_uses p h)) v (cond (is_done_by i v) after h)
 
 -- ---- which sessions are done
 
@@ -76,14 +78,16 @@ none-yet n = grind (arith, nat_tests)
 -- ---- a pair
 
 -- some count stands for the serial, whether there was a use or not
-some-serial : (setup : Setup) (h : List Entry) (p : PairNo) (state : PairState) → IsPairKept setup h p state → (v : SessionNo) → viewport_owner setup p ≡ Some (Session v) → (n : ℕ) × (state.serial ≡ capped n)
+some-serial : (setup : Setup) (h : List Entry) (p : PairNo) (state : PairState) → IsPairKept setup h p state → (v : SessionNo)
+    → viewport_owner setup p ≡ Some (Session v) → (n : ℕ) × (state.serial ≡ capped n)
 some-serial setup h p state kept v owner = by_use (nat_lt 0 (length (viewport_uses p h))) refl
   where
     by_use : (b : Bool) → nat_lt 0 (length (viewport_uses p h)) ≡ b → (n : ℕ) × (state.serial ≡ capped n)
     by_use true some = let it = kept.serial v owner (grind (arith, nat_tests)) in (it.serial, it.is)
     by_use false none = (0, kept.unused (grind (arith, nat_tests)))
 
-other-owner : (setup : Setup) (p : PairNo) (s v : SessionNo) → viewport_owner setup p ≡ Some (Session v) → (v.0 == s.0) ≡ false → owns_viewport setup s p ≡ false
+other-owner : (setup : Setup) (p : PairNo) (s v : SessionNo) → viewport_owner setup p ≡ Some (Session v) → (v.0 == s.0) ≡ false
+    → owns_viewport setup s p ≡ false
 other-owner setup p s v owner other = rw owner other
 
 nothing-of-none : (p : PairNo) (r : Option Draft) → option_and_then (props_of p 0) r ≡ None
@@ -133,12 +137,14 @@ module _ (setup : Setup) (h : List Entry) (line time : ℕ) (states : List Sessi
   pending-before p v =
       let count : taken setup (to_begin h) v ≡ taken setup (to_finished h) v = sym (taken-begin setup v h) ∙ taken-finished setup v h shut_frame in
       let same : taken_calls setup (to_begin h) v ≡ taken_calls setup (to_finished h) v =
-      calls-taken setup v (to_begin h) h (begin-earlier h) ∙ ap (made_at (presents v h)) count ∙ sym (calls-taken setup v (to_finished h) h (finished-earlier h)) in
+      calls-taken setup v (to_begin h) h (begin-earlier h) ∙ ap (made_at (presents v h)) count
+      ∙ sym (calls-taken setup v (to_finished h) h (finished-earlier h)) in
       ap (λ (cs : List Call). option_or (option_and_then (props_of p (length (viewport_uses p h))) (result_ok (draft_of setup cs))) (seen p v)) same
       ∙ seen-already setup v p (length (viewport_uses p h)) h
 
   -- the owner's session, from which the frame took something
-  pending-new : (p : PairNo) (v : SessionNo) → viewport_owner setup p ≡ Some (Session v) → took v ≡ true → (was state new : PairState) → IsPairKept setup h p was → state.serial ≡ was.serial
+  pending-new : (p : PairNo) (v : SessionNo) → viewport_owner setup p ≡ Some (Session v) → took v ≡ true → (was state new : PairState)
+      → IsPairKept setup h p was → state.serial ≡ was.serial
       → SeesOne p (uses_in (shown setup (begun h line time) v)) state new → new.pending ≡ option_or (had p v) state.pending
   pending-new p v owner some was state new kept same sees = by_use (nat_lt 0 (length (viewport_uses p h))) refl
     where
@@ -159,7 +165,8 @@ module _ (setup : Setup) (h : List Entry) (line time : ℕ) (states : List Sessi
           ∙ ap (λ (t : Option Tree). option_or (props_among p (uses_in t) 0) state.pending) tree_is
           ∙ ap (λ (o : Option ViewportProps). option_or o state.pending)
           (no-uses setup v (begun h line time) (begun h line time) begins.legal (itself (begun h line time)) p
-          ∙ sym (ap (λ (n : ℕ). option_and_then (props_of p n) (result_ok (draft_of setup (taken_calls setup (begun h line time) v)))) zero_uses ∙ nothing-of-none p (result_ok (draft_of setup (taken_calls setup (begun h line time) v)))))
+          ∙ sym (ap (λ (n : ℕ). option_and_then (props_of p n) (result_ok (draft_of setup (taken_calls setup (begun h line time) v)))) zero_uses
+          ∙ nothing-of-none p (result_ok (draft_of setup (taken_calls setup (begun h line time) v)))))
 
   -- the owner's session, from which it took nothing
   pending-old : (p : PairNo) (v : SessionNo) → took v ≡ false → props_pending setup p (length (viewport_uses p h)) v h ≡ option_or (had p v) (seen p v)
@@ -170,7 +177,8 @@ module _ (setup : Setup) (h : List Entry) (line time : ℕ) (states : List Sessi
       ap (λ (cs : List Call). option_or (option_and_then (props_of p (length (viewport_uses p h))) (result_ok (draft_of setup cs))) (seen p v)) same
 
   -- another session shows no viewport of the pair
-  shown-foreign : (p : PairNo) (s : SessionNo) → owns_viewport setup s p ≡ false → (n : ℕ) → props_among p (uses_in (shown setup (begun h line time) s)) n ≡ None
+  shown-foreign : (p : PairNo) (s : SessionNo) → owns_viewport setup s p ≡ false → (n : ℕ)
+      → props_among p (uses_in (shown setup (begun h line time) s)) n ≡ None
   shown-foreign p s foreign n = by_close (is_closed s (begun h line time))
     where
       by_close : (b : Bool) → props_among p (uses_in (cond b None (option_and_then (tree_of setup) (last_taken setup (begun h line time) s)))) n ≡ None
@@ -178,7 +186,8 @@ module _ (setup : Setup) (h : List Entry) (line time : ℕ) (states : List Sessi
       by_close false = foreign-uses setup s (begun h line time) (begun h line time) begins.legal (itself (begun h line time)) p foreign n
 
   -- one session more
-  pub pair-on : (i : ℕ) (p : PairNo) (state new : PairState) → SeesOne p (uses_if (took (number i)) (shown setup (begun h line time) (number i))) state new → PairUpTo setup h (begun h line time) i p state → PairUpTo setup h (begun h line time) (i + 1) p new
+  pub pair-on : (i : ℕ) (p : PairNo) (state new : PairState) → SeesOne p (uses_if (took (number i)) (shown setup (begun h line time) (number i))) state new
+      → PairUpTo setup h (begun h line time) i p state → PairUpTo setup h (begun h line time) (i + 1) p new
   pair-on i p state new sees old = record {
     was = old.was;
     kept = old.kept;
@@ -192,25 +201,33 @@ module _ (setup : Setup) (h : List Entry) (line time : ℕ) (states : List Sessi
       told : SessionNo → Bool → Option ViewportProps
       told v b = props_pending setup p (length (viewport_uses p h)) v (cond b (begun h line time) h)
 
-      kept_apart : (v : SessionNo) → viewport_owner setup p ≡ Some (Session v) → ((n : ℕ) → props_among p (uses_if (took (number i)) (shown setup (begun h line time) (number i))) n ≡ None) → new.pending ≡ state.pending
+      kept_apart : (v : SessionNo) → viewport_owner setup p ≡ Some (Session v)
+          → ((n : ℕ) → props_among p (uses_if (took (number i)) (shown setup (begun h line time) (number i))) n ≡ None) → new.pending ≡ state.pending
       kept_apart v owner none =
           let n = some-serial setup h p old.was old.kept v owner in
           sees.pending n.0 (serial_same ∙ n.1) ∙ ap (λ (o : Option ViewportProps). option_or o state.pending) (none n.0)
 
-      foreign_if : (b : Bool) → owns_viewport setup (number i) p ≡ false → (n : ℕ) → props_among p (uses_if b (shown setup (begun h line time) (number i))) n ≡ None
+      foreign_if : (b : Bool) → owns_viewport setup (number i) p ≡ false → (n : ℕ)
+          → props_among p (uses_if b (shown setup (begun h line time) (number i))) n ≡ None
       foreign_if true foreign n = shown-foreign p (number i) foreign n
       foreign_if false foreign n = refl
 
-      by_took : viewport_owner setup p ≡ Some (Session (number i)) → state.pending ≡ told (number i) false → (b : Bool) → took (number i) ≡ b → new.pending ≡ told (number i) true
+      by_took : viewport_owner setup p ≡ Some (Session (number i)) → state.pending ≡ told (number i) false → (b : Bool) → took (number i) ≡ b
+          → new.pending ≡ told (number i) true
       by_took owner before true some =
-          let looked : SeesOne p (uses_in (shown setup (begun h line time) (number i))) state new = subst (λ (b : Bool). SeesOne p (uses_if b (shown setup (begun h line time) (number i))) state new) some sees in
-          pending-new p (number i) owner some old.was state new old.kept serial_same looked ∙ ap (option_or (had p (number i))) (before ∙ pending-before p (number i))
+          let looked : SeesOne p (uses_in (shown setup (begun h line time) (number i))) state new =
+          subst (λ (b : Bool). SeesOne p (uses_if b (shown setup (begun h line time) (number i))) state new) some sees in
+          pending-new p (number i) owner some old.was state new old.kept serial_same looked
+          ∙ ap (option_or (had p (number i))) (before ∙ pending-before p (number i))
       by_took owner before false none =
-          kept_apart (number i) owner (λ n. ap (λ (b : Bool). props_among p (uses_if b (shown setup (begun h line time) (number i))) n) none) ∙ before ∙ pending-old p (number i) none
+          kept_apart (number i) owner (λ n. ap (λ (b : Bool). props_among p (uses_if b (shown setup (begun h line time) (number i))) n) none) ∙ before
+          ∙ pending-old p (number i) none
 
-      by_owner : (v : SessionNo) → viewport_owner setup p ≡ Some (Session v) → (b : Bool) → (v.0 == (number i).0) ≡ b → new.pending ≡ told v (is_done_by (i + 1) v)
+      by_owner : (v : SessionNo) → viewport_owner setup p ≡ Some (Session v) → (b : Bool) → (v.0 == (number i).0) ≡ b
+          → new.pending ≡ told v (is_done_by (i + 1) v)
       by_owner v owner false other =
-          kept_apart v owner (λ n. foreign_if (took (number i)) (other-owner setup p (number i) v owner other) n) ∙ old.pending v owner ∙ ap (told v) (other-side i v.0 other)
+          kept_apart v owner (λ n. foreign_if (took (number i)) (other-owner setup p (number i) v owner other) n) ∙ old.pending v owner
+          ∙ ap (told v) (other-side i v.0 other)
       by_owner v owner true mine =
           let number_is : v.0 ≡ i + 1 = grind (arith, nat_tests) in
           let same : v ≡ number i = ap (λ (n : ℕ). let t : SessionNo = record { 0 = n } in t) number_is in
@@ -225,7 +242,8 @@ module _ (setup : Setup) (h : List Entry) (line time : ℕ) (states : List Sessi
       let within : j < length old = omega (arith, below, sees.count) in
       pair-on i (pair j) (slice_index_or old j d) (slice_index_or new j d) (sees.each j d within) (each j d within)
 
-  pub pairs-start : (pairs : List PairState) → AllNumbered (λ j. IsPairKept setup h (pair j)) pairs → AllNumbered (λ j. PairUpTo setup h (begun h line time) 0 (pair j)) pairs
+  pub pairs-start : (pairs : List PairState) → AllNumbered (λ j. IsPairKept setup h (pair j)) pairs
+      → AllNumbered (λ j. PairUpTo setup h (begun h line time) 0 (pair j)) pairs
   pairs-start pairs each j d below =
       let kept = each j d below in
       record {
@@ -233,30 +251,36 @@ module _ (setup : Setup) (h : List Entry) (line time : ℕ) (states : List Sessi
         kept = kept;
         same = refl;
         pending = λ v owner.
-            kept.pending v owner ∙ ap (λ (b : Bool). props_pending setup (pair j) (length (viewport_uses (pair j) h)) v (cond b (begun h line time) h)) (sym (none-yet v.0));
+            kept.pending v owner ∙ ap (λ (b : Bool). props_pending setup (pair j) (length (viewport_uses (pair j) h)) v (cond b (begun h line time) h))
+            (sym (none-yet v.0));
       }
 
-  pub pairs-end : (pairs : List PairState) → AllNumbered (λ j. PairUpTo setup h (begun h line time) setup.sessions (pair j)) pairs → AllNumbered (λ j. IsPairKept setup (begun h line time) (pair j)) pairs
+  pub pairs-end : (pairs : List PairState) → AllNumbered (λ j. PairUpTo setup h (begun h line time) setup.sessions (pair j)) pairs
+      → AllNumbered (λ j. IsPairKept setup (begun h line time) (pair j)) pairs
   pairs-end pairs each j d below =
       let it = each j d below in
       pair-still setup h (begin_entry line time) begins.legal nobody (pair j) refl it.was (slice_index_or pairs j d)
-      (ap (λ (x : PairState). x.ended) it.same) (ap (λ (x : PairState). x.cleared) it.same) (ap (λ (x : PairState). x.serial) it.same) (ap (λ (x : PairState). x.given) it.same)
+      (ap (λ (x : PairState). x.ended) it.same) (ap (λ (x : PairState). x.cleared) it.same) (ap (λ (x : PairState). x.serial) it.same)
+      (ap (λ (x : PairState). x.given) it.same)
       (λ v owner. ap (λ (x : PairState). x.seen) it.same ∙ it.kept.seen v owner)
       (λ v owner. by_declared v (it.pending v owner) (is_declared setup v) refl) it.kept
     where
       told : SessionNo → Bool → Option ViewportProps
       told v b = props_pending setup (pair j) (length (viewport_uses (pair j) h)) v (cond b (begun h line time) h)
 
-      by_declared : (v : SessionNo) → (slice_index_or pairs j d).pending ≡ told v (is_done_by setup.sessions v) → (b : Bool) → is_declared setup v ≡ b → (slice_index_or pairs j d).pending ≡ told v true
+      by_declared : (v : SessionNo) → (slice_index_or pairs j d).pending ≡ told v (is_done_by setup.sessions v) → (b : Bool) → is_declared setup v ≡ b
+          → (slice_index_or pairs j d).pending ≡ told v true
       by_declared v pending true is = pending ∙ ap (told v) is
       by_declared v pending false is =
           let none : last_taken setup (begun h line time) v ≡ None = none-taken setup v is (begun h line time) begins.legal in
           let had_none : had (pair j) v ≡ None =
-          ap (λ (o : Option Published). option_and_then (props_of (pair j) (length (viewport_uses (pair j) h))) (result_ok (draft_of setup (unwrap_or (option_map (λ (present : Published). present.made) o) [])))) none in
+          ap (λ (o : Option Published). option_and_then (props_of (pair j) (length (viewport_uses (pair j) h)))
+          (result_ok (draft_of setup (unwrap_or (option_map (λ (present : Published). present.made) o) [])))) none in
           pending ∙ ap (told v) is ∙ pending-before (pair j) v ∙ ap (λ (o : Option ViewportProps). option_or o (seen (pair j) v)) (sym had_none)
 
   -- what is looked at
-  pub looked-at : (i : ℕ) (followings : List Following) (was : Following) (sight : Sight) → i < length followings → i < setup.sessions → was ≡ slice_index_or followings i was → AllNumbered (FollowedUpTo setup h (begun h line time) i) followings
+  pub looked-at : (i : ℕ) (followings : List Following) (was : Following) (sight : Sight) → i < length followings → i < setup.sessions
+      → was ≡ slice_index_or followings i was → AllNumbered (FollowedUpTo setup h (begun h line time) i) followings
       → sight ≡ sight_of setup (begun h line time) (number i)
       → uses_if (nat_lt was.begun.taken sight.taken) (state_of shows (number i).0) ≡ uses_if (took (number i)) (shown setup (begun h line time) (number i))
   looked-at i followings was sight below within is each here =
@@ -268,8 +292,10 @@ module _ (setup : Setup) (h : List Entry) (line time : ℕ) (states : List Sessi
       ∙ ap (uses_if (took (number i))) (state-at setup (begun h line time) shows i begins.shown within)
 
   -- all of them
-  pub tied-begun : (followings : List Following) (pairs : List PairState) → length followings ≡ setup.sessions → length pairs ≡ length setup.pairs → AllNumbered (FollowedUpTo setup h (begun h line time) setup.sessions) followings
-      → AllNumbered (λ j. PairUpTo setup h (begun h line time) setup.sessions (pair j)) pairs → AllNumbered (λ j. IsBound setup (losings followings) (pair j)) pairs
+  pub tied-begun : (followings : List Following) (pairs : List PairState) → length followings ≡ setup.sessions → length pairs ≡ length setup.pairs
+      → AllNumbered (FollowedUpTo setup h (begun h line time) setup.sessions) followings
+      → AllNumbered (λ j. PairUpTo setup h (begun h line time) setup.sessions (pair j)) pairs
+      → AllNumbered (λ j. IsBound setup (losings followings) (pair j)) pairs
       → AreTied setup (begun h line time) followings pairs
   tied-begun followings pairs count many each all bound = record {
     sessions = count;

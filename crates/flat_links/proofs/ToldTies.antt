@@ -1,5 +1,6 @@
 -- What is told, by what is kept of sessions and pairs.
-use Rattle.std.proofs.Common.{◌≡◌, ◌≢◌, ◌∙◌, sym, subst, ℕ, suc, ◌-◌, ◌<◌, ◌≤◌, Bool, true, false, List, [], length, refl, arith, ap, Some, None, slice_get, slice_index_or}
+use Rattle.std.proofs.Common.{◌≡◌, ◌≢◌, ◌∙◌, sym, subst, ℕ, suc, ◌-◌, ◌<◌, ◌≤◌, Bool, true, false, List, [], length, refl, arith, ap, Some, None, slice_get}
+use Rattle.std.proofs.Common.{slice_index_or}
 use Rattle.std.specs.Prelude.{Option, cond, ◌&&◌, ◌||◌, is_some, nat_lt, option_and_then}
 use Rattle.std.specs.List.{list_any}
 use Rattle.std.proofs.lemmas.Bool.Decides.{nat_tests}
@@ -48,7 +49,8 @@ module _ (setup : Setup) (s : SessionNo) (h : List Entry) (legal : Legal setup h
       let presents_none : length (presents s (to_finished h)) ≡ 0 = ap (λ (xs : List Entry). length (published_all xs)) none in
       let opened : is_closed s (to_finished h) ≡ false = ap (list_any (λ (e : Entry). closes e.reply)) none in
       let view : shown_view setup (to_finished h) s ≡ None =
-      ap (λ (o : Option Published). option_and_then (λ (t : Tree). t.view) (cond (is_closed s (to_finished h)) None (option_and_then (tree_of setup) o))) (none-taken setup s unknown (to_finished h) finished_legal)
+      ap (λ (o : Option Published). option_and_then (λ (t : Tree). t.view) (cond (is_closed s (to_finished h)) None (option_and_then (tree_of setup) o)))
+      (none-taken setup s unknown (to_finished h) finished_legal)
       ∙ both (is_closed s (to_finished h)) in
       record {
         closed = sym opened;
@@ -73,7 +75,8 @@ module _ (setup : Setup) (s : SessionNo) (h : List Entry) (legal : Legal setup h
       by_tests true is = absurd (grind (arith, nat_tests))
 
 -- one of them is
-pub within-sight : (setup : Setup) (s : SessionNo) (h : List Entry) (followings : List Following) → AllNumbered (λ i. IsFollowed setup h (number i)) followings → 0 < s.0 → s.0 ≤ length followings
+pub within-sight : (setup : Setup) (s : SessionNo) (h : List Entry) (followings : List Following) → AllNumbered (λ i. IsFollowed setup h (number i)) followings
+    → 0 < s.0 → s.0 ≤ length followings
     → (one : Following) → one ≡ slice_index_or followings (s.0 - 1) one → IsLastSight setup h s one.finished
 within-sight setup s h followings each some few one at =
     let kept : IsFollowed setup h s one = at-session (IsFollowed setup h) followings s one each some few at in
@@ -87,7 +90,8 @@ within-sight setup s h followings each some few one at =
 -- ---- what is told of a pair
 
 -- what is kept of one pair
-pub pair-of : (setup : Setup) (h : List Entry) (followings : List Following) (pairs : List PairState) (p : PairNo) (state : PairState) → AreTied setup h followings pairs → p.0 < length setup.pairs → state ≡ slice_index_or pairs p.0 state → IsPairKept setup h p state
+pub pair-of : (setup : Setup) (h : List Entry) (followings : List Following) (pairs : List PairState) (p : PairNo) (state : PairState)
+    → AreTied setup h followings pairs → p.0 < length setup.pairs → state ≡ slice_index_or pairs p.0 state → IsPairKept setup h p state
 pair-of setup h followings pairs p state tied below is = subst (IsPairKept setup h p) (sym is) (tied.each_pair p.0 state (omega (arith, below, tied.count)))
 
 owner-at : (setup : Setup) (p : PairNo) (decl : PairDecl) → slice_get setup.pairs p.0 ≡ Some decl → viewport_owner setup p ≡ Some decl.viewport
@@ -102,7 +106,9 @@ pub given-used : (setup : Setup) (p : PairNo) (h : List Entry) → is_some (prop
 given-used setup p [] = refl
 given-used setup p (h ▹ e) = by_entry (uses_viewport p e.kind && is_done e.reply) refl (given-used setup p h)
   where
-    by_entry : (b : Bool) → (uses_viewport p e.kind && is_done e.reply) ≡ b → is_some (props_given setup (viewport_uses p h)) ≡ nat_lt 0 (length (viewport_uses p h)) → is_some (props_given setup (viewport_uses p (h ▹ e))) ≡ nat_lt 0 (length (viewport_uses p (h ▹ e)))
+    by_entry : (b : Bool) → (uses_viewport p e.kind && is_done e.reply) ≡ b
+        → is_some (props_given setup (viewport_uses p h)) ≡ nat_lt 0 (length (viewport_uses p h))
+        → is_some (props_given setup (viewport_uses p (h ▹ e))) ≡ nat_lt 0 (length (viewport_uses p (h ▹ e)))
     by_entry false is before = rw is before
     by_entry true is before =
         let some : nat_lt 0 (suc (length (viewport_uses p h))) ≡ true = grind (arith, nat_tests) in
@@ -115,32 +121,40 @@ used-by setup (Session s) p h not = refl
 used-by setup (Probe n) p h not = refl
 
 module _ (setup : Setup) (h : List Entry) (p : PairNo) where
-  pub joined-told : (decl : PairDecl) → slice_get setup.pairs p.0 ≡ Some decl → (decl.viewport ≡ Display → ⊥) → nat_lt 0 (length (view_uses p h)) ≡ true → (state : PairState) → IsPairKept setup h p state
+  pub joined-told : (decl : PairDecl) → slice_get setup.pairs p.0 ≡ Some decl → (decl.viewport ≡ Display → ⊥) → nat_lt 0 (length (view_uses p h)) ≡ true
+      → (state : PairState) → IsPairKept setup h p state
       → is_some state.given ≡ are_joined setup h p
   joined-told decl at not viewed state kept =
       let used : is_some state.given ≡ nat_lt 0 (length (viewport_uses p h)) = ap is_some kept.given ∙ given-used setup p h in
-      used ∙ sym (used-by setup decl.viewport p h not) ∙ sym (ap (λ (o : Option Actor). is_used setup o p h) (owner-at setup p decl at)) ∙ sym (ap (λ b. b && is_used setup (viewport_owner setup p) p h) viewed)
+      used ∙ sym (used-by setup decl.viewport p h not) ∙ sym (ap (λ (o : Option Actor). is_used setup o p h) (owner-at setup p decl at))
+      ∙ sym (ap (λ b. b && is_used setup (viewport_owner setup p) p h) viewed)
 
-  pub lost-told : (v : SessionNo) (decl : PairDecl) → slice_get setup.pairs p.0 ≡ Some decl → decl.viewport ≡ Session v → (state : PairState) → IsPairKept setup h p state → (owner : Sight) → IsLastSight setup h v owner
+  pub lost-told : (v : SessionNo) (decl : PairDecl) → slice_get setup.pairs p.0 ≡ Some decl → decl.viewport ≡ Session v → (state : PairState)
+      → IsPairKept setup h p state → (owner : Sight) → IsLastSight setup h v owner
       → (owner.closed || is_seen state.cleared owner.taken) ≡ is_viewport_lost setup (to_finished h) p
   lost-told v decl at is state kept owner sight =
       let owned : viewport_owner setup p ≡ Some (Session v) = owner-at setup p decl at ∙ ap (λ (a : Actor). Some a) is in
       ap (λ (b : Bool). b || is_seen state.cleared owner.taken) sight.closed ∙ ap (λ (n : ℕ). is_closed v (to_finished h) || is_seen state.cleared n) sight.took
       ∙ sym (viewport-lost setup h p v owned state.cleared (kept.cleared v owned))
 
-  pub props-kept : (v : SessionNo) (decl : PairDecl) → slice_get setup.pairs p.0 ≡ Some decl → decl.viewport ≡ Session v → (state : PairState) → IsPairKept setup h p state
+  pub props-kept : (v : SessionNo) (decl : PairDecl) → slice_get setup.pairs p.0 ≡ Some decl → decl.viewport ≡ Session v → (state : PairState)
+      → IsPairKept setup h p state
       → option_or state.seen state.given ≡ props_told setup (viewport_owner setup p) h p
   props-kept v decl at is state kept =
       let owned : viewport_owner setup p ≡ Some (Session v) = owner-at setup p decl at ∙ ap (λ (a : Actor). Some a) is in
-      ap (λ (o : Option ViewportProps). option_or o state.given) (kept.seen v owned) ∙ ap (option_or (props_seen setup p (length (viewport_uses p h)) v h)) kept.given
+      ap (λ (o : Option ViewportProps). option_or o state.given) (kept.seen v owned)
+      ∙ ap (option_or (props_seen setup p (length (viewport_uses p h)) v h)) kept.given
       ∙ sym (ap (λ (o : Option Actor). props_told setup o h p) owned)
 
-  pub child-kept : (n : ℕ) (decl : PairDecl) → slice_get setup.pairs p.0 ≡ Some decl → (state : PairState) → IsPairKept setup h p state → (owner : Sight) → IsLastSight setup h decl.view owner
+  pub child-kept : (n : ℕ) (decl : PairDecl) → slice_get setup.pairs p.0 ≡ Some decl → (state : PairState) → IsPairKept setup h p state → (owner : Sight)
+      → IsLastSight setup h decl.view owner
       → child_by (owner.closed || is_seen state.ended owner.taken) (is_pair owner.view p) ≡ told setup h (child_of p n)
   child-kept n decl at state kept owner sight =
       let owned : view_owner setup p ≡ Some decl.view = rw at refl in
       ap (λ (b : Bool). child_by (b || is_seen state.ended owner.taken) (is_pair owner.view p)) sight.closed
       ∙ ap (λ (k : ℕ). child_by (is_closed decl.view (to_finished h) || is_seen state.ended k) (is_pair owner.view p)) sight.took
-      ∙ ap (λ (view : Option PairNo). child_by (is_closed decl.view (to_finished h) || is_seen state.ended (taken setup (to_finished h) decl.view)) (is_pair view p)) sight.view
-      ∙ ap (λ (b : Bool). child_by b (is_pair (shown_view setup (to_finished h) decl.view) p)) (sym (view-lost setup h p decl.view owned state.ended (kept.ended decl.view owned)))
+      ∙ ap (λ (view : Option PairNo). child_by (is_closed decl.view (to_finished h) || is_seen state.ended (taken setup (to_finished h) decl.view))
+      (is_pair view p)) sight.view
+      ∙ ap (λ (b : Bool). child_by b (is_pair (shown_view setup (to_finished h) decl.view) p))
+      (sym (view-lost setup h p decl.view owned state.ended (kept.ended decl.view owned)))
       ∙ sym (child-told setup h p decl.view n owned)

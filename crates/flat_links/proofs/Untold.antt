@@ -1,5 +1,6 @@
 -- Where the sights that the last two frames had of all sessions are alike, the end of a frame tells something anew of pairs alone whose properties changed.
-use Rattle.std.proofs.Common.{◌≡◌, ◌≢◌, ◌∙◌, sym, subst, ℕ, suc, ◌+◌, ◌-◌, ◌<◌, ◌≤◌, Bool, true, false, List, [], length, map, refl, arith, ap, All, Some, None, inl, inr, ◌⊎◌, slice_get, slice_index_or}
+use Rattle.std.proofs.Common.{◌≡◌, ◌≢◌, ◌∙◌, sym, subst, ℕ, suc, ◌+◌, ◌-◌, ◌<◌, ◌≤◌, Bool, true, false, List, [], length, map, refl, arith, ap, All, Some, None}
+use Rattle.std.proofs.Common.{inl, inr, ◌⊎◌, slice_get, slice_index_or}
 use Rattle.std.specs.Prelude.{Option, cond, ◌&&◌, ◌||◌, ◌==◌, nat_lt, nat_le, option_map}
 use Rattle.std.proofs.lemmas.Bool.Decides.{nat_tests}
 use Rattle.std.proofs.lemmas.List.{get_or-map, get_or_default}
@@ -43,7 +44,8 @@ record Sights (setup : Setup) (h k : List Entry) (losing : Option ℕ) (s : Sess
 alike-nothing : (losing : Option ℕ) → IsAlike losing nothing nothing
 alike-nothing losing = record { closed = refl; view = refl; connected = refl; taken = λ stamp within. refl }
 
-module _ (setup : Setup) (h : List Entry) (line : ℕ) (legal : Legal setup (finished h line)) (followings : List Following) (pairs : List PairState) (tied : AreTied setup h followings pairs) (calm : All IsCalm followings)
+module _ (setup : Setup) (h : List Entry) (line : ℕ) (legal : Legal setup (finished h line)) (followings : List Following) (pairs : List PairState)
+    (tied : AreTied setup h followings pairs) (calm : All IsCalm followings)
     (ratio_is : ratio_told setup (finished h line) ≡ ratio_told setup h) where
   abbrev k : List Entry
   k = finished h line
@@ -81,8 +83,10 @@ module _ (setup : Setup) (h : List Entry) (line : ℕ) (legal : Legal setup (fin
           none (beyond-sight setup s h legal.0 followings tied.sessions beyond some) (beyond-sight setup s k legal followings tied.sessions beyond some)
 
       by_zero : (b : Bool) → (s.0 == 0) ≡ b → Sights setup h k (losing_of (losings followings) s) s
-      by_zero true is = let zero_number : s.0 ≡ 0 = grind (arith, nat_tests) in none (zero-sight setup s h legal.0 zero_number) (zero-sight setup s k legal zero_number)
-      by_zero false is = by_place (nat_le s.0 (length followings)) refl (let some : s.0 ≢ 0 = λ same. let wrong : (s.0 == 0) ≡ true = grind (arith, nat_tests) in let never : true ≡ false = sym wrong ∙ is in cc in some)
+      by_zero true is = let zero_number : s.0 ≡ 0 = grind (arith, nat_tests) in
+          none (zero-sight setup s h legal.0 zero_number) (zero-sight setup s k legal zero_number)
+      by_zero false is = by_place (nat_le s.0 (length followings)) refl
+          (let some : s.0 ≢ 0 = λ same. let wrong : (s.0 == 0) ≡ true = grind (arith, nat_tests) in let never : true ≡ false = sym wrong ∙ is in cc in some)
 
   -- ---- one pair
 
@@ -108,7 +112,9 @@ module _ (setup : Setup) (h : List Entry) (line : ℕ) (legal : Legal setup (fin
     view-owner-is : view_owner setup p ≡ Some decl.view
     view-owner-is = rw at refl
 
-    bound : (v : SessionNo) → decl.viewport ≡ Session v → (n m : ℕ) → ((stamp : Option ℕ) → is_within stamp (losing_of (losings followings) v) ≡ true → is_seen stamp n ≡ is_seen stamp m) → is_seen was.cleared n ≡ is_seen was.cleared m
+    bound : (v : SessionNo) → decl.viewport ≡ Session v → (n m : ℕ)
+        → ((stamp : Option ℕ) → is_within stamp (losing_of (losings followings) v) ≡ true → is_seen stamp n ≡ is_seen stamp m)
+        → is_seen was.cleared n ≡ is_seen was.cleared m
     bound v viewport n m same = same was.cleared ((tied.bound p.0 any below).cleared v (owner-is ∙ ap (λ (a : Actor). Some a) viewport))
 
     -- whether the viewport end is lost
@@ -116,7 +122,8 @@ module _ (setup : Setup) (h : List Entry) (line : ℕ) (legal : Legal setup (fin
     lost-same = by_owner decl.viewport refl
       where
         by_owner : (a : Actor) → decl.viewport ≡ a → is_viewport_lost setup (to_finished k) p ≡ is_viewport_lost setup (to_finished h) p
-        by_owner Display display = display-keeps setup k p (owner-is ∙ ap (λ (a : Actor). Some a) display) ∙ sym (display-keeps setup h p (owner-is ∙ ap (λ (a : Actor). Some a) display))
+        by_owner Display display = display-keeps setup k p (owner-is ∙ ap (λ (a : Actor). Some a) display)
+            ∙ sym (display-keeps setup h p (owner-is ∙ ap (λ (a : Actor). Some a) display))
         by_owner (Probe n) probe = rw (owner-is, probe) refl
         by_owner (Session v) viewport =
             let it = sights v in
@@ -126,10 +133,12 @@ module _ (setup : Setup) (h : List Entry) (line : ℕ) (legal : Legal setup (fin
             ∙ lost-told setup h p v decl at viewport was kept it.old it.before
 
     -- what its view is told
-    connected-same : (is_pair (shown_view setup (to_finished k) decl.view) p && is_connected setup (to_finished k) decl.view) ≡ (is_pair (shown_view setup (to_finished h) decl.view) p && is_connected setup (to_finished h) decl.view)
+    connected-same : (is_pair (shown_view setup (to_finished k) decl.view) p && is_connected setup (to_finished k) decl.view)
+        ≡ (is_pair (shown_view setup (to_finished h) decl.view) p && is_connected setup (to_finished h) decl.view)
     connected-same =
         let it = sights decl.view in
-        sym (it.after.connected p) ∙ ap (λ (v : Option PairNo). is_pair v p && it.new.connected) it.alike.view ∙ ap (λ (b : Bool). is_pair it.old.view p && b) it.alike.connected ∙ it.before.connected p
+        sym (it.after.connected p) ∙ ap (λ (v : Option PairNo). is_pair v p && it.new.connected) it.alike.view
+        ∙ ap (λ (b : Bool). is_pair it.old.view p && b) it.alike.connected ∙ it.before.connected p
 
     joined-same : are_joined setup k p ≡ are_joined setup h p
     joined-same = by_owner decl.viewport refl
@@ -141,12 +150,18 @@ module _ (setup : Setup) (h : List Entry) (line : ℕ) (legal : Legal setup (fin
 
     status-same : told setup k (status_of p) ≡ told setup h (status_of p)
     status-same =
-        status-told setup k p decl.view view-owner-is ∙ ap (λ (b : Bool). status_by b (are_joined setup k p) (is_pair (shown_view setup (to_finished k) decl.view) p && is_connected setup (to_finished k) decl.view)) lost-same
-        ∙ ap (status_by (is_viewport_lost setup (to_finished h) p) (are_joined setup k p)) connected-same ∙ joined ∙ sym (status-told setup h p decl.view view-owner-is)
+        status-told setup k p decl.view view-owner-is ∙ ap
+        (λ (b : Bool). status_by b (are_joined setup k p)
+        (is_pair (shown_view setup (to_finished k) decl.view) p && is_connected setup (to_finished k) decl.view)) lost-same
+        ∙ ap (status_by (is_viewport_lost setup (to_finished h) p) (are_joined setup k p)) connected-same ∙ joined
+        ∙ sym (status-told setup h p decl.view view-owner-is)
       where
-        joined : status_by (is_viewport_lost setup (to_finished h) p) (are_joined setup k p) (is_pair (shown_view setup (to_finished h) decl.view) p && is_connected setup (to_finished h) decl.view)
-            ≡ status_by (is_viewport_lost setup (to_finished h) p) (are_joined setup h p) (is_pair (shown_view setup (to_finished h) decl.view) p && is_connected setup (to_finished h) decl.view)
-        joined = ap (λ (b : Bool). status_by (is_viewport_lost setup (to_finished h) p) b (is_pair (shown_view setup (to_finished h) decl.view) p && is_connected setup (to_finished h) decl.view)) joined-same
+        joined : status_by (is_viewport_lost setup (to_finished h) p) (are_joined setup k p)
+            (is_pair (shown_view setup (to_finished h) decl.view) p && is_connected setup (to_finished h) decl.view)
+            ≡ status_by (is_viewport_lost setup (to_finished h) p) (are_joined setup h p)
+            (is_pair (shown_view setup (to_finished h) decl.view) p && is_connected setup (to_finished h) decl.view)
+        joined = ap (λ (b : Bool). status_by (is_viewport_lost setup (to_finished h) p) b
+            (is_pair (shown_view setup (to_finished h) decl.view) p && is_connected setup (to_finished h) decl.view)) joined-same
 
     props-same : was.pending ≡ was.seen → props_told setup (viewport_owner setup p) k p ≡ props_told setup (viewport_owner setup p) h p
     props-same same = by_owner decl.viewport refl
@@ -156,13 +171,15 @@ module _ (setup : Setup) (h : List Entry) (line : ℕ) (legal : Legal setup (fin
         by_owner (Probe n) viewport = rw (owner-is, viewport) refl
         by_owner (Session v) viewport =
             let owned : viewport_owner setup p ≡ Some (Session v) = owner-is ∙ ap (λ (a : Actor). Some a) viewport in
-            sym (props-kept setup k p v decl at viewport (settled was) kept_then) ∙ ap (λ (o : Option ViewportProps). option_or o was.given) same ∙ props-kept setup h p v decl at viewport was kept
+            sym (props-kept setup k p v decl at viewport (settled was) kept_then) ∙ ap (λ (o : Option ViewportProps). option_or o was.given) same
+            ∙ props-kept setup h p v decl at viewport was kept
 
     layout-same : was.pending ≡ was.seen → told setup k (layout_of p) ≡ told setup h (layout_of p)
     layout-same same =
         ap (λ (n : ℕ). layout_by n (is_viewport_lost setup (to_finished k) p) (are_joined setup k p) (props_told setup (viewport_owner setup p) k p)) ratio_is
         ∙ ap (λ (b : Bool). layout_by (ratio_told setup h) b (are_joined setup k p) (props_told setup (viewport_owner setup p) k p)) lost-same
-        ∙ ap (λ (b : Bool). layout_by (ratio_told setup h) (is_viewport_lost setup (to_finished h) p) b (props_told setup (viewport_owner setup p) k p)) joined-same
+        ∙ ap (λ (b : Bool). layout_by (ratio_told setup h) (is_viewport_lost setup (to_finished h) p) b (props_told setup (viewport_owner setup p) k p))
+        joined-same
         ∙ ap (layout_by (ratio_told setup h) (is_viewport_lost setup (to_finished h) p) (are_joined setup h p)) (props-same same)
 
     -- and its viewport's owner
@@ -171,7 +188,8 @@ module _ (setup : Setup) (h : List Entry) (line : ℕ) (legal : Legal setup (fin
         let it = sights decl.view in
         sym (child-kept setup k p n decl at (settled was) kept_then it.new it.after)
         ∙ ap (λ (b : Bool). child_by (b || is_seen was.ended it.new.taken) (is_pair it.new.view p)) it.alike.closed
-        ∙ ap (λ (b : Bool). child_by (it.old.closed || b) (is_pair it.new.view p)) (it.alike.taken was.ended ((tied.bound p.0 any below).ended decl.view view-owner-is))
+        ∙ ap (λ (b : Bool). child_by (it.old.closed || b) (is_pair it.new.view p))
+        (it.alike.taken was.ended ((tied.bound p.0 any below).ended decl.view view-owner-is))
         ∙ ap (λ (v : Option PairNo). child_by (it.old.closed || is_seen was.ended it.old.taken) (is_pair v p)) it.alike.view
         ∙ child-kept setup h p n decl at was kept it.old it.before
 
@@ -181,7 +199,8 @@ module _ (setup : Setup) (h : List Entry) (line : ℕ) (legal : Legal setup (fin
   declared f a None is = let wrong : None ≡ Some a = is in cc
   declared f a (Some decl) is = (decl, refl)
 
-  pub tells-the-same : (s : SessionNo) → ((i : ℕ) (d : PairState) → i < length pairs → view_owner setup (pair i) ≡ Some s → (slice_index_or pairs i d).pending ≡ (slice_index_or pairs i d).seen) → TellsTheSame setup h k s
+  pub tells-the-same : (s : SessionNo) → ((i : ℕ) (d : PairState) → i < length pairs → view_owner setup (pair i) ≡ Some s
+      → (slice_index_or pairs i d).pending ≡ (slice_index_or pairs i d).seen) → TellsTheSame setup h k s
   tells-the-same s settled_for (layout_of p) heard =
       let one = declared (λ pair. Session pair.view) (Session s) (slice_get setup.pairs p.0) (nested (slice_get setup.pairs p.0) ∙ heard) in
       let owner : view_owner setup p ≡ Some s = named (view_owner setup p) heard in

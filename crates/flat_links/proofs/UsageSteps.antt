@@ -34,7 +34,8 @@ sees-more one rest a b c first later = record {
         same = rest_step.same ∙ ap (λ (s : PairState). with_pending s z.pending) one_step.same;
         pending = λ n is.
             let one_by : Option ViewportProps = cond (one.pair.0 == p.0 && one.serial == n) (Some one.props) None in
-            rest_step.pending n (ap (λ (s : PairState). s.serial) one_step.same ∙ is) ∙ ap (option_or (props_among p rest n)) (one_step.pending n is) ∙ or-three (props_among p rest n) one_by x.pending;
+            rest_step.pending n (ap (λ (s : PairState). s.serial) one_step.same ∙ is) ∙ ap (option_or (props_among p rest n)) (one_step.pending n is)
+            ∙ or-three (props_among p rest n) one_by x.pending;
       };
 }
 
@@ -47,10 +48,12 @@ IsSettledUpTo old n i state = (d : PairState) → i < length old → state ≡ c
 pub settled-none : (old : List PairState) → AllNumbered (IsSettledUpTo old 0) old
 settled-none old i e below d within = rw (none-below i) (get_or_default old i e d below)
 
-pub settled-more : (old now : List PairState) (n : ℕ) (state : PairState) → length now ≡ length old → n < length now → state ≡ slice_index_or now n state → AllNumbered (IsSettledUpTo old n) now
+pub settled-more : (old now : List PairState) (n : ℕ) (state : PairState) → length now ≡ length old → n < length now → state ≡ slice_index_or now n state
+    → AllNumbered (IsSettledUpTo old n) now
     → AllNumbered (IsSettledUpTo old (n + 1)) (slice_set now n (settled state))
 settled-more old now n state count below is each =
-    changed-one (IsSettledUpTo old n) (IsSettledUpTo old (n + 1)) now n (settled state) (λ j x other kept d within. kept d within ∙ ap (λ (b : Bool). cond b (settled (slice_index_or old j d)) (slice_index_or old j d)) (same-side n j other))
+    changed-one (IsSettledUpTo old n) (IsSettledUpTo old (n + 1)) now n (settled state)
+    (λ j x other kept d within. kept d within ∙ ap (λ (b : Bool). cond b (settled (slice_index_or old j d)) (slice_index_or old j d)) (same-side n j other))
     (λ d within. rw (this-side n) (ap settled (is ∙ rw (not-below n) at (each n state below d within)))) each
 
 pub settled-all : (old new : List PairState) (n : ℕ) → length new ≡ length old → length old ≤ n → AllNumbered (IsSettledUpTo old n) new → SettlesPairs old new

@@ -1,5 +1,6 @@
 -- A use of a viewport end, by the last of the calls that its entry carries.
-use Rattle.std.proofs.Common.{◌≡◌, ◌∙◌, sym, ℕ, zero, suc, ◌+◌, ◌-◌, ◌≤◌, true, false, List, [], ◌∷◌, ◌++◌, length, refl, arith, ap, map, take, Some, None, length-append, slice_index_or}
+use Rattle.std.proofs.Common.{◌≡◌, ◌∙◌, sym, ℕ, zero, suc, ◌+◌, ◌-◌, ◌≤◌, true, false, List, [], ◌∷◌, ◌++◌, length, refl, arith, ap, map, take, Some, None}
+use Rattle.std.proofs.Common.{length-append, slice_index_or}
 use Rattle.std.specs.Prelude.{Option, option_map, unwrap_or, slice_get, not, ◌==◌}
 use Rattle.std.specs.List.{list_any}
 use Rattle.std.proofs.Math.Seq.{take-append_seam}
@@ -33,19 +34,25 @@ at-get (y ∷ xs) zero x d at = cc
 at-get (y ∷ xs) (suc n) x d at = at-get xs n x d at
 
 -- there is a last one
-pub last-some : (p : PairNo) (xs : List Call) (last : Option Call) → slice_get xs (length xs - 1) ≡ last → unwrap_or (option_map (makes_one p) last) false ≡ true → (call : Call) × (slice_get xs (length xs - 1) ≡ Some call) × (makes_one p call ≡ true)
+pub last-some : (p : PairNo) (xs : List Call) (last : Option Call) → slice_get xs (length xs - 1) ≡ last
+    → unwrap_or (option_map (makes_one p) last) false ≡ true → (call : Call) × (slice_get xs (length xs - 1) ≡ Some call) × (makes_one p call ≡ true)
 last-some p xs None at is = absurd (cc)
 last-some p xs (Some call) at is = (call, at, is)
 
 -- it makes a viewport
-pub is-made : (p : PairNo) (call : Call) → makes_one p call ≡ true → ((name : ContentId) (q : PairNo) (w h : ℕ) (inset : Inset) → call ≡ CreateViewport name q w h inset → ⊥) → ⊥
+pub is-made : (p : PairNo) (call : Call) → makes_one p call ≡ true
+    → ((name : ContentId) (q : PairNo) (w h : ℕ) (inset : Inset) → call ≡ CreateViewport name q w h inset → ⊥) → ⊥
 is-made p (CreateViewport name q w h inset) is never = never name q w h inset refl
 is-made p call is never = cc
 
 -- without a new one no more viewports live
 fewer-one : (lives : List Live) (call : Call) → is_new_viewport call ≡ false → length (lives_then lives call) ≤ length lives
 fewer-one lives (CreateViewport name q w h inset) none = cc
-fewer-one lives (ReleaseViewport name) none = omega (arith, length-filter (λ (live : Live). not (live.name.0 == name.0)) lives, count_by-le-length (λ (live : Live). not (live.name.0 == name.0)) lives)
+fewer-one lives (ReleaseViewport name) none = omega (
+  arith,
+  length-filter (λ (live : Live). not (live.name.0 == name.0)) lives,
+  count_by-le-length (λ (live : Live). not (live.name.0 == name.0)) lives,
+)
 fewer-one lives Clear none = omega arith
 fewer-one lives call none = omega arith
 
@@ -59,7 +66,8 @@ lives-fewer lives (x ∷ xs) none =
 pub record IsUseCall (p : PairNo) (xs : List Call) (name : ContentId) (w h : ℕ) (inset : Inset) : Type 0 where
   pub at : slice_get xs (length xs - 1) ≡ Some (CreateViewport name p w h inset)
 
-pub use-of : (p : PairNo) (xs : List Call) (name : ContentId) (q : PairNo) (w h : ℕ) (inset : Inset) → uses_last p xs ≡ true → slice_get xs (length xs - 1) ≡ Some (CreateViewport name q w h inset) → IsUseCall p xs name w h inset
+pub use-of : (p : PairNo) (xs : List Call) (name : ContentId) (q : PairNo) (w h : ℕ) (inset : Inset) → uses_last p xs ≡ true
+    → slice_get xs (length xs - 1) ≡ Some (CreateViewport name q w h inset) → IsUseCall p xs name w h inset
 use-of p xs name q w h inset is at =
     let made : makes_one p (CreateViewport name q w h inset) ≡ true = ap (λ (o : Option Call). unwrap_or (option_map (makes_one p) o) false) (sym at) ∙ is in
     record { at = at ∙ ap (λ (r : PairNo). Some (CreateViewport name r w h inset)) (same-pair q p made) }

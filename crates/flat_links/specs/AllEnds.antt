@@ -50,11 +50,13 @@ pub record IsHeard (entry : Entry) (presents : ℕ) (old new : Viewports) : Type
 -- What the use of an end did to what is kept of its session's viewports, where the token was held or not.
 pub record IsUsed (p : PairNo) (calls : List Call) (presents : ℕ) (is_held : Bool) (old new : Viewports) : Type 0 where
   pub live : is_held ≡ true → new.live.items ≡ lives_after old.live.items calls
-  pub out : is_held ≡ true → new.out.items ≡ with_out (record { pair = p; released = None }) (map (marked old.live.items calls presents) old.out.items)
+  pub out : is_held ≡ true → new.out.items
+      ≡ with_out (record { pair = p; released = None }) (map (marked old.live.items calls presents) old.out.items)
   pub count : length new.out.items ≡ length old.out.items + number_if is_held
 
 -- An entry of a session, before which this was kept of it.
-pub record IsOwn (setup : Setup) (history : List Entry) (entry : Entry) (s : SessionNo) (carries : List Call) (state : SessionState) (ends : Viewports) : Type 0 where
+pub record IsOwn (setup : Setup) (history : List Entry) (entry : Entry) (s : SessionNo) (carries : List Call)
+    (state : SessionState) (ends : Viewports) : Type 0 where
   pub legal : Legal setup (history ▹ entry)
   pub actor : entry.actor ≡ Session s
   pub carried : entry.calls ≡ carries
@@ -68,17 +70,23 @@ pub record IsOwn (setup : Setup) (history : List Entry) (entry : Entry) (s : Ses
 -- What is kept of pairs after an entry that uses no viewport end stands for the history with it.
 abbrev pub TiesNoted : SessionNo → List Call → SessionState → Viewports → Ties → Ties → Type 0
 TiesNoted s carries state ends old new =
-    (setup : Setup) (history : List Entry) (entry : Entry) → IsOwn setup history entry s carries state ends → UsesNone entry
-    → AreTied setup history old.followings.items old.pairs.items → AreTied setup (history ▹ entry) new.followings.items new.pairs.items
+    (setup : Setup) (history : List Entry) (entry : Entry) → IsOwn setup history entry s carries state ends
+    → UsesNone entry
+    → AreTied setup history old.followings.items old.pairs.items
+    → AreTied setup (history ▹ entry) new.followings.items new.pairs.items
 
 -- and after one that uses the end of a pair, or is refused it
-abbrev pub TiesUsed : SessionNo → List Call → PairNo → ViewportProps → Bool → SessionState → Viewports → Ties → Ties → Type 0
+abbrev pub TiesUsed : SessionNo → List Call → PairNo → ViewportProps → Bool → SessionState → Viewports → Ties → Ties
+    → Type 0
 TiesUsed s carries p props is_held state ends old new =
-    (setup : Setup) (history : List Entry) (entry : Entry) → IsOwn setup history entry s carries state ends → is_closed s history ≡ false → entry.kind ≡ Viewport p props → entry.reply ≡ use_reply is_held
-    → AreTied setup history old.followings.items old.pairs.items → AreTied setup (history ▹ entry) new.followings.items new.pairs.items
+    (setup : Setup) (history : List Entry) (entry : Entry) → IsOwn setup history entry s carries state ends
+    → is_closed s history ≡ false → entry.kind ≡ Viewport p props → entry.reply ≡ use_reply is_held
+    → AreTied setup history old.followings.items old.pairs.items
+    → AreTied setup (history ▹ entry) new.followings.items new.pairs.items
 
 -- The same of all sessions' viewports, where this one made the entry.
-pub record EnteredAt (s : SessionNo) (entry : Entry) (states : List SessionState) (old new : List Viewports) (tied now : Ties) : Type 0 where
+pub record EnteredAt (s : SessionNo) (entry : Entry) (states : List SessionState) (old new : List Viewports)
+    (tied now : Ties) : Type 0 where
   pub state : SessionState
   pub before : Viewports
   pub after : Viewports

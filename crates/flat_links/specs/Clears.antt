@@ -14,9 +14,12 @@ cleared_if does_it presents state = record state { cleared = stamp_then state.cl
 -- The states after the viewport of a pair was cleared.
 pub record ClearsOne (p : PairNo) (presents : ℕ) (old new : List PairState) : Type 0 where
   pub count : length new ≡ length old
-  pub each : (i : ℕ) (d : PairState) → i < length old → slice_index_or new i d ≡ cleared_if (p.0 == i) presents (slice_index_or old i d)
+  pub each : (i : ℕ) (d : PairState) → i < length old
+      → slice_index_or new i d ≡ cleared_if (p.0 == i) presents (slice_index_or old i d)
 
 -- The states of all pairs after calls of a session of which these viewports lived, and that had made so many presents.
 pub record ClearsLive (live : List Live) (calls : List Call) (presents : ℕ) (old new : List PairState) : Type 0 where
   pub count : length new ≡ length old
-  pub each : (i : ℕ) (d : PairState) → i < length old → slice_index_or new i d ≡ cleared_if (clears_pair (record { 0 = i }) live calls) presents (slice_index_or old i d)
+  pub each : (i : ℕ) (d : PairState) → i < length old
+      → slice_index_or new i d ≡ cleared_if (clears_pair (record { 0 = i }) live calls) presents
+      (slice_index_or old i d)

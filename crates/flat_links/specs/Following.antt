@@ -75,20 +75,26 @@ props_pending setup p n s history = props_seen setup p n s (finished history 0)
 
 -- What is kept of a pair stands for what a history says of its ends.
 pub record IsPairKept (setup : Setup) (history : List Entry) (p : PairNo) (state : PairState) : Type 0 where
-  pub ended : (w : SessionNo) → view_owner setup p ≡ Some w → IsStamp (happens setup (ends_view p)) w history state.ended
-  pub cleared : (v : SessionNo) → viewport_owner setup p ≡ Some (Session v) → IsStamp (happens setup (clears_viewport p)) v history state.cleared
-  pub serial : (v : SessionNo) → viewport_owner setup p ≡ Some (Session v) → 0 < length (viewport_uses p history) → IsSerialKept p v history state.serial
+  pub ended : (w : SessionNo) → view_owner setup p ≡ Some w
+      → IsStamp (happens setup (ends_view p)) w history state.ended
+  pub cleared : (v : SessionNo) → viewport_owner setup p ≡ Some (Session v)
+      → IsStamp (happens setup (clears_viewport p)) v history state.cleared
+  pub serial : (v : SessionNo) → viewport_owner setup p ≡ Some (Session v) → 0 < length (viewport_uses p history)
+      → IsSerialKept p v history state.serial
   pub unused : length (viewport_uses p history) ≡ 0 → state.serial ≡ 0
   pub given : state.given ≡ props_given setup (viewport_uses p history)
-  pub seen : (v : SessionNo) → viewport_owner setup p ≡ Some (Session v) → state.seen ≡ props_seen setup p (length (viewport_uses p history)) v history
-  pub pending : (v : SessionNo) → viewport_owner setup p ≡ Some (Session v) → state.pending ≡ props_pending setup p (length (viewport_uses p history)) v history
+  pub seen : (v : SessionNo) → viewport_owner setup p ≡ Some (Session v)
+      → state.seen ≡ props_seen setup p (length (viewport_uses p history)) v history
+  pub pending : (v : SessionNo) → viewport_owner setup p ≡ Some (Session v)
+      → state.pending ≡ props_pending setup p (length (viewport_uses p history)) v history
 
 -- the pair at a place
 abbrev pub pair : ℕ → PairNo
 pair i = record { 0 = i }
 
 -- What is kept of all sessions and all pairs stands for what a history says of them.
-pub record AreTied (setup : Setup) (history : List Entry) (followings : List Following) (pairs : List PairState) : Type 0 where
+pub record AreTied (setup : Setup) (history : List Entry) (followings : List Following) (pairs : List PairState) : Type
+    0 where
   pub sessions : length followings ≡ setup.sessions
   pub count : length pairs ≡ length setup.pairs
   pub each_session : AllNumbered (λ i. IsFollowed setup history (number i)) followings
@@ -97,7 +103,8 @@ pub record AreTied (setup : Setup) (history : List Entry) (followings : List Fol
 
 -- An entry of a session that was open, which carries these calls. Before it the session had this account, by which it
 -- made so many presents and its last view is of that pair, and these viewports.
-pub record IsOwnEntry (setup : Setup) (history : List Entry) (entry : Entry) (s : SessionNo) (carries : List Call) (account : Account) (live : List Live) : Type 0 where
+pub record IsOwnEntry (setup : Setup) (history : List Entry) (entry : Entry) (s : SessionNo) (carries : List Call)
+    (account : Account) (live : List Live) : Type 0 where
   pub legal : Legal setup (history ▹ entry)
   pub mine : is_session s entry.actor ≡ true
   pub opened : is_closed s history ≡ false
@@ -128,7 +135,8 @@ sight_of_state setup shown state s = record {
 }
 
 -- A frame began: what is kept of the sessions, and what is shown, stand for the history with the begin.
-pub record IsBegun (setup : Setup) (history : List Entry) (line time : ℕ) (states : List SessionState) (shows : Shown) : Type 0 where
+pub record IsBegun (setup : Setup) (history : List Entry) (line time : ℕ) (states : List SessionState)
+    (shows : Shown) : Type 0 where
   pub legal : Legal setup (begun history line time)
   pub kept : AllNumbered (λ i. IsKept setup (seen_of setup (begun history line time) (number i))) states
   pub shown : shows ≡ shown_states setup (begun history line time)
@@ -139,4 +147,5 @@ pub record IsLastSight (setup : Setup) (history : List Entry) (s : SessionNo) (s
   pub closed : sight.closed ≡ is_closed s (to_finished history)
   pub took : sight.taken ≡ taken setup (to_finished history) s
   pub view : sight.view ≡ shown_view setup (to_finished history) s
-  pub connected : (p : PairNo) → (is_pair sight.view p && sight.connected) ≡ (is_pair (shown_view setup (to_finished history) s) p && is_connected setup (to_finished history) s)
+  pub connected : (p : PairNo) → (is_pair sight.view p && sight.connected)
+      ≡ (is_pair (shown_view setup (to_finished history) s) p && is_connected setup (to_finished history) s)

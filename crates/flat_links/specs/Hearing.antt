@@ -18,7 +18,8 @@ use Rattle.flat_links.specs.declared.pairs.PairState.{PairState}
 
 -- Of two histories, both tell the watchers of a session the same.
 abbrev pub TellsTheSame : Setup → List Entry → List Entry → SessionNo → Type 0
-TellsTheSame setup before after s = (w : Watcher) → listener setup w ≡ Some (Session s) → told setup after w ≡ told setup before w
+TellsTheSame setup before after s = (w : Watcher) → listener setup w ≡ Some (Session s)
+    → told setup after w ≡ told setup before w
 
 -- whether a stamp is there and no later than another, or isn't there
 abbrev pub is_within : Option ℕ → Option ℕ → Bool
@@ -47,15 +48,18 @@ losing_of all s = slice_index_or all (s.0 - 1) None
 -- The ends of a pair were lost no later than their owners may have lost one.
 pub record IsBound (setup : Setup) (all : List (Option ℕ)) (p : PairNo) (state : PairState) : Type 0 where
   pub ended : (w : SessionNo) → view_owner setup p ≡ Some w → is_within state.ended (losing_of all w) ≡ true
-  pub cleared : (v : SessionNo) → viewport_owner setup p ≡ Some (Session v) → is_within state.cleared (losing_of all v) ≡ true
+  pub cleared : (v : SessionNo) → viewport_owner setup p ≡ Some (Session v)
+      → is_within state.cleared (losing_of all v) ≡ true
 
 -- Of each pair whose view's owner isn't in a set, what is pending is seen.
 abbrev pub AreSettledBut : SessionSet → Setup → List PairState → Type 0
-AreSettledBut heard setup pairs = (i : ℕ) (d : PairState) (w : SessionNo) → i < length pairs → view_owner setup (record { 0 = i }) ≡ Some w → 0 < w.0 → w.0 ≤ SESSIONS_MAX → is_member heard w.0 ≡ false
+AreSettledBut heard setup pairs = (i : ℕ) (d : PairState) (w : SessionNo) → i < length pairs
+    → view_owner setup (record { 0 = i }) ≡ Some w → 0 < w.0 → w.0 ≤ SESSIONS_MAX → is_member heard w.0 ≡ false
     → (slice_index_or pairs i d).pending ≡ (slice_index_or pairs i d).seen
 
 -- A set has all members that another has, and the view's owner of this pair, unless what is pending of it is seen.
 pub record HearsOne (setup : Setup) (p : PairNo) (pairs : List PairState) (old new : SessionSet) : Type 0 where
   pub grows : (n : ℕ) → is_member new n ≡ false → is_member old n ≡ false
-  pub hears : (d : PairState) (w : SessionNo) → p.0 < length pairs → view_owner setup p ≡ Some w → 0 < w.0 → w.0 ≤ SESSIONS_MAX → is_member new w.0 ≡ false
+  pub hears : (d : PairState) (w : SessionNo) → p.0 < length pairs → view_owner setup p ≡ Some w → 0 < w.0
+      → w.0 ≤ SESSIONS_MAX → is_member new w.0 ≡ false
       → (slice_index_or pairs p.0 d).pending ≡ (slice_index_or pairs p.0 d).seen

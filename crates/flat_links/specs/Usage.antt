@@ -30,12 +30,15 @@ used_by serial props state = record state { serial = serial; given = Some props;
 -- The states of all pairs after a use of one.
 pub record UsesPair (p : PairNo) (serial : ℕ) (props : ViewportProps) (old new : List PairState) : Type 0 where
   pub count : length new ≡ length old
-  pub each : (i : ℕ) (d : PairState) → i < length old → slice_index_or new i d ≡ cond (p.0 == i) (used_by serial props (slice_index_or old i d)) (slice_index_or old i d)
+  pub each : (i : ℕ) (d : PairState) → i < length old
+      → slice_index_or new i d ≡ cond (p.0 == i) (used_by serial props (slice_index_or old i d))
+      (slice_index_or old i d)
 
 -- the properties of the last of these viewports that is of a pair and has a serial
 abbrev pub props_among : PairNo → List ViewportUse → ℕ → Option ViewportProps
 props_among p [] serial = None
-props_among p (one ∷ more) serial = option_or (props_among p more serial) (cond (one.pair.0 == p.0 && one.serial == serial) (Some one.props) None)
+props_among p (one ∷ more) serial = option_or (props_among p more serial)
+    (cond (one.pair.0 == p.0 && one.serial == serial) (Some one.props) None)
 
 -- a pair's state with other properties pending
 abbrev pub with_pending : PairState → Option ViewportProps → PairState
@@ -50,7 +53,8 @@ pub record SeesOne (p : PairNo) (uses : List ViewportUse) (old new : PairState) 
 -- The states of all pairs after that.
 pub record SeesUses (uses : List ViewportUse) (old new : List PairState) : Type 0 where
   pub count : length new ≡ length old
-  pub each : (i : ℕ) (d : PairState) → i < length old → SeesOne (record { 0 = i }) uses (slice_index_or old i d) (slice_index_or new i d)
+  pub each : (i : ℕ) (d : PairState) → i < length old
+      → SeesOne (record { 0 = i }) uses (slice_index_or old i d) (slice_index_or new i d)
 
 -- a pair's state after a frame ended: what was pending is seen
 abbrev pub settled : PairState → PairState
@@ -59,7 +63,8 @@ settled state = record state { seen = state.pending }
 -- The states of all pairs after that of one.
 pub record SettlesOne (p : PairNo) (old new : List PairState) : Type 0 where
   pub count : length new ≡ length old
-  pub each : (i : ℕ) (d : PairState) → i < length old → slice_index_or new i d ≡ cond (p.0 == i) (settled (slice_index_or old i d)) (slice_index_or old i d)
+  pub each : (i : ℕ) (d : PairState) → i < length old
+      → slice_index_or new i d ≡ cond (p.0 == i) (settled (slice_index_or old i d)) (slice_index_or old i d)
 
 -- The states of all pairs after that.
 pub record SettlesPairs (old new : List PairState) : Type 0 where
@@ -87,14 +92,17 @@ losing_then calls presents losing = cond (list_any is_loss calls) (Some presents
 
 -- what is kept of a session after calls before which it had made so many presents, and which leave it so many contents
 abbrev pub followed_by : List Call → ℕ → ℕ → Following → Following
-followed_by calls presents contents following = record following { contents = contents; losing = losing_then calls presents following.losing }
+followed_by calls presents contents following =
+    record following { contents = contents; losing = losing_then calls presents following.losing }
 
 -- What is kept after calls of a session that had this account, and of which these viewports lived.
-pub record NotesCalls (s : SessionNo) (calls : List Call) (account : Account) (live : List Live) (contents : ℕ) (old new : List Following) (pairs after : List PairState) : Type 0 where
+pub record NotesCalls (s : SessionNo) (calls : List Call) (account : Account) (live : List Live) (contents : ℕ)
+    (old new : List Following) (pairs after : List PairState) : Type 0 where
   pub was : Following
   pub at : was ≡ slice_index_or old (s.0 - 1) was
   pub session : new ≡ slice_set old (s.0 - 1) (followed_by calls account.presents contents was)
   pub contents_are : (n : ℕ) → was.contents ≡ capped n → contents ≡ capped (n + length (contents_made calls))
   pub count : length after ≡ length pairs
   pub each : (i : ℕ) (d : PairState) → i < length pairs
-      → slice_index_or after i d ≡ cleared_if (clears_pair (record { 0 = i }) live calls) account.presents (ended_by i (if_unended account.view (is_ended pairs)) calls account.presents (slice_index_or pairs i d))
+      → slice_index_or after i d ≡ cleared_if (clears_pair (record { 0 = i }) live calls) account.presents
+      (ended_by i (if_unended account.view (is_ended pairs)) calls account.presents (slice_index_or pairs i d))

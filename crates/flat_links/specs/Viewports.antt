@@ -19,23 +19,27 @@ use Rattle.flat_rules.specs.Stamps.{first_at, is_seen, happens_often, stamp_then
 
 -- the stamp of the release of a pair's last use
 abbrev pub released_at : Setup → List Entry → SessionNo → PairNo → Option ℕ
-released_at setup history s p = first_at (happens_often setup (releases_viewport p) (length (viewport_uses p history))) s history
+released_at setup history s p = first_at (happens_often setup (releases_viewport p) (length (viewport_uses p history)))
+    s history
 
 -- the token of a pair, where it is out, and those of all pairs whose viewport end a session owns
 abbrev pub out_of : Setup → List Entry → SessionNo → PairNo → List OutToken
-out_of setup history s p = cond (has_token setup p history) [] ((record { pair = p; released = released_at setup history s p }) ∷ [])
+out_of setup history s p = cond (has_token setup p history) []
+    ((record { pair = p; released = released_at setup history s p }) ∷ [])
 
 abbrev pub outs_of : Setup → List Entry → SessionNo → List OutToken
 outs_of setup history s = flat_map (out_of setup history s) (viewports_of setup s)
 
 -- What is kept stands for the viewports of a session, while it is open.
-pub record AreViewports (setup : Setup) (history : List Entry) (s : SessionNo) (live : List Live) (out : List OutToken) : Type 0 where
+pub record AreViewports (setup : Setup) (history : List Entry) (s : SessionNo) (live : List Live)
+    (out : List OutToken) : Type 0 where
   pub lives : is_closed s history ≡ false → live ≡ lives_after [] (calls s history)
   pub outs : is_closed s history ≡ false → out ≡ outs_of setup history s
 
 -- a token whose viewport these calls release, where its owner made so many presents before
 abbrev pub marked : List Live → List Call → ℕ → OutToken → OutToken
-marked lives calls presents out = record out { released = stamp_then out.released (nat_lt 0 (count_of (releases_live out.pair) lives calls)) presents }
+marked lives calls presents out = record out
+    { released = stamp_then out.released (nat_lt 0 (count_of (releases_live out.pair) lives calls)) presents }
 
 -- one token more, in its place
 abbrev pub with_out : OutToken → List OutToken → List OutToken

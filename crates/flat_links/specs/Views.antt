@@ -21,7 +21,8 @@ layout_by ratio lost joined props = cond lost (Some tell.Gone) (cond joined (opt
 
 -- the status, by whether the view's session is connected, and shows this view
 abbrev pub status_by : Bool → Bool → Bool → Option Told
-status_by lost joined connected = cond lost (Some tell.Gone) (cond joined (Some (cond connected tell.Connected tell.Disconnected)) None)
+status_by lost joined connected = cond lost (Some tell.Gone)
+    (cond joined (Some (cond connected tell.Connected tell.Disconnected)) None)
 
 -- the child, by whether the view end is lost, and whether its session shows the view
 abbrev pub child_by : Bool → Bool → Option Told
@@ -51,15 +52,21 @@ has_view_in pairs state = not state.closed && is_unseen pairs (taken_in state) s
 
 -- a pair's state after calls of the session that owns its view end, where that had made so many presents before
 abbrev pub ended_by : ℕ → Option PairNo → List Call → ℕ → PairState → PairState
-ended_by p view calls presents state = record state { ended = stamp_then state.ended (nat_lt 0 (ends_of (record { 0 = p }) view calls)) presents }
+ended_by p view calls presents state = record state
+    { ended = stamp_then state.ended (nat_lt 0 (ends_of (record { 0 = p }) view calls)) presents }
 
 -- The states of all pairs after such calls.
 pub record EndsViews (view : Option PairNo) (calls : List Call) (presents : ℕ) (old new : List PairState) : Type 0 where
   pub count : length new ≡ length old
-  pub each : (p : ℕ) (d : PairState) → p < length old → slice_index_or new p d ≡ ended_by p view calls presents (slice_index_or old p d)
+  pub each : (p : ℕ) (d : PairState) → p < length old
+      → slice_index_or new p d ≡ ended_by p view calls presents (slice_index_or old p d)
 
 -- The states after the view ended.
 pub record EndsOne (view : Option PairNo) (presents : ℕ) (old new : List PairState) : Type 0 where
   pub count : length new ≡ length old
   pub each : (p : ℕ) (d : PairState) → p < length old
-      → slice_index_or new p d ≡ (let now : PairState = record (slice_index_or old p d) { ended = stamp_then (slice_index_or old p d).ended (is_pair view (record { 0 = p })) presents } in now)
+      → slice_index_or new p d ≡ (let now : PairState =
+      record (slice_index_or old p d) {
+        ended =
+            stamp_then (slice_index_or old p d).ended (is_pair view (record { 0 = p })) presents;
+      } in now)

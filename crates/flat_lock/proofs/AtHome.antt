@@ -1,5 +1,6 @@
 -- Seats at home.
-use Rattle.std.proofs.Common.{◌≡◌, ℕ, ◌<◌, List, [], ◌∷◌, get_or, set, drop, length, sym, refl, ap, ◌∙◌, subst, ⊎_elim, ◌⊎◌, inl, inr, Option, Some, None, true, false, length-set, zero, suc, arith}
+use Rattle.std.proofs.Common.{◌≡◌, ℕ, ◌<◌, List, [], ◌∷◌, get_or, set, drop, length, sym, refl, ap, ◌∙◌, subst, ⊎_elim, ◌⊎◌, inl, inr, Option, Some, None, true}
+use Rattle.std.proofs.Common.{false, length-set, zero, suc, arith}
 use Rattle.std.specs.Prelude.{slice_get, IfSome, IfNone}
 use Rattle.std.proofs.lemmas.List.{set-get_or}
 use Rattle.flat_lock.specs.Seats.{LockView, SeatView, SeatsView, BelongsAt, AreInOrder, all_home}
@@ -32,7 +33,8 @@ module _ {E F : Type 0} where
   seats_with lock seats i after home e = ap (λ (o : Option (SeatView E F)). with_seats lock (set seats i o)) e
 
   -- where no seat was at home, nothing changes
-  pub none_taken : (lock : LockView F) (seats : List (Option (SeatView E F))) (i : ℕ) (home result after : Option (SeatView E F)) → result ≡ home → home ≡ get_or seats i None → after ≡ None
+  pub none_taken : (lock : LockView F) (seats : List (Option (SeatView E F))) (i : ℕ) (home result after : Option (SeatView E F)) → result ≡ home
+      → home ≡ get_or seats i None → after ≡ None
       → IfNone result (with_seats lock (set seats i after) ≡ with_seats lock seats)
   none_taken lock seats i home None after same there away = ap (with_seats lock) (ap (set seats i) (away ∙ same ∙ there) ∙ set-get_or seats i None)
   none_taken lock seats i home (Some s) after same there away = tt
@@ -42,33 +44,40 @@ module _ {E F : Type 0} where
   in_order_set lock seats i o order new = record {
     wide = length-set seats i o ∙ order.wide;
     some_seat = order.some_seat;
-    each = λ j s e. ⊎_elim (λ (t : (j ≡ i) × (o ≡ Some s)). subst (λ (k : ℕ). BelongsAt lock k s) (sym t.0) (new s t.1)) (λ t. order.each j s t) (got_set seats i j o (Some s) e);
+    each = λ j s e. ⊎_elim (λ (t : (j ≡ i) × (o ≡ Some s)). subst (λ (k : ℕ). BelongsAt lock k s) (sym t.0) (new s t.1)) (λ t. order.each j s t)
+        (got_set seats i j o (Some s) e);
   }
 
   -- a seat is taken
-  pub in_order_taken : (lock : LockView F) (seats : List (Option (SeatView E F))) (i : ℕ) (o : Option (SeatView E F)) → AreInOrder lock seats → o ≡ None → AreInOrder lock (set seats i o)
+  pub in_order_taken : (lock : LockView F) (seats : List (Option (SeatView E F))) (i : ℕ) (o : Option (SeatView E F)) → AreInOrder lock seats → o ≡ None
+      → AreInOrder lock (set seats i o)
   in_order_taken lock seats i o order away = in_order_set lock seats i o order (λ s e. absurd (let f : None ≡ Some s = sym away ∙ e in cc))
 
   -- a seat is put back
-  pub in_order_put : (lock : LockView F) (seats : List (Option (SeatView E F))) (i : ℕ) (s : SeatView E F) → AreInOrder lock seats → s.lock ≡ lock → s.has_turn ≡ false → i ≡ s.actor
+  pub in_order_put : (lock : LockView F) (seats : List (Option (SeatView E F))) (i : ℕ) (s : SeatView E F) → AreInOrder lock seats → s.lock ≡ lock
+      → s.has_turn ≡ false → i ≡ s.actor
       → AreInOrder lock (set seats i (Some s))
   in_order_put lock seats i s order own resting at =
-      in_order_set lock seats i (Some s) order (λ t e. subst (BelongsAt lock i) (some-injective s t e) record { of_lock = own; numbered = sym at; resting = resting })
+      in_order_set lock seats i (Some s) order (λ t e. subst (BelongsAt lock i) (some-injective s t e)
+      record { of_lock = own; numbered = sym at; resting = resting })
 
   -- the seat that is found at a place belongs there
-  pub belongs_found : (lock : LockView F) (seats : List (Option (SeatView E F))) (i : ℕ) (o : Option (SeatView E F)) → AreInOrder lock seats → o ≡ get_or seats i None → IfSome o (BelongsAt lock i)
+  pub belongs_found : (lock : LockView F) (seats : List (Option (SeatView E F))) (i : ℕ) (o : Option (SeatView E F)) → AreInOrder lock seats
+      → o ≡ get_or seats i None → IfSome o (BelongsAt lock i)
   belongs_found lock seats i None order e = tt
   belongs_found lock seats i (Some s) order e = order.each i s (got_found seats i s (sym e))
 
   -- where no seat is away, each place has its seat
-  pub home_at : (seats : List (Option (SeatView E F))) → all_home seats ≡ true → (i : ℕ) → i < length seats → (s : SeatView E F) × (slice_get seats i ≡ Some (Some s))
+  pub home_at : (seats : List (Option (SeatView E F))) → all_home seats ≡ true → (i : ℕ) → i < length seats
+      → (s : SeatView E F) × (slice_get seats i ≡ Some (Some s))
   home_at [] home i less = absurd (omega arith)
   home_at (None ∷ xs) home i less = absurd (let f : false ≡ true = home in cc)
   home_at (Some x ∷ xs) home zero less = (x, refl)
   home_at (Some x ∷ xs) home (suc i) less = home_at xs home i (omega arith)
 
   -- the same from the second seat on
-  pub home_after : (seats : List (Option (SeatView E F))) → all_home (drop 1 seats) ≡ true → (i : ℕ) → 0 < i → i < length seats → (s : SeatView E F) × (slice_get seats i ≡ Some (Some s))
+  pub home_after : (seats : List (Option (SeatView E F))) → all_home (drop 1 seats) ≡ true → (i : ℕ) → 0 < i → i < length seats
+      → (s : SeatView E F) × (slice_get seats i ≡ Some (Some s))
   home_after [] home i after less = absurd (omega arith)
   home_after (x ∷ xs) home zero after less = absurd (omega arith)
   home_after (x ∷ xs) home (suc i) after less = home_at xs home i (omega arith)

@@ -1,5 +1,6 @@
 -- The seats of a new lock, and the seats that are put together.
-use Rattle.std.proofs.Common.{◌≡◌, ◌≢◌, ℕ, ◌+◌, ◌<◌, List, [], ◌∷◌, ◌++◌, length, set, map, drop, sym, refl, ap, subst, ◌∙◌, arith, Option, Some, None, true, length-set, length-append, zero, suc, append_assoc, append-nil, le_refl}
+use Rattle.std.proofs.Common.{◌≡◌, ◌≢◌, ℕ, ◌+◌, ◌<◌, List, [], ◌∷◌, ◌++◌, length, set, map, drop, sym, refl, ap, subst, ◌∙◌, arith, Option, Some, None, true}
+use Rattle.std.proofs.Common.{length-set, length-append, zero, suc, append_assoc, append-nil, le_refl}
 use Rattle.std.proofs.lemmas.List.{drop_all}
 use Rattle.std.specs.Prelude.{slice_get}
 use Rattle.std.proofs.Math.Seq.{drop-append_seam}
@@ -40,13 +41,20 @@ module _ {X : Type 0} where
 
   -- the last one of what is left is the next one of what was popped
   pub popped : (all left front : List X) (x : X) → all ≡ left ++ drop (length left) all → left ≡ front ++ x ∷ []
-      → (all ≡ front ++ drop (length front) all) × (drop (length front) all ≡ x ∷ drop (length left) all) × (slice_get all (length front) ≡ Some x) × (length front < length all) × (length left ≡ length front + 1)
+      → (all ≡ front ++ drop (length front) all) × (drop (length front) all ≡ x ∷ drop (length left) all) × (slice_get all (length front) ≡ Some x)
+      × (length front < length all) × (length left ≡ length front + 1)
   popped all left front x e is =
       let rest : List X = drop (length left) all in
       let whole : all ≡ front ++ (x ∷ rest) = e ∙ (ap (λ (z : List X). z ++ rest) is ∙ append_assoc front (x ∷ []) rest) in
       let cut : drop (length front) all ≡ x ∷ rest = ap (λ (z : List X). drop (length front) z) whole ∙ drop-append_seam front (x ∷ rest) in
-      let wide : length all ≡ length front + suc (length rest) = ap (λ (z : List X). length z) whole ∙ length-append front (x ∷ rest) in
-      (whole ∙ ap (λ (z : List X). front ++ z) (sym cut), cut, ap (λ (z : List X). slice_get z (length front)) whole ∙ got_at front x rest, omega arith, ap (λ (z : List X). length z) is ∙ length-append front (x ∷ []))
+      let wide : length all ≡ length front + suc (length rest) = ap (λ (z : List X). length z) whole ∙ length-append front (x ∷ rest) in (
+        whole ∙ ap (λ (z : List X). front ++ z) (sym cut),
+        cut,
+        ap (λ (z : List X). slice_get z (length front)) whole
+            ∙ got_at front x rest,
+        omega arith,
+        ap (λ (z : List X). length z) is ∙ length-append front (x ∷ []),
+      )
 
 abbrev Homes : Type 0 → Type 0 → Type 0
 Homes E F = List (Option (SeatView E F))
@@ -60,7 +68,8 @@ module _ {E F : Type 0} where
       → ((i : ℕ) → 0 < i → i < n → slice_get seats i ≡ Some (Some (new_seat lock i))) → seat ≡ Some (new_seat lock n)
       → (i : ℕ) → 0 < i → i < n + 1 → slice_get seats' i ≡ Some (Some (new_seat lock i))
   made_longer seats seats' n lock seat e long made is i after less = ap (λ (l : Homes E F). slice_get l i) e ∙ dite (ℕ_discrete i n)
-      (λ same. ap (λ (k : ℕ). slice_get (seats ++ seat ∷ []) k) (same ∙ sym long) ∙ (got_at seats seat [] ∙ (ap Some is ∙ ap (λ (k : ℕ). Some (Some (new_seat lock k))) (sym same))))
+      (λ same. ap (λ (k : ℕ). slice_get (seats ++ seat ∷ []) k) (same ∙ sym long)
+      ∙ (got_at seats seat [] ∙ (ap Some is ∙ ap (λ (k : ℕ). Some (Some (new_seat lock k))) (sym same))))
       (λ other. got_before seats (seat ∷ []) i (omega arith) ∙ made i after (omega arith))
 
   -- all were made, and the first one last
@@ -75,7 +84,8 @@ module _ {E F : Type 0} where
   }
 
   -- the last seat but the first is at home
-  last_home : (lock : LockView F) (all left front : Homes E F) (home : Option (SeatView E F)) → AreInOrder lock all → all_home (drop 1 all) ≡ true → all ≡ left ++ drop (length left) all → left ≡ front ++ home ∷ []
+  last_home : (lock : LockView F) (all left front : Homes E F) (home : Option (SeatView E F)) → AreInOrder lock all → all_home (drop 1 all) ≡ true
+      → all ≡ left ++ drop (length left) all → left ≡ front ++ home ∷ []
       → 1 < length left → (s : SeatView E F) × (home ≡ Some s) × BelongsAt lock (length front) s
   last_home lock all left front home order here e is more =
       let cut = popped all left front home e is in
@@ -83,13 +93,15 @@ module _ {E F : Type 0} where
       let found = home_after all here (length front) (omega arith) cut.3 in
       (found.0, some-injective home (Some found.0) (sym cut.2 ∙ found.1), order.each (length front) found.0 found.1)
 
-  pub last_belongs : (lock : LockView F) (all left front : Homes E F) (home : Option (SeatView E F)) (last : SeatView E F) → AreInOrder lock all → all_home (drop 1 all) ≡ true → all ≡ left ++ drop (length left) all → left ≡ front ++ home ∷ []
+  pub last_belongs : (lock : LockView F) (all left front : Homes E F) (home : Option (SeatView E F)) (last : SeatView E F) → AreInOrder lock all
+      → all_home (drop 1 all) ≡ true → all ≡ left ++ drop (length left) all → left ≡ front ++ home ∷ []
       → 1 < length left → home ≡ Some last → BelongsAt lock (length front) last
   last_belongs lock all left front home last order here e is more found =
       let h = last_home lock all left front home order here e is more in
       subst (BelongsAt lock (length front)) (some-injective h.0 last (sym h.1 ∙ found)) h.2
 
-  pub last_missing : (lock : LockView F) (all left front : Homes E F) (home : Option (SeatView E F)) → AreInOrder lock all → all_home (drop 1 all) ≡ true → all ≡ left ++ drop (length left) all → left ≡ front ++ home ∷ []
+  pub last_missing : (lock : LockView F) (all left front : Homes E F) (home : Option (SeatView E F)) → AreInOrder lock all → all_home (drop 1 all) ≡ true
+      → all ≡ left ++ drop (length left) all → left ≡ front ++ home ∷ []
       → 1 < length left → home ≡ None → ⊥
   last_missing lock all left front home order here e is more away =
       let h = last_home lock all left front home order here e is more in let both : None ≡ Some h.0 = sym away ∙ h.1 in cc
@@ -104,7 +116,8 @@ module _ {T E F : Type 0} where
   keeps_none m gone carried ended none = λ i. (record m.0 { ended = (ended ∙ ap (λ (z : Homes E F). map left_by z) (sym none)) i }, carried i)
 
   -- one more was joined
-  pub keeps_more : (m was m' w : M T E F) (table : TableId) (s : SeatView E F) (gone gone' : Homes E F) → m ≡ keeping was gone → m' ≡ (joining m.0 w.0, m.1) → seat_view table w.0 ≡ s → gone' ≡ Some s ∷ gone → m' ≡ keeping was gone'
+  pub keeps_more : (m was m' w : M T E F) (table : TableId) (s : SeatView E F) (gone gone' : Homes E F) → m ≡ keeping was gone → m' ≡ (joining m.0 w.0, m.1)
+      → seat_view table w.0 ≡ s → gone' ≡ Some s ∷ gone → m' ≡ keeping was gone'
   keeps_more m was m' w table s gone gone' kept joined view more =
       joined ∙ (ap (λ (z : M T E F). let r : M T E F = (joining z.0 w.0, z.1) in r) kept
       ∙ (ap (λ (z : SeatView E F). let r : M T E F = (record was.0 { ended = left_by (Some z) ∷ map left_by gone }, []) in r) view

@@ -1,5 +1,6 @@
 -- Each step of a turn keeps the rule.
-use Rattle.std.proofs.Common.{◌≡◌, ◌≢◌, ℕ, ◌+◌, ◌%◌, ◌^◌, ◌≤◌, List, [], ◌∷◌, ◌++◌, length, get_or, set, drop, eqb, sym, refl, ap, ◌∙◌, subst, ⊎_elim, inl, inr, arith, Option, Some, None}
+use Rattle.std.proofs.Common.{◌≡◌, ◌≢◌, ℕ, ◌+◌, ◌%◌, ◌^◌, ◌≤◌, List, [], ◌∷◌, ◌++◌, length, get_or, set, drop, eqb, sym, refl, ap, ◌∙◌, subst, ⊎_elim, inl, inr}
+use Rattle.std.proofs.Common.{arith, Option, Some, None}
 use Rattle.std.proofs.Math.Nat.{mod-add-mod}
 use mathlib.Core.Logic.{dite}
 use mathlib.Core.Option.{none, some, some-injective}
@@ -41,7 +42,8 @@ module _ {T E F : Type 0} (history : T → List E) (actor : E → ℕ) (fixed : 
   value_or d ((k, Some x) ∷ c) = x
 
   -- where the seat that steps hasn't the turn, the value stays where it is
-  pub home_stays : (constant : F) (log : List E) (served : ℕ) (vs : List V) (homes : Homes) (id : ℕ) (v w : V) → get_elem? vs id ≡ some v → v.turn ≢ Holds served
+  pub home_stays : (constant : F) (log : List E) (served : ℕ) (vs : List V) (homes : Homes) (id : ℕ) (v w : V) → get_elem? vs id ≡ some v
+      → v.turn ≢ Holds served
       → IsHomeOrHeld history actor fixed constant log served vs homes → IsHomeOrHeld history actor fixed constant log served (set vs id w) homes
   home_stays constant log served vs homes id v w at not home = ⊎_elim (λ t. inl t)
       (λ held. let holder : ℕ = held.1.0 in let u : V = held.1.1 in
@@ -50,7 +52,8 @@ module _ {T E F : Type 0} (history : T → List E) (actor : E → ℕ) (fixed : 
       inr (held.0, (holder, u, set_else vs id holder w apart ∙ held.1.2, held.1.3))) home
 
   -- a step of the seat id, after which its view is w
-  moved : (s : St) (r : Rule s) (log' : List E) (drawn' served' : ℕ) (drawn_by' : ℕ → ℕ) (words' : List ℕ) (homes' : Homes) (id : ℕ) (v w : V) → get_elem? s.views id ≡ some v → seats_in w.turn ≡ seats_in v.turn
+  moved : (s : St) (r : Rule s) (log' : List E) (drawn' served' : ℕ) (drawn_by' : ℕ → ℕ) (words' : List ℕ) (homes' : Homes) (id : ℕ) (v w : V)
+      → get_elem? s.views id ≡ some v → seats_in w.turn ≡ seats_in v.turn
       → words' ≡ drawn' % 2 ^ 64 ∷ served' % 2 ^ 64 ∷ []
       → total tickets_in (set s.views id w) + served' ≡ drawn'
       → IsHomeOrHeld history actor fixed r.constant log' served' (set s.views id w) homes'
@@ -78,25 +81,31 @@ module _ {T E F : Type 0} (history : T → List E) (actor : E → ℕ) (fixed : 
   }
 
   -- a seat that hasn't the turn comes to know something else
-  pub settled : (s : St) (r : Rule s) (words' : List ℕ) (id : ℕ) (v w : V) → get_elem? s.views id ≡ some v → w.turn ≡ v.turn → v.turn ≢ Holds r.served → words' ≡ s.words
+  pub settled : (s : St) (r : Rule s) (words' : List ℕ) (id : ℕ) (v w : V) → get_elem? s.views id ≡ some v → w.turn ≡ v.turn → v.turn ≢ Holds r.served
+      → words' ≡ s.words
       → IsSound actor r.constant r.seats r.log r.drawn r.served r.handed_out r.drawn_by r.owner id w
       → Rule record { words = words'; homes = s.homes; views = set s.views id w }
   settled s r words' id v w at same not words_stay own =
       let as_many : total tickets_in (set s.views id w) ≡ total tickets_in s.views = total-same tickets_in s.views id v w at (ap tickets_in same) in
-      moved s r r.log r.drawn r.served r.drawn_by words' s.homes id v w at (ap seats_in same) (words_stay ∙ r.words_are) (ap (λ (n : ℕ). n + r.served) as_many ∙ r.queue)
+      moved s r r.log r.drawn r.served r.drawn_by words' s.homes id v w at (ap seats_in same) (words_stay ∙ r.words_are)
+      (ap (λ (n : ℕ). n + r.served) as_many ∙ r.queue)
       (home_stays r.constant r.log r.served s.views s.homes id v w at not r.home) own (λ j u other e. r.each_seat j u e) r.others
 
   -- a step that changes nothing
-  unmoved : (s : St) (r : Rule s) (i id : ℕ) (cs : List (ℕ × Option T)) (v : V) → get_elem? s.views id ≡ some v → Rule (stepped s i (get_or s.words i 0) id cs v keeps)
-  unmoved s r i id cs v at = subst (λ (x : List ℕ × List V). Rule record { words = x.0; homes = s.homes; views = x.1 }) (λ k. (sym (set-get_or s.words i 0) k, sym (set_again s.views id v at) k)) r
+  unmoved : (s : St) (r : Rule s) (i id : ℕ) (cs : List (ℕ × Option T)) (v : V) → get_elem? s.views id ≡ some v
+      → Rule (stepped s i (get_or s.words i 0) id cs v keeps)
+  unmoved s r i id cs v at = subst (λ (x : List ℕ × List V). Rule record { words = x.0; homes = s.homes; views = x.1 })
+      (λ k. (sym (set-get_or s.words i 0) k, sym (set_again s.views id v at) k)) r
 
   module _ (slots id : ℕ) (me : M) where
     -- what a step of the seat comes to, where the word i becomes n
     abbrev Goes : St → ℕ → ℕ → (M → Type 0) → Type 0
     Goes s i n then = (w : V) × (a : Act (Option T)) × Valid s.homes me.1 a × Rule (stepped s i n id me.1 w a) × then (w, carried_after me.1 a)
 
-    pub draws : (k next : ℕ) → next ≡ (k + 1) % 2 ^ 64 → me.0.turn ≡ Idle → Allows Rule slots id me 0 (λ n. either (eqb n k) next n) (DrawsTicket (step slots 0 k next none) me)
-    draws k next is idle s r _ at small = exchanged (get_or s.words 0 0) k next (λ n. Goes s 0 n (DrawsTicket (step slots 0 k next none) me (get_or s.words 0 0)))
+    pub draws : (k next : ℕ) → next ≡ (k + 1) % 2 ^ 64 → me.0.turn ≡ Idle
+        → Allows Rule slots id me 0 (λ n. either (eqb n k) next n) (DrawsTicket (step slots 0 k next none) me)
+    draws k next is idle s r _ at small = exchanged (get_or s.words 0 0) k next
+        (λ n. Goes s 0 n (DrawsTicket (step slots 0 k next none) me (get_or s.words 0 0)))
         (λ (hit : get_or s.words 0 0 ≡ k).
         let w : V = waiting r.drawn me.0 in
         let found : get_or s.words 0 0 ≡ r.drawn % 2 ^ 64 = ap (λ (l : List ℕ). get_or l 0 0) r.words_are in
@@ -112,7 +121,8 @@ module _ {T E F : Type 0} (history : T → List E) (actor : E → ℕ) (fixed : 
           tt,
           moved s r r.log (r.drawn + 1) r.served (updated r.drawn_by r.drawn id) (set s.words 0 next) s.homes id me.0 w at (sym (ap seats_in idle))
               (ap (λ (n : ℕ). set s.words 0 n) next_is
-              ∙ (ap (λ (l : List ℕ). set l 0 ((get_or l 0 0 + 1) % 2 ^ 64)) r.words_are ∙ ap (λ (x : ℕ). x ∷ r.served % 2 ^ 64 ∷ []) (mod-add-mod r.drawn (2 ^ 64) 1)))
+              ∙ (ap (λ (l : List ℕ). set l 0 ((get_or l 0 0 + 1) % 2 ^ 64)) r.words_are
+              ∙ ap (λ (x : ℕ). x ∷ r.served % 2 ^ 64 ∷ []) (mod-add-mod r.drawn (2 ^ 64) 1)))
               queue'
               (home_stays r.constant r.log r.served s.views s.homes id me.0 w at (λ holds. let e : Idle ≡ Holds r.served = sym idle ∙ holds in cc) r.home)
               record {
@@ -160,7 +170,8 @@ module _ {T E F : Type 0} (history : T → List E) (actor : E → ℕ) (fixed : 
         let found : get_or s.words 1 0 ≡ r.served % 2 ^ 64 = ap (λ (l : List ℕ). get_or l 1 0) r.words_are in
         let has = subst (HasTicket r.drawn r.served r.drawn_by id) waits was.turn in
         let before : ℕ = total tickets_in s.views in let queue : before + r.served ≡ r.drawn = r.queue in
-        let live_seats : ℕ = total seats_in s.views in let short : before ≤ live_seats = tickets-le s.views in let few_live : live_seats ≤ r.handed_out = r.few_live in let few_handed_out = r.few_handed_out in let few_seats = r.few_seats in
+        let live_seats : ℕ = total seats_in s.views in let short : before ≤ live_seats = tickets-le s.views in let few_live : live_seats ≤ r.handed_out =
+        r.few_live in let few_handed_out = r.few_handed_out in let few_seats = r.few_seats in
         let again : (k : ℕ) → me.0.turn ≡ Waits k → n ≡ k = λ k e. let both : Waits n ≡ Waits k = sym waits ∙ e in cc in
         dite (ℕ_discrete (get_or s.words 1 0) (n % 2 ^ 64))
         (λ (hit : get_or s.words 1 0 ≡ n % 2 ^ 64).
@@ -230,12 +241,15 @@ module _ {T E F : Type 0} (history : T → List E) (actor : E → ℕ) (fixed : 
         let made : w.mine ≡ entries_of actor own log' = ap (λ (l : List E). l ++ drop (length me.0.seen) log') owns.made
         ∙ (ap (λ (l : List E). entries_of actor own r.log ++ drop (length l) log') seen ∙ sym (entries_of-goes_on actor own r.log log' goes')) in
         let apart : (j c : ℕ) → j ≢ id → r.owner c ≡ j → c ≢ own = λ j c other o e. other (sym o ∙ (ap r.owner e ∙ owns.owned)) in
-        let emptied : set s.homes 0 (some (Some x)) ≡ some (Some x) ∷ [] = ⊎_elim (λ t. ap (λ (l : Homes). set l 0 (some (Some x))) t.1) (λ t. ap (λ (l : Homes). set l 0 (some (Some x))) t.0) r.home in (
+        let emptied : set s.homes 0 (some (Some x)) ≡ some (Some x) ∷ [] =
+        ⊎_elim (λ t. ap (λ (l : Homes). set l 0 (some (Some x))) t.1) (λ t. ap (λ (l : Homes). set l 0 (some (Some x))) t.0) r.home in (
           w,
           gives,
           tt,
-          moved s r log' r.drawn (r.served + 1) r.drawn_by (set s.words 1 ((get_or s.words 1 0 + 1) % 2 ^ 64)) (put_back s.homes me.1) id me.0 w at (sym (ap seats_in holds))
-              (ap (λ (l : List ℕ). set l 1 ((get_or l 1 0 + 1) % 2 ^ 64)) r.words_are ∙ ap (λ (z : ℕ). r.drawn % 2 ^ 64 ∷ z ∷ []) (mod-add-mod r.served (2 ^ 64) 1))
+          moved s r log' r.drawn (r.served + 1) r.drawn_by (set s.words 1 ((get_or s.words 1 0 + 1) % 2 ^ 64)) (put_back s.homes me.1) id me.0 w at
+              (sym (ap seats_in holds))
+              (ap (λ (l : List ℕ). set l 1 ((get_or l 1 0 + 1) % 2 ^ 64)) r.words_are
+              ∙ ap (λ (z : ℕ). r.drawn % 2 ^ 64 ∷ z ∷ []) (mod-add-mod r.served (2 ^ 64) 1))
               queue'
               (inl (x, ap (λ (c : List (ℕ × Option T)). put_back s.homes c) carried ∙ emptied, refl, constant'))
               record {
@@ -248,7 +262,8 @@ module _ {T E F : Type 0} (history : T → List E) (actor : E → ℕ) (fixed : 
                 first = was.first;
                 ended = λ k d e. let f = was.ended k d e in (owns-others actor own log' goes' f.1 f.0, f.1, begins_after actor own r.log log' d.seen goes' f.2);
               }
-              (λ j v other e. let k = r.each_seat j v e in let t = others_served r.drawn r.served id j r.drawn_by r.log log' v.seen v.turn other (ap r.drawn_by (sym has.0) ∙ has.2) k.turn in record {
+              (λ j v other e. let k = r.each_seat j v e in let t =
+              others_served r.drawn r.served id j r.drawn_by r.log log' v.seen v.turn other (ap r.drawn_by (sym has.0) ∙ has.2) k.turn in record {
                 seen = begins_after actor own r.log log' v.seen goes' k.seen;
                 noted = begins_after actor own r.log log' v.noted goes' k.noted;
                 turn = t.0;
@@ -256,21 +271,28 @@ module _ {T E F : Type 0} (history : T → List E) (actor : E → ℕ) (fixed : 
                 own = λ l. let f = k.own l in owns-others actor own log' goes' (apart j v.actor other f.owned) f;
                 lock = k.lock;
                 first = k.first;
-                ended = λ i d g. let f = k.ended i d g in (owns-others actor own log' goes' (apart j d.actor other f.0.owned) f.0, f.1, begins_after actor own r.log log' d.seen goes' f.2);
+                ended = λ i d g. let f = k.ended i d g in (
+                  owns-others actor own log' goes' (apart j d.actor other f.0.owned) f.0,
+                  f.1,
+                  begins_after actor own r.log log' d.seen goes' f.2,
+                );
               })
               (λ c l. let known = owns.known in entries_of-others actor own c r.log log' (λ e. omega arith) goes' ∙ r.others c l),
           λ y e. let m : x ≡ y = ap (value_or x) (sym carried ∙ e) in
-              subst (λ (z : T). HasLeft actor (history z) me (w, rest me.1)) m (ap (λ (c : List (ℕ × Option T)). let after : M = (w, rest c) in after) carried, made),
+              subst (λ (z : T). HasLeft actor (history z) me (w, rest me.1)) m
+              (ap (λ (c : List (ℕ × Option T)). let after : M = (w, rest c) in after) carried, made),
         )
 
   -- the same for a seat that had the turn, and has put x back
-  pub gives_back : (slots id : ℕ) (was me : M) (x : T) → HasTurn was → me ≡ (was.0, (0, Some x) ∷ rest was.1) → GoesOn actor was.0.actor was.0.seen (history x) → was.0.fixed ≡ Some (fixed x)
+  pub gives_back : (slots id : ℕ) (was me : M) (x : T) → HasTurn was → me ≡ (was.0, (0, Some x) ∷ rest was.1) → GoesOn actor was.0.actor was.0.seen (history x)
+      → was.0.fixed ≡ Some (fixed x)
       → Allows Rule slots id me 1 (λ k. (k + 1) % 2 ^ 64) (ServesNext history actor (step slots 1 1 0 none) me)
   gives_back slots id was me x has e goes constant = let now : M = (was.0, (0, Some x) ∷ rest was.1) in
       subst (λ (m : M). Allows Rule slots id m 1 (λ k. (k + 1) % 2 ^ 64) (ServesNext history actor (step slots 1 1 0 none) m)) (sym e)
       (serves slots id now has.0 x has.1 (ap (λ (c : List (ℕ × Option T)). (0, Some x) ∷ rest c) has.2) goes constant)
 
-  pub given_back : (was me after : M) (x : T) → HasTurn was → me ≡ (was.0, (0, Some x) ∷ rest was.1) → ((y : T) → me.1 ≡ (0, Some y) ∷ [] → HasLeft actor (history y) me after) → HasLeft actor (history x) was after
+  pub given_back : (was me after : M) (x : T) → HasTurn was → me ≡ (was.0, (0, Some x) ∷ rest was.1)
+      → ((y : T) → me.1 ≡ (0, Some y) ∷ [] → HasLeft actor (history y) me after) → HasLeft actor (history x) was after
   given_back was me after x has e then =
       let slots : me.1 ≡ (0, Some x) ∷ [] = ap (λ (m : M). m.1) e ∙ ap (λ (c : List (ℕ × Option T)). (0, Some x) ∷ rest c) has.2 in
       let left = then x slots in

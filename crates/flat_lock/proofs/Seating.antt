@@ -1,5 +1,6 @@
 -- A lock opens, its first seat splits and takes others in, and it closes: the rule is kept.
-use Rattle.std.proofs.Common.{◌≡◌, ◌≢◌, ℕ, ◌+◌, ◌^◌, ◌<◌, ◌≤◌, List, [], ◌∷◌, ◌++◌, length, set, sym, refl, ap, ◌∙◌, subst, ⊎_elim, ◌⊎◌, inl, inr, arith, Option, Some, true, false, length-set, zero, suc}
+use Rattle.std.proofs.Common.{◌≡◌, ◌≢◌, ℕ, ◌+◌, ◌^◌, ◌<◌, ◌≤◌, List, [], ◌∷◌, ◌++◌, length, set, sym, refl, ap, ◌∙◌, subst, ⊎_elim, ◌⊎◌, inl, inr, arith}
+use Rattle.std.proofs.Common.{Option, Some, true, false, length-set, zero, suc}
 use mathlib.Core.Logic.{dite}
 use mathlib.Core.Option.{none, some, some-ne-none, some-injective}
 use mathlib.Core.Option as maybe
@@ -40,12 +41,22 @@ module _ {T E F : Type 0} (history : T → List E) (actor : E → ℕ) (fixed : 
 
   -- a split leaves the value where it is
   home_split : (constant : F) (log : List E) (served : ℕ) (vs : List V) (homes : List (maybe.Option (Option T))) (id : ℕ) (v : V) → get_elem? vs id ≡ some v
-      → IsHomeOrHeld history actor fixed constant log served vs homes → IsHomeOrHeld history actor fixed constant log served (set vs id (splitting v) ++ split_off v ∷ []) homes
+      → IsHomeOrHeld history actor fixed constant log served vs homes
+      → IsHomeOrHeld history actor fixed constant log served (set vs id (splitting v) ++ split_off v ∷ []) homes
   home_split constant log served vs homes id v at home = ⊎_elim (λ t. inl t) (λ held. let holder : ℕ = held.1.0 in let u : V = held.1.1 in
       let vs' : List V = set vs id (splitting v) in
       dite (ℕ_discrete holder id)
       (λ e. let same : v ≡ u = some-injective v u (sym at ∙ (ap (λ (k : ℕ). get_elem? vs k) (sym e) ∙ held.1.2)) in
-      inr (held.0, (id, splitting v, at_longer vs' (split_off v ∷ []) id (splitting v) (set_there vs id v (splitting v) at), ap (λ (z : V). z.turn) same ∙ held.1.3)))
+      inr (
+        held.0,
+        (
+          id,
+          splitting v,
+          at_longer vs' (split_off v ∷ []) id (splitting v) (set_there vs id v (splitting v) at),
+          ap (λ (z : V). z.turn) same
+              ∙ held.1.3,
+        ),
+      ))
       (λ other. inr (held.0, (holder, u, at_longer vs' (split_off v ∷ []) holder u (set_else vs id holder (splitting v) other ∙ held.1.2), held.1.3)))) home
 
   pub splits : (id : ℕ) (v : V) → v.turn ≡ Idle → v.first ≡ true → v.handed_out < v.seats → Splits Rule id v (splitting v) (split_off v)
@@ -60,10 +71,13 @@ module _ {T E F : Type 0} (history : T → List E) (actor : E → ℕ) (fixed : 
       let vs' : List V = set s.views id (splitting v) in
       let wide : length vs' ≡ n = length-set s.views id (splitting v) in
       let Sound : ℕ → V → Type 0 = IsSound actor r.constant r.seats r.log r.drawn r.served (h + 1) r.drawn_by owner' in
-      let kept : (seat a : ℕ) (mine : List E) → OwnsActor actor r.log h r.owner seat a mine → OwnsActor actor r.log (h + 1) owner' seat a mine = λ seat a mine owns.
+      let kept : (seat a : ℕ) (mine : List E) → OwnsActor actor r.log h r.owner seat a mine → OwnsActor actor r.log (h + 1) owner' seat a mine =
+      λ seat a mine owns.
       let less : a < h = owns.known in owns-more actor (h + 1) owner' (omega arith) (updated-other r.owner v.handed_out n a (λ e. omega arith)) owns in
-      let as_many : total tickets_in (vs' ++ split_off v ∷ []) ≡ total tickets_in s.views + 0 = total-snoc tickets_in vs' (split_off v) ∙ ap (λ (k : ℕ). k + 0) (total-same tickets_in s.views id v (splitting v) at refl) in
-      let one_more : total seats_in (vs' ++ split_off v ∷ []) ≡ total seats_in s.views + 1 = total-snoc seats_in vs' (split_off v) ∙ ap (λ (k : ℕ). k + 1) (total-same seats_in s.views id v (splitting v) at refl) in
+      let as_many : total tickets_in (vs' ++ split_off v ∷ []) ≡ total tickets_in s.views + 0 =
+      total-snoc tickets_in vs' (split_off v) ∙ ap (λ (k : ℕ). k + 0) (total-same tickets_in s.views id v (splitting v) at refl) in
+      let one_more : total seats_in (vs' ++ split_off v ∷ []) ≡ total seats_in s.views + 1 =
+      total-snoc seats_in vs' (split_off v) ∙ ap (λ (k : ℕ). k + 1) (total-same seats_in s.views id v (splitting v) at refl) in
       let before : ℕ = total tickets_in s.views in let after : ℕ = total tickets_in (vs' ++ split_off v ∷ []) in
       let same : after ≡ before + 0 = as_many in
       let queue : before + r.served ≡ r.drawn = r.queue in
@@ -134,17 +148,20 @@ module _ {T E F : Type 0} (history : T → List E) (actor : E → ℕ) (fixed : 
       let leaver = joined.own (subst IsLive (sym idle') tt) in
       let owner' : ℕ → ℕ = updated r.owner w.actor id in
       let Sound : ℕ → V → Type 0 = IsSound actor r.constant r.seats r.log r.drawn r.served h r.drawn_by owner' in
-      let kept : (seat a : ℕ) (mine : List E) → seat ≢ other → OwnsActor actor r.log h r.owner seat a mine → OwnsActor actor r.log h owner' seat a mine = λ seat a mine off owns.
+      let kept : (seat a : ℕ) (mine : List E) → seat ≢ other → OwnsActor actor r.log h r.owner seat a mine → OwnsActor actor r.log h owner' seat a mine =
+      λ seat a mine off owns.
       let differs : a ≢ w.actor = λ e. off (sym owns.owned ∙ (ap r.owner e ∙ leaver.owned)) in
       owns-more actor h owner' (omega arith) (updated-other r.owner w.actor id a differs) owns in
       let away : id ≢ other = λ e. apart (sym e) in
-      let before : ℕ = total tickets_in s.views in let between : ℕ = total tickets_in vs' in let after : ℕ = total tickets_in (set vs' other spent) in let ticket : ℕ = tickets_in w.turn in
+      let before : ℕ = total tickets_in s.views in let between : ℕ = total tickets_in vs' in let after : ℕ =
+      total tickets_in (set vs' other spent) in let ticket : ℕ = tickets_in w.turn in
       let as_many : between ≡ before = total-same tickets_in s.views id v u at refl in
       let as_many' : after + ticket ≡ between + 0 = total-set tickets_in vs' other w spent there' in
       let no_ticket : ticket ≡ 0 = ap tickets_in idle' in
       let queue : before + r.served ≡ r.drawn = r.queue in
       let queue' : after + r.served ≡ r.drawn = omega arith in
-      let live_before : ℕ = total seats_in s.views in let live_between : ℕ = total seats_in vs' in let live_after : ℕ = total seats_in (set vs' other spent) in let seat : ℕ = seats_in w.turn in
+      let live_before : ℕ = total seats_in s.views in let live_between : ℕ = total seats_in vs' in let live_after : ℕ =
+      total seats_in (set vs' other spent) in let seat : ℕ = seats_in w.turn in
       let live : live_between ≡ live_before = total-same seats_in s.views id v u at refl in
       let live' : live_after + seat ≡ live_between + 0 = total-set seats_in vs' other w spent there' in
       let few_live : live_before ≤ h = r.few_live in
@@ -183,8 +200,12 @@ module _ {T E F : Type 0} (history : T → List E) (actor : E → ℕ) (fixed : 
               lock = was.lock;
               first = was.first;
               ended = elim [
-                | zero ↦ λ d g. subst (λ (z : Ended E). OwnsActor actor r.log h owner' id z.actor z.mine × (z.actor ≢ v.actor) × StartsWith r.log z.seen) (some-injective (ended_view w) d g)
-                    (record { made = leaver.made; known = leaver.known; owned = updated-same r.owner w.actor id }, λ h. apart (sym leaver.owned ∙ (ap r.owner h ∙ keeper.owned)), joined.seen)
+                | zero ↦ λ d g. subst (λ (z : Ended E). OwnsActor actor r.log h owner' id z.actor z.mine × (z.actor ≢ v.actor) × StartsWith r.log z.seen)
+                    (some-injective (ended_view w) d g) (
+                      record { made = leaver.made; known = leaver.known; owned = updated-same r.owner w.actor id },
+                      λ h. apart (sym leaver.owned ∙ (ap r.owner h ∙ keeper.owned)),
+                      joined.seen,
+                    )
                 | suc k ↦ λ d g. let f = was.ended k d g in (kept id d.actor d.mine away f.0, f.1, f.2)
               ];
             })

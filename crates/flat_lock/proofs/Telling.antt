@@ -50,7 +50,8 @@ module _ {T E F : Type 0} (history : T → List E) (actor : E → ℕ) (fixed : 
       inr (held.0, (holder, u, at_longer vs (w ∷ []) holder u held.1.2, held.1.3))) home
 
   -- a note is one more view, which is no seat
-  with_note : (s : St) (r : Rule s) (part : List E) → StartsWith r.log part → Rule record { words = s.words; homes = s.homes; views = s.views ++ note part ∷ [] }
+  with_note : (s : St) (r : Rule s) (part : List E) → StartsWith r.log part
+      → Rule record { words = s.words; homes = s.homes; views = s.views ++ note part ∷ [] }
   with_note s r part begins =
       let before : ℕ = total tickets_in s.views in let after : ℕ = total tickets_in (s.views ++ note part ∷ []) in
       let as_many : after ≡ before + 0 = total-snoc tickets_in s.views (note part) in
@@ -75,14 +76,16 @@ module _ {T E F : Type 0} (history : T → List E) (actor : E → ℕ) (fixed : 
         few_seats = r.few_seats;
         home = home_longer r.constant r.log r.served s.views s.homes (note part) r.home;
         each_seat = λ j u e. ⊎_elim (λ t. r.each_seat j u t)
-            (λ t. subst (IsSound actor r.constant r.seats r.log r.drawn r.served r.handed_out r.drawn_by r.owner j) t.0 (note_sound r.constant r.seats r.log r.drawn r.served r.handed_out r.drawn_by r.owner j part begins))
+            (λ t. subst (IsSound actor r.constant r.seats r.log r.drawn r.served r.handed_out r.drawn_by r.owner j) t.0
+            (note_sound r.constant r.seats r.log r.drawn r.served r.handed_out r.drawn_by r.owner j part begins))
             (at_end s.views (note part) u j e);
         others = r.others;
       }
 
   -- a seat makes a note of what it has seen
   pub notes : (id : ℕ) (v : V) → Splits Rule id v (noting v) (note_of v)
-  notes id v s r at = subst (λ (vs : List V). Rule record { words = s.words; homes = s.homes; views = vs ++ note_of v ∷ [] }) (sym (set_again s.views id v at)) (with_note s r v.seen (r.each_seat id v at).seen)
+  notes id v s r at = subst (λ (vs : List V). Rule record { words = s.words; homes = s.homes; views = vs ++ note_of v ∷ [] }) (sym (set_again s.views id v at))
+      (with_note s r v.seen (r.each_seat id v at).seen)
 
   -- a resting seat is told by a note
   pub tells : (id : ℕ) (v : V) (other : ℕ) (w : V) → v.turn ≡ Idle → w.turn ≡ Note → Joins Rule id v other w (told v w) spent
@@ -123,15 +126,16 @@ module _ {T E F : Type 0} (history : T → List E) (actor : E → ℕ) (fixed : 
         w,
         keeps,
         tt,
-        settled history actor fixed s r (set s.words 1 (get_or s.words 1 0)) id me.0 w at refl (not_holding r.served me.0.turn idle) (set-get_or s.words 1 0) record {
-          seen = begins_itself r.log;
-          noted = was.noted;
-          turn = was.turn;
-          seen_all = subst (HasSeenAll r.log r.log) (sym idle) tt;
-          own = was.own;
-          lock = was.lock;
-          first = was.first;
-          ended = was.ended;
-        },
+        settled history actor fixed s r (set s.words 1 (get_or s.words 1 0)) id me.0 w at refl (not_holding r.served me.0.turn idle) (set-get_or s.words 1 0)
+            record {
+              seen = begins_itself r.log;
+              noted = was.noted;
+              turn = was.turn;
+              seen_all = subst (HasSeenAll r.log r.log) (sym idle) tt;
+              own = was.own;
+              lock = was.lock;
+              first = was.first;
+              ended = was.ended;
+            },
         (r.log, r.constant, refl, was.noted, learns),
       )

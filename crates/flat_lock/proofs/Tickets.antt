@@ -1,5 +1,6 @@
 -- Seats in a line.
-use Rattle.std.proofs.Common.{◌≡◌, ◌≢◌, ℕ, ◌+◌, ◌%◌, ◌^◌, ◌<◌, ◌≤◌, eqb, cond, List, [], ◌∷◌, ◌++◌, set, sym, refl, ap, ◌∙◌, subst, ⊎_elim, arith, eq-eqb, ne_eqb, zero, suc}
+use Rattle.std.proofs.Common.{◌≡◌, ◌≢◌, ℕ, ◌+◌, ◌%◌, ◌^◌, ◌<◌, ◌≤◌, eqb, cond, List, [], ◌∷◌, ◌++◌, set, sym, refl, ap, ◌∙◌, subst, ⊎_elim, arith, eq-eqb}
+use Rattle.std.proofs.Common.{ne_eqb, zero, suc}
 use mathlib.Core.Option.{some, some-ne-none, some-injective}
 use lib.ListN.{get_elem?}
 use Rattle.atomic_table.proofs.Lists.{at_set, one_turn}
@@ -19,17 +20,20 @@ pub updated-other : (f : ℕ → ℕ) (k x n : ℕ) → n ≢ k → updated f k 
 updated-other f k x n h = ap (λ b. cond b x (f n)) (ne_eqb n k h)
 
 -- a ticket that another draws changes nothing for a seat
-pub others_wait : (drawn served id j : ℕ) (ticket : ℕ → ℕ) (t : Turn) → HasTicket drawn served ticket j t → HasTicket (drawn + 1) served (updated ticket drawn id) j t
+pub others_wait : (drawn served id j : ℕ) (ticket : ℕ → ℕ) (t : Turn) → HasTicket drawn served ticket j t
+    → HasTicket (drawn + 1) served (updated ticket drawn id) j t
 others_wait drawn served id j ticket Idle h = tt
 others_wait drawn served id j ticket (Waits n) h = let l : n < drawn = h.1 in (h.0, omega arith, updated-other ticket drawn id n (λ e. omega arith) ∙ h.2)
 others_wait drawn served id j ticket (Holds n) h = let l : n < drawn = h.1 in (h.0, omega arith, updated-other ticket drawn id n (λ e. omega arith) ∙ h.2)
 others_wait drawn served id j ticket Note h = tt
 
 -- nor does the end of another's turn
-pub others_served : {E : Type 0} (drawn served id j : ℕ) (ticket : ℕ → ℕ) (log log' seen : List E) (t : Turn) → j ≢ id → ticket served ≡ id → HasTicket drawn served ticket j t
+pub others_served : {E : Type 0} (drawn served id j : ℕ) (ticket : ℕ → ℕ) (log log' seen : List E) (t : Turn) → j ≢ id → ticket served ≡ id
+    → HasTicket drawn served ticket j t
     → HasTicket drawn (served + 1) ticket j t × HasSeenAll log' seen t
 others_served drawn served id j ticket log log' seen Idle other at h = (tt, tt)
-others_served drawn served id j ticket log log' seen (Waits n) other at h = let l : served ≤ n = h.0 in let not : n ≢ served = λ e. other (sym h.2 ∙ (ap ticket e ∙ at)) in ((omega arith, h.1, h.2), tt)
+others_served drawn served id j ticket log log' seen (Waits n) other at h = let l : served ≤ n = h.0 in let not : n ≢ served =
+    λ e. other (sym h.2 ∙ (ap ticket e ∙ at)) in ((omega arith, h.1, h.2), tt)
 others_served drawn served id j ticket log log' seen (Holds n) other at h = absurd (other (sym h.2 ∙ (ap ticket h.0 ∙ at)))
 others_served drawn served id j ticket log log' seen Note other at h = (tt, tt)
 
@@ -42,17 +46,21 @@ with_ticket Note = omega arith
 
 module _ {E F : Type 0} where
   -- one view is counted anew
-  pub total-set : (count : Turn → ℕ) (vs : List (View E F)) (i : ℕ) (v w : View E F) → get_elem? vs i ≡ some v → total count (set vs i w) + count v.turn ≡ total count vs + count w.turn
+  pub total-set : (count : Turn → ℕ) (vs : List (View E F)) (i : ℕ) (v w : View E F) → get_elem? vs i ≡ some v
+      → total count (set vs i w) + count v.turn ≡ total count vs + count w.turn
   total-set count [] i v w e = absurd (some-ne-none v (sym e))
   total-set count (x ∷ xs) zero v w e = let a : ℕ = count x.turn in let b : ℕ = count v.turn in let c : ℕ = count w.turn in let d : ℕ = total count xs in
       let same : a ≡ b = ap (λ (z : View E F). count z.turn) (some-injective x v e) in
       let goal : (c + d) + b ≡ (a + d) + c = omega arith in goal
-  total-set count (x ∷ xs) (suc i) v w e = let a : ℕ = count x.turn in let b : ℕ = count v.turn in let c : ℕ = count w.turn in let d : ℕ = total count xs in let f : ℕ = total count (set xs i w) in
+  total-set count (x ∷ xs) (suc i) v w e = let a : ℕ = count x.turn in let b : ℕ = count v.turn in let c : ℕ = count w.turn in let d : ℕ =
+      total count xs in let f : ℕ = total count (set xs i w) in
       let h : f + b ≡ d + c = total-set count xs i v w e in let goal : (a + f) + b ≡ (a + d) + c = omega arith in goal
 
   -- nothing changes where its turn stays
-  pub total-same : (count : Turn → ℕ) (vs : List (View E F)) (i : ℕ) (v w : View E F) → get_elem? vs i ≡ some v → count w.turn ≡ count v.turn → total count (set vs i w) ≡ total count vs
-  total-same count vs i v w e same = let a : ℕ = count v.turn in let b : ℕ = count w.turn in let c : ℕ = total count vs in let d : ℕ = total count (set vs i w) in
+  pub total-same : (count : Turn → ℕ) (vs : List (View E F)) (i : ℕ) (v w : View E F) → get_elem? vs i ≡ some v → count w.turn ≡ count v.turn
+      → total count (set vs i w) ≡ total count vs
+  total-same count vs i v w e same = let a : ℕ = count v.turn in let b : ℕ = count w.turn in let c : ℕ = total count vs in let d : ℕ =
+      total count (set vs i w) in
       let h : d + a ≡ c + b = total-set count vs i v w e in let s : b ≡ a = same in let goal : d ≡ c = omega arith in goal
 
   -- one more view is counted
@@ -73,7 +81,8 @@ module _ {E F : Type 0} where
   set_there (x ∷ xs) zero v w e = refl
   set_there (x ∷ xs) (suc i) v w e = set_there xs i v w e
 
-  pub seats_stay : (K : ℕ → View E F → Type 0) (vs : List (View E F)) (me : ℕ) (w : View E F) → K me w → ((j : ℕ) (v : View E F) → j ≢ me → get_elem? vs j ≡ some v → K j v)
+  pub seats_stay : (K : ℕ → View E F → Type 0) (vs : List (View E F)) (me : ℕ) (w : View E F) → K me w
+      → ((j : ℕ) (v : View E F) → j ≢ me → get_elem? vs j ≡ some v → K j v)
       → (j : ℕ) (v : View E F) → get_elem? (set vs me w) j ≡ some v → K j v
   seats_stay K vs me w mine others j v e = ⊎_elim (λ (t : (j ≡ me) × (w ≡ v)). subst (λ (x : ℕ × View E F). K x.0 x.1) (λ i. (sym t.0 i, t.1 i)) mine)
       (λ (t : (j ≢ me) × (get_elem? vs j ≡ some v)). others j v t.0 t.1) (at_set vs me j w v e)

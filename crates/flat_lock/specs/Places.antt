@@ -27,7 +27,13 @@ module _ {E F : Type 0} where
 
   -- what contracts see of a seat at this table
   abbrev pub seat_view : TableId → View E F → SeatView E F
-  seat_view table v = record { lock = lock_seen table v; actor = v.actor; seen = v.seen; mine = v.mine; has_turn = has_turn v.turn }
+  seat_view table v = record {
+    lock = lock_seen table v;
+    actor = v.actor;
+    seen = v.seen;
+    mine = v.mine;
+    has_turn = has_turn v.turn;
+  }
 
   -- what a seat leaves when it is joined into the first one
   abbrev pub left_by : Option (SeatView E F) → Ended E

@@ -48,14 +48,16 @@ IsLive Note = ⊥
 IsLive _ = Unit {0}
 
 -- The actor of this number was handed out, the seat at the table owns it, and its entries are the list mine.
-pub record OwnsActor {E : Type 0} (actor : E → ℕ) (log : List E) (handed_out : ℕ) (owner : ℕ → ℕ) (seat number : ℕ) (mine : List E) : Type 0 where
+pub record OwnsActor {E : Type 0} (actor : E → ℕ) (log : List E) (handed_out : ℕ) (owner : ℕ → ℕ) (seat number : ℕ)
+    (mine : List E) : Type 0 where
   pub made : mine ≡ entries_of actor number log
   pub known : number < handed_out
   pub owned : owner number ≡ seat
 
 -- What the rule says of the seat of this number at the table, where the actors below handed_out were handed out.
 -- Of a note it says only that the history begins with it.
-pub record IsSound {E F : Type 0} (actor : E → ℕ) (constant : F) (seats : ℕ) (log : List E) (drawn served handed_out : ℕ) (drawn_by owner : ℕ → ℕ) (seat : ℕ) (v : View E F) : Type 0 where
+pub record IsSound {E F : Type 0} (actor : E → ℕ) (constant : F) (seats : ℕ) (log : List E)
+    (drawn served handed_out : ℕ) (drawn_by owner : ℕ → ℕ) (seat : ℕ) (v : View E F) : Type 0 where
   pub seen : StartsWith log v.seen
   pub noted : StartsWith log v.noted
   pub turn : HasTicket drawn served drawn_by seat v.turn
@@ -71,7 +73,8 @@ module _ {T E F : Type 0} (history : T → List E) (actor : E → ℕ) (fixed : 
   abbrev pub IsHomeOrHeld : F → List E → ℕ → List (View E F) → List (maybe.Option (Option T)) → Type 0
   IsHomeOrHeld constant log served views homes =
       ((x : T) × (homes ≡ some (Some x) ∷ []) × (history x ≡ log) × (fixed x ≡ constant))
-      ⊎ ((homes ≡ none ∷ []) × ((holder : ℕ) × (v : View E F) × (get_elem? views holder ≡ some v) × (v.turn ≡ Holds served)))
+      ⊎ ((homes ≡ none ∷ []) × ((holder : ℕ) × (v : View E F) × (get_elem? views holder ≡ some v)
+      × (v.turn ≡ Holds served)))
 
   -- One history and one turn at a time. The log is all that was given so far.
   -- Each ticket was drawn by one seat, and as many seats have a ticket as tickets lie from the served one up to the
@@ -95,5 +98,6 @@ module _ {T E F : Type 0} (history : T → List E) (actor : E → ℕ) (fixed : 
     pub few_handed_out : handed_out ≤ seats
     pub few_seats : seats < 2 ^ 32
     pub home : IsHomeOrHeld constant log served s.views s.homes
-    pub each_seat : (seat : ℕ) (v : View E F) → get_elem? s.views seat ≡ some v → IsSound actor constant seats log drawn served handed_out drawn_by owner seat v
+    pub each_seat : (seat : ℕ) (v : View E F) → get_elem? s.views seat ≡ some v
+        → IsSound actor constant seats log drawn served handed_out drawn_by owner seat v
     pub others : (a : ℕ) → handed_out ≤ a → entries_of actor a log ≡ []

@@ -21,7 +21,19 @@ module _ {S E F : Type 0} where
 module _ {E F : Type 0} where
   -- the first seat of a lock with so many seats
   abbrev pub first_view : Option F → ℕ → View E F
-  first_view constant seats = record { marker = record {}; seats = seats; fixed = constant; seen = []; noted = []; mine = []; actor = 0; turn = Idle; first = true; handed_out = 1; ended = [] }
+  first_view constant seats = record {
+    marker = record {};
+    seats = seats;
+    fixed = constant;
+    seen = [];
+    noted = [];
+    mine = [];
+    actor = 0;
+    turn = Idle;
+    first = true;
+    handed_out = 1;
+    ended = [];
+  }
 
   -- the same, when it has handed out the actors below this number
   abbrev pub dealing_view : Option F → ℕ → ℕ → View E F
@@ -45,7 +57,19 @@ module _ {E F : Type 0} where
 
   -- the seat of the actor that is handed out
   abbrev pub split_off : View E F → View E F
-  split_off v = record { marker = record {}; seats = v.seats; fixed = v.fixed; seen = v.seen; noted = []; mine = []; actor = v.handed_out; turn = Idle; first = false; handed_out = 0; ended = [] }
+  split_off v = record {
+    marker = record {};
+    seats = v.seats;
+    fixed = v.fixed;
+    seen = v.seen;
+    noted = [];
+    mine = [];
+    actor = v.handed_out;
+    turn = Idle;
+    first = false;
+    handed_out = 0;
+    ended = [];
+  }
 
   -- what is left of a seat that is joined
   abbrev pub ended_view : View E F → Ended E
@@ -57,7 +81,19 @@ module _ {E F : Type 0} where
 
   -- a note of this history
   abbrev pub note : List E → View E F
-  note history = record { marker = record {}; seats = 0; fixed = None; seen = history; noted = []; mine = []; actor = 0; turn = Note; first = false; handed_out = 0; ended = [] }
+  note history = record {
+    marker = record {};
+    seats = 0;
+    fixed = None;
+    seen = history;
+    noted = [];
+    mine = [];
+    actor = 0;
+    turn = Note;
+    first = false;
+    handed_out = 0;
+    ended = [];
+  }
 
   -- what is left of a seat, or of a note, that was joined into a seat
   abbrev pub spent : View E F
@@ -115,7 +151,8 @@ module _ {E F : Type 0} where
 module _ {S E F : Type 0} (actor : E → ℕ) where
   -- the seat has seen all that was given so far, which begins with what it was told
   abbrev pub HasHeard : Me S (View E F) → Me S (View E F) → Type 0
-  HasHeard old new = (history : List E) × (constant : F) × (new ≡ (seeing history old.0, old.1)) × StartsWith history old.0.noted × Learns actor old.0 history constant
+  HasHeard old new = (history : List E) × (constant : F) × (new ≡ (seeing history old.0, old.1))
+      × StartsWith history old.0.noted × Learns actor old.0 history constant
 
   -- the same for a seat that was then told this history
   abbrev pub HasBeenTold : List E → Me S (View E F) → Me S (View E F) → Type 0
@@ -129,21 +166,25 @@ module _ {T E F : Type 0} (history : T → List E) (actor : E → ℕ) (fixed : 
   -- where the seat's ticket is served, it has the value in the slot; else nothing changes
   abbrev pub ReadsServing : Step (Option T) → Me (Option T) (View E F) → ℕ → Me (Option T) (View E F) → Type 0
   ReadsServing step old found new = (ticket : ℕ) → old.0.turn ≡ Waits ticket
-      → (found ≡ ticket % 2 ^ 64 → (x : T) × (new ≡ (entering ticket (history x) old.0, (0, Some x) ∷ old.1)) × Learns actor old.0 (history x) (fixed x))
+      → (found ≡ ticket % 2 ^ 64 → (x : T) × (new ≡ (entering ticket (history x) old.0, (0, Some x) ∷ old.1))
+      × Learns actor old.0 (history x) (fixed x))
       × (found ≢ ticket % 2 ^ 64 → new ≡ old)
 
   -- the seat has the turn, and the value in the slot
   abbrev pub HasEntered : Me (Option T) (View E F) → Me (Option T) (View E F) → Type 0
-  HasEntered old new = (ticket : ℕ) × (x : T) × (new ≡ (entering ticket (history x) old.0, (0, Some x) ∷ [])) × Learns actor old.0 (history x) (fixed x)
+  HasEntered old new = (ticket : ℕ) × (x : T) × (new ≡ (entering ticket (history x) old.0, (0, Some x) ∷ []))
+      × Learns actor old.0 (history x) (fixed x)
 
   -- the seat has the turn, and has taken the value out of the slot
   abbrev pub HasTaken : Me (Option T) (View E F) → T → Me (Option T) (View E F) → Type 0
-  HasTaken old x new = (ticket : ℕ) × (new ≡ (entering ticket (history x) old.0, (0, None) ∷ [])) × Learns actor old.0 (history x) (fixed x)
+  HasTaken old x new = (ticket : ℕ) × (new ≡ (entering ticket (history x) old.0, (0, None) ∷ []))
+      × Learns actor old.0 (history x) (fixed x)
 
 module _ {S E F : Type 0} where
   -- the turn is over, and the seat's list has all the entries of its actor in this history
   abbrev pub HasLeft : (E → ℕ) → List E → Me S (View E F) → Me S (View E F) → Type 0
-  HasLeft actor history old new = (new ≡ (giving history old.0, [])) × (new.0.mine ≡ entries_of actor old.0.actor history)
+  HasLeft actor history old new = (new ≡ (giving history old.0, []))
+      × (new.0.mine ≡ entries_of actor old.0.actor history)
 
 module _ {T E F : Type 0} (history : T → List E) (actor : E → ℕ) where
   -- the turn of a seat that has put a value into the slot is over

@@ -8,7 +8,9 @@ pub few : (n : ℕ) → n < 2 ^ 64 → length (decimal n) ≤ 20
 few n small = length-decimal-le 20 n (omega arith) (omega arith) small
 
 -- a byte before the digits at the end of a buffer
-pub byte_before : (start byte : ℕ) (bytes old digits : List ℕ) → 1 ≤ start → start ≤ length bytes → length old ≤ 24 → drop start bytes ≡ digits ++ drop 24 old → drop (start - 1) (slice_set bytes (start - 1) byte) ≡ byte ∷ digits
+pub byte_before : (start byte : ℕ) (bytes old digits : List ℕ) → 1 ≤ start → start ≤ length bytes → length old ≤ 24 → drop start bytes ≡ digits ++ drop 24 old
+    → drop (start - 1) (slice_set bytes (start - 1) byte) ≡ byte ∷ digits
 byte_before start byte bytes old digits some within short written =
     let next : start - 1 + 1 ≡ start = omega arith in
-    drop-set bytes (start - 1) byte (omega arith) ∙ ap (λ n. byte ∷ drop n bytes) next ∙ ap (λ ds. byte ∷ ds) (written ∙ ap (λ ds. digits ++ ds) (drop_all 24 old short) ∙ append-nil digits)
+    drop-set bytes (start - 1) byte (omega arith) ∙ ap (λ n. byte ∷ drop n bytes) next
+    ∙ ap (λ ds. byte ∷ ds) (written ∙ ap (λ ds. digits ++ ds) (drop_all 24 old short) ∙ append-nil digits)

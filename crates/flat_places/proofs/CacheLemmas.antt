@@ -1,5 +1,6 @@
 -- Names in the cache.
-use Rattle.std.proofs.Common.{◌≡◌, ◌≢◌, ℕ, zero, suc, ◌+◌, ◌*◌, ◌<◌, ◌==◌, Bool, true, false, cond, List, [], ◌∷◌, length, get_or, set, get_or-set_same, get_or-set_other, Option, Some, None, IfSome, refl, ap, sym, subst, ◌∙◌, arith}
+use Rattle.std.proofs.Common.{◌≡◌, ◌≢◌, ℕ, zero, suc, ◌+◌, ◌*◌, ◌<◌, ◌==◌, Bool, true, false, cond, List, [], ◌∷◌, length, get_or, set, get_or-set_same}
+use Rattle.std.proofs.Common.{get_or-set_other, Option, Some, None, IfSome, refl, ap, sym, subst, ◌∙◌, arith}
 use Rattle.std.specs.Str.{bytes_eq}
 use Rattle.std.proofs.lemmas.Bool.{cond-false, cond-true, false_from_ne_true, both_ways, eqb-true, eq-eqb}
 use Rattle.std.proofs.lemmas.Slice.Eq.{bytes_eq-Decides}
@@ -27,7 +28,8 @@ same_word (x ∷ v) (y ∷ w) long p q same =
 abbrev Declared : Names → Names → Word → Meaning → Type 0
 Declared old new name m = (w : Word) → meaning_at new w ≡ cond (bytes_eq w name) (Some m) (meaning_at old w)
 
-kept : (old new : Names) (name : Word) (m : Meaning) (slot : ℕ) (e : Cached) → Declared old new name m → (key_of name ≢ e.key) → IsCached old slot e → IsCached new slot e
+kept : (old new : Names) (name : Word) (m : Meaning) (slot : ℕ) (e : Cached) → Declared old new name m → (key_of name ≢ e.key) → IsCached old slot e
+    → IsCached new slot e
 kept old new name m slot e found other was = record {
   own = was.own;
   means = λ w bytes long key.
@@ -35,11 +37,13 @@ kept old new name m slot e found other was = record {
       found w ∙ cond-false (bytes_eq w name) (Some m) (meaning_at old w) apart ∙ was.means w bytes long key;
 }
 
-kept_any : (old new : Names) (name : Word) (m : Meaning) (slot : ℕ) (o : Option Cached) → Declared old new name m → (slot_of (key_of name) ≢ slot) → IfSome o (IsCached old slot) → IfSome o (IsCached new slot)
+kept_any : (old new : Names) (name : Word) (m : Meaning) (slot : ℕ) (o : Option Cached) → Declared old new name m → (slot_of (key_of name) ≢ slot)
+    → IfSome o (IsCached old slot) → IfSome o (IsCached new slot)
 kept_any old new name m slot None found other was = tt
 kept_any old new name m slot (Some e) found other was = kept old new name m slot e found (λ same. other (ap slot_of same ∙ was.own)) was
 
-put : (old new : Names) (name : Word) (m : Meaning) (slot : ℕ) (e : Cached) → Declared old new name m → AreBytes name → e.key ≡ key_of name → e.len ≡ length name → e.meaning ≡ m → slot ≡ slot_of e.key → IsCached new slot e
+put : (old new : Names) (name : Word) (m : Meaning) (slot : ℕ) (e : Cached) → Declared old new name m → AreBytes name → e.key ≡ key_of name
+    → e.len ≡ length name → e.meaning ≡ m → slot ≡ slot_of e.key → IsCached new slot e
 put old new name m slot e found bytes key long meant own = record {
   own = sym own;
   means = λ w others length_is key_is.
@@ -47,24 +51,29 @@ put old new name m slot e found bytes key long meant own = record {
       found w ∙ cond-true (bytes_eq w name) (Some m) (meaning_at old w) ((bytes_eq-Decides w name).1 same) ∙ ap Some (sym meant);
 }
 
-chosen : (b : Bool) (old new : Names) (name : Word) (m : Meaning) (slot : ℕ) (f e : Cached) → (f.key == e.key) ≡ b → Declared old new name m → e.key ≡ key_of name → IsCached new slot e → IsCached old slot f → IsCached new slot (cond b e f)
+chosen : (b : Bool) (old new : Names) (name : Word) (m : Meaning) (slot : ℕ) (f e : Cached) → (f.key == e.key) ≡ b → Declared old new name m
+    → e.key ≡ key_of name → IsCached new slot e → IsCached old slot f → IsCached new slot (cond b e f)
 chosen true old new name m slot f e is found key fresh was = fresh
 chosen false old new name m slot f e is found key fresh was =
     kept old new name m slot f found (λ same. both_ways (f.key == e.key) is (eq-eqb f.key e.key (sym same ∙ sym key))) was
 
-at_own : (old new : Names) (name : Word) (m : Meaning) (slot : ℕ) (o : Option Cached) (e : Cached) → Declared old new name m → e.key ≡ key_of name → IsCached new slot e → IfSome o (IsCached old slot) → IsCached new slot (first_cached o e)
+at_own : (old new : Names) (name : Word) (m : Meaning) (slot : ℕ) (o : Option Cached) (e : Cached) → Declared old new name m → e.key ≡ key_of name
+    → IsCached new slot e → IfSome o (IsCached old slot) → IsCached new slot (first_cached o e)
 at_own old new name m slot None e found key fresh was = fresh
 at_own old new name m slot (Some f) e found key fresh was = chosen (f.key == e.key) old new name m slot f e refl found key fresh was
 
-in_slot : (b : Bool) (old new : Names) (name : Word) (m : Meaning) (slot s : ℕ) (e : Cached) → (s == slot) ≡ b → s < 61 → length old.cache ≡ 61 → Declared old new name m → e.key ≡ key_of name → slot ≡ slot_of e.key → IsCached new slot e
+in_slot : (b : Bool) (old new : Names) (name : Word) (m : Meaning) (slot s : ℕ) (e : Cached) → (s == slot) ≡ b → s < 61 → length old.cache ≡ 61
+    → Declared old new name m → e.key ≡ key_of name → slot ≡ slot_of e.key → IsCached new slot e
     → new.cache ≡ set old.cache slot (Some (first_cached (get_or old.cache slot None) e)) → IsCache old → IfSome (get_or new.cache s None) (IsCached new s)
 in_slot true old new name m slot s e is within long found key own fresh put was =
     let same : s ≡ slot = eqb-true s slot is in
     let here : get_or new.cache s None ≡ Some (first_cached (get_or old.cache slot None) e) =
     ap (λ xs. get_or xs s None) put ∙ ap (λ i. get_or (set old.cache slot (Some (first_cached (get_or old.cache slot None) e))) i None) same
     ∙ get_or-set_same old.cache slot (Some (first_cached (get_or old.cache slot None) e)) None (omega arith) in
-    let lies : IsCached new slot (first_cached (get_or old.cache slot None) e) = at_own old new name m slot (get_or old.cache slot None) e found key fresh (was slot (omega arith)) in
-    subst (λ (o : Option Cached). IfSome o (IsCached new s)) (sym here) (subst (λ (i : ℕ). IsCached new i (first_cached (get_or old.cache slot None) e)) (sym same) lies)
+    let lies : IsCached new slot (first_cached (get_or old.cache slot None) e) =
+    at_own old new name m slot (get_or old.cache slot None) e found key fresh (was slot (omega arith)) in
+    subst (λ (o : Option Cached). IfSome o (IsCached new s)) (sym here)
+    (subst (λ (i : ℕ). IsCached new i (first_cached (get_or old.cache slot None) e)) (sym same) lies)
 in_slot false old new name m slot s e is within long found key own fresh put was =
     let other : s ≢ slot = λ same. both_ways (s == slot) is (eq-eqb s slot same) in
     let there : get_or new.cache s None ≡ get_or old.cache s None =
@@ -72,13 +81,15 @@ in_slot false old new name m slot s e is within long found key own fresh put was
     subst (λ (o : Option Cached). IfSome o (IsCached new s)) (sym there)
     (kept_any old new name m s (get_or old.cache s None) found (λ same. other (sym same ∙ ap slot_of (sym key) ∙ sym own)) (was s within))
 
-pub cache_after : (old new : Names) (name : Word) (m : Meaning) (slot : ℕ) (e : Cached) → Declared old new name m → AreBytes name → length old.cache ≡ 61 → e.key ≡ key_of name → e.len ≡ length name → e.meaning ≡ m → slot ≡ slot_of e.key
+pub cache_after : (old new : Names) (name : Word) (m : Meaning) (slot : ℕ) (e : Cached) → Declared old new name m → AreBytes name → length old.cache ≡ 61
+    → e.key ≡ key_of name → e.len ≡ length name → e.meaning ≡ m → slot ≡ slot_of e.key
     → new.cache ≡ set old.cache slot (Some (first_cached (get_or old.cache slot None) e)) → IsCache old → IsCache new
 cache_after old new name m slot e found bytes long key len meant own is was = λ s within.
     in_slot (s == slot) old new name m slot s e refl within long found key own (put old new name m slot e found bytes key len meant own) is was
 
 -- what the cache holds is found there
-pub found_cached : (names : Names) (w : Word) (slot : ℕ) (o : Option Cached) (e : Cached) → IsCache names → slot < 61 → o ≡ get_or names.cache slot None → o ≡ Some e → AreBytes w → length w ≡ e.len → key_of w ≡ e.key → Some e.meaning ≡ meaning_at names w
+pub found_cached : (names : Names) (w : Word) (slot : ℕ) (o : Option Cached) (e : Cached) → IsCache names → slot < 61 → o ≡ get_or names.cache slot None
+    → o ≡ Some e → AreBytes w → length w ≡ e.len → key_of w ≡ e.key → Some e.meaning ≡ meaning_at names w
 found_cached names w slot o e cache within at is bytes long key =
     let lies : IfSome (Some e) (IsCached names slot) = subst (λ (x : Option Cached). IfSome x (IsCached names slot)) (sym at ∙ is) (cache slot within) in
     sym (lies.means w bytes long key)

@@ -1,5 +1,6 @@
 -- Names are told apart by their keys.
-use Rattle.std.proofs.Common.{◌≡◌, ℕ, ◌+◌, ◌*◌, ◌^◌, ◌<◌, ◌≤◌, ◌==◌, Bool, true, false, cond, nat_lt, List, [], ◌∷◌, Option, Some, None, refl, ap, sym, ◌∙◌, arith, rules, tests, lit<, Less, Equal, Greater}
+use Rattle.std.proofs.Common.{◌≡◌, ℕ, ◌+◌, ◌*◌, ◌^◌, ◌<◌, ◌≤◌, ◌==◌, Bool, true, false, cond, nat_lt, List, [], ◌∷◌, Option, Some, None, refl, ap, sym, ◌∙◌}
+use Rattle.std.proofs.Common.{arith, rules, tests, lit<, Less, Equal, Greater}
 use Rattle.std.specs.List.{list_all}
 use Rattle.std.specs.Str.{bytes_eq}
 use Rattle.std.specs.Ordering.{nat_cmp, is_eq}
@@ -51,11 +52,15 @@ key_tells w name one other =
     ) (bytes_eq-Decides w name)
 
 -- what a word means, where one more name is declared
-pub declared : (b : Bool) (w name : Word) (m : Meaning) (new old : Option Meaning) (key : ℕ) → key ≡ key_of name → is_name w ≡ b → is_name name ≡ true → new ≡ cond (is_eq (nat_cmp key (key_of w))) (Some m) old
+pub declared : (b : Bool) (w name : Word) (m : Meaning) (new old : Option Meaning) (key : ℕ) → key ≡ key_of name → is_name w ≡ b → is_name name ≡ true
+    → new ≡ cond (is_eq (nat_cmp key (key_of w))) (Some m) old
     → cond b new None ≡ cond (bytes_eq w name) (Some m) (cond b old None)
-declared true w name m new old key same one other is = is ∙ ap (λ k. cond (is_eq (nat_cmp k (key_of w))) (Some m) old) same ∙ ap (λ t. cond t (Some m) old) (at_key (key_of name) (key_of w) ∙ key_tells w name one other)
+declared true w name m new old key same one other is =
+    is ∙ ap (λ k. cond (is_eq (nat_cmp k (key_of w))) (Some m) old) same
+    ∙ ap (λ t. cond t (Some m) old) (at_key (key_of name) (key_of w) ∙ key_tells w name one other)
 declared false w name m new old key same one other is =
-    let apart : bytes_eq w name ≡ false = false_from_ne_true (bytes_eq w name) (λ same. both_ways (is_name w) one (ap is_name ((bytes_eq-Decides w name).0 same) ∙ other)) in
+    let apart : bytes_eq w name ≡ false = false_from_ne_true (bytes_eq w name)
+    (λ same. both_ways (is_name w) one (ap is_name ((bytes_eq-Decides w name).0 same) ∙ other)) in
     sym (cond-false (bytes_eq w name) (Some m) None apart)
 
 pub no_meaning : (b : Bool) → cond {A = Option Meaning} b None None ≡ None

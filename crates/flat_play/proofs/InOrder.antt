@@ -1,5 +1,6 @@
 -- Entries that are written in the order of their lines.
-use Rattle.std.proofs.Common.{◌≡◌, ℕ, ◌+◌, ◌<◌, Bool, true, false, nat_lt, List, [], ◌∷◌, ◌++◌, length, reverse, map, get_or, refl, sym, ap, ◌∙◌, subst, arith, length-append}
+use Rattle.std.proofs.Common.{◌≡◌, ℕ, ◌+◌, ◌<◌, Bool, true, false, nat_lt, List, [], ◌∷◌, ◌++◌, length, reverse, map, get_or, refl, sym, ap, ◌∙◌, subst, arith}
+use Rattle.std.proofs.Common.{length-append}
 use Rattle.std.proofs.Math.Seq.{get_or-append_seam}
 use Rattle.std.specs.List.{AllByRecursion}
 use Rattle.std.specs.List.Sorted.{IsStrictlyIncreasing}
@@ -29,7 +30,8 @@ ends_with xs last k is =
     rw here (get_or-append_seam xs last [] 0)
 
 lines_end : (before : List Entry) (entry : Entry) → EndsWith (lines_of (before ▹ entry)) entry.line
-lines_end before entry = let P : List ℕ → Type 0 = λ xs. EndsWith xs entry.line in subst P (sym (lines_more before entry)) (ends_with (lines_of before) entry.line)
+lines_end before entry = let P : List ℕ → Type 0 = λ xs. EndsWith xs entry.line in
+    subst P (sym (lines_more before entry)) (ends_with (lines_of before) entry.line)
 
 rising_more : (xs : List ℕ) (last y : ℕ) → IsStrictlyIncreasing xs → EndsWith xs last → last < y → IsStrictlyIncreasing (xs ++ y ∷ [])
 rising_more xs last y rise ends less k within = by_place (nat_lt (k + 1) (length xs)) refl
@@ -47,7 +49,8 @@ rising_more xs last y rise ends less k within = by_place (nat_lt (k + 1) (length
         rw (first, second) less
 
 -- an entry behind those that rise
-pub lines_rise : (before : List Entry) (entry : Entry) → IsStrictlyIncreasing (lines_of before) → last_line before < entry.line → IsStrictlyIncreasing (lines_of (before ▹ entry))
+pub lines_rise : (before : List Entry) (entry : Entry) → IsStrictlyIncreasing (lines_of before) → last_line before < entry.line
+    → IsStrictlyIncreasing (lines_of (before ▹ entry))
 lines_rise [] entry rise less = λ k within. absurd (omega arith)
 lines_rise (older ▹ last) entry rise less =
     let P : List ℕ → Type 0 = IsStrictlyIncreasing in
@@ -57,4 +60,5 @@ abbrev pub NoEnds : List Entry → Type 0
 NoEnds = AllByRecursion (λ entry. is_end entry.kind ≡ false)
 
 pub no_ends_more : (before : List Entry) (entry : Entry) → NoEnds (reverse before) → is_end entry.kind ≡ false → NoEnds (reverse (before ▹ entry))
-no_ends_more before entry all one = let P : List Entry → Type 0 = NoEnds in subst P (sym (reversed before entry)) (all_end (λ (e : Entry). is_end e.kind ≡ false) (reverse before) entry all one)
+no_ends_more before entry all one = let P : List Entry → Type 0 =
+    NoEnds in subst P (sym (reversed before entry)) (all_end (λ (e : Entry). is_end e.kind ≡ false) (reverse before) entry all one)

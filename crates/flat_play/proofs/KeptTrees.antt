@@ -7,7 +7,8 @@ use Rattle.flat_page.proofs.lemmas.LastItems.{last-more}
 use Rattle.flat_play.specs.declared.trees.FrameTrees.{FrameTrees}
 use Rattle.flat_play.specs.Keeping.{AreTrees, listed}
 
-pub tree-more : (frames : List FrameOut) (frame : FrameOut) (old new : FrameTrees) → new.before ≡ old.before ++ map without_items (listed old.last) → new.last ≡ Some frame → AreTrees frames old → AreTrees (frames ++ frame ∷ []) new
+pub tree-more : (frames : List FrameOut) (frame : FrameOut) (old new : FrameTrees) → new.before ≡ old.before ++ map without_items (listed old.last)
+    → new.last ≡ Some frame → AreTrees frames old → AreTrees (frames ++ frame ∷ []) new
 tree-more frames frame old new before last were = record {
   before =
       ap (λ (trees : List FrameOut). trees ++ map without_items (listed new.last)) (before ∙ were.before)

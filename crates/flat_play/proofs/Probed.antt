@@ -1,5 +1,6 @@
 -- Probes that are asked on the way.
-use Rattle.std.proofs.Common.{◌≡◌, ℕ, zero, suc, ◌+◌, ◌<◌, Bool, true, false, ◌==◌, List, [], ◌∷◌, ◌++◌, length, take, replicate, cond, refl, sym, ap, ◌∙◌, subst, arith, append-nil, Option, Some, None, slice_get, slice_index_or}
+use Rattle.std.proofs.Common.{◌≡◌, ℕ, zero, suc, ◌+◌, ◌<◌, Bool, true, false, ◌==◌, List, [], ◌∷◌, ◌++◌, length, take, replicate, cond, refl, sym, ap, ◌∙◌}
+use Rattle.std.proofs.Common.{subst, arith, append-nil, Option, Some, None, slice_get, slice_index_or}
 use Rattle.std.proofs.lemmas.List.{take_all, length-replicate}
 use Rattle.std.proofs.lemmas.Bool.{eq-eqb, eqb-true}
 use Rattle.std.proofs.lemmas.List.Elements.{filter-append}
@@ -61,14 +62,16 @@ probes-unasked script answers is =
     })
 
 -- an entry of a line makes no difference
-pub probes-on : (script : Script) (place number : ℕ) (old new : List Entry) (answers : List (List ProbeAnswer)) → GoesOnAt number old new → ProbesStand script place old answers → ProbesStand script place new answers
+pub probes-on : (script : Script) (place number : ℕ) (old new : List Entry) (answers : List (List ProbeAnswer)) → GoesOnAt number old new
+    → ProbesStand script place old answers → ProbesStand script place new answers
 probes-on script place number old new answers on was = record {
   count = was.count;
   each = λ n one got. line-on script.setup (probe_lines_of n (take place script.lines)) one number old new on (was.each n one got);
 }
 
 -- nor do the Ends
-pub probes-ended : (script : Script) (old new : List Entry) (answers : List (List ProbeAnswer)) → GoesOnByEnds old new → ProbesAnswered script old answers → ProbesAnswered script new answers
+pub probes-ended : (script : Script) (old new : List Entry) (answers : List (List ProbeAnswer)) → GoesOnByEnds old new → ProbesAnswered script old answers
+    → ProbesAnswered script new answers
 probes-ended script old new answers on was =
     let P : List Entry → Type 0 = λ h. ProbesAnswered script h answers in
     subst P (sym on.is) (record {
@@ -77,7 +80,8 @@ probes-ended script old new answers on was =
     })
 
 -- behind all lines
-pub probes-all : (script : Script) (place : ℕ) (history : List Entry) (answers : List (List ProbeAnswer)) → place ≡ length script.lines → ProbesStand script place history answers → ProbesAnswered script history answers
+pub probes-all : (script : Script) (place : ℕ) (history : List Entry) (answers : List (List ProbeAnswer)) → place ≡ length script.lines
+    → ProbesStand script place history answers → ProbesAnswered script history answers
 probes-all script place history answers last was =
     let all : take place script.lines ≡ script.lines = take_all place script.lines (omega (arith, last)) in
     record {
@@ -94,22 +98,33 @@ module _ (script : Script) (place : ℕ) (x : ScriptLine) (at : At script place 
   own-more n = ap (probe_lines_of n) at.taken ∙ filter-append (λ (line : ScriptLine). is_probe n line.actor) (take place script.lines) (x ∷ [])
 
   pub own-same : (n : ℕ) → is_probe n x.actor ≡ false → probe_lines_of n (take (place + 1) script.lines) ≡ probe_lines_of n (take place script.lines)
-  own-same n other = own-more n ∙ ap (λ b. probe_lines_of n (take place script.lines) ++ cond b (x ∷ []) []) other ∙ append-nil (probe_lines_of n (take place script.lines))
+  own-same n other = own-more n ∙ ap (λ b. probe_lines_of n (take place script.lines) ++ cond b (x ∷ []) []) other
+      ∙ append-nil (probe_lines_of n (take place script.lines))
 
   pub own-one : (n : ℕ) → is_probe n x.actor ≡ true → probe_lines_of n (take (place + 1) script.lines) ≡ probe_lines_of n (take place script.lines) ++ x ∷ []
   own-one n mine = own-more n ∙ ap (λ b. probe_lines_of n (take place script.lines) ++ cond b (x ∷ []) []) mine
 
-  module _ (history : List Entry) (there : Setup) (shown : Shown) (frame : ℕ) (number_is : frame ≡ frames history) (at_finished : there ≡ setup_at script.setup (to_finished history)) (shows : shown ≡ shown_states script.setup (to_finished history)) where
+  module _ (history : List Entry) (there : Setup) (shown : Shown) (frame : ℕ) (number_is : frame ≡ frames history)
+      (at_finished : there ≡ setup_at script.setup (to_finished history)) (shows : shown ≡ shown_states script.setup (to_finished history)) where
     -- the last finished frame hits what is shown
     hits-last : hits_in_frame script.setup history frame ≡ hit_list there shown
-    hits-last = ap (hits_in_frame script.setup history) number_is ∙ ap (hits_at script.setup) (last-begin history) ∙ (λ i. hit_list (sym at_finished i) (sym shows i))
+    hits-last = ap (hits_in_frame script.setup history) number_is ∙ ap (hits_at script.setup) (last-begin history)
+        ∙ (λ i. hit_list (sym at_finished i) (sym shows i))
 
-    answer-is : (p : ℕ) (asked : ProbeLine) → x.actor ≡ Probe p → x.body ≡ body.Probe asked → answer_of there shown frame (Probe p) x.number asked ≡ answer_by (hits_in_frame script.setup history) (x, frame)
+    answer-is : (p : ℕ) (asked : ProbeLine) → x.actor ≡ Probe p → x.body ≡ body.Probe asked
+        → answer_of there shown frame (Probe p) x.number asked ≡ answer_by (hits_in_frame script.setup history) (x, frame)
     answer-is p asked who what =
-        λ i. record { actor = sym who i; line = x.number; asked = asked_by (sym what i); frame = record { 0 = frame }; hits = asked_hits (sym hits-last i) (asked_by (sym what i)) }
+        λ i. record {
+          actor = sym who i;
+          line = x.number;
+          asked = asked_by (sym what i);
+          frame = record { 0 = frame };
+          hits = asked_hits (sym hits-last i) (asked_by (sym what i));
+        }
 
     -- a probe's line
-    asked-more : (p : ℕ) (asked : ProbeLine) (answers : List (List ProbeAnswer)) → x.actor ≡ Probe p → x.body ≡ body.Probe asked → p < length answers → ProbesStand script place history answers
+    asked-more : (p : ℕ) (asked : ProbeLine) (answers : List (List ProbeAnswer)) → x.actor ≡ Probe p → x.body ≡ body.Probe asked → p < length answers
+        → ProbesStand script place history answers
         → ProbesStand script (place + 1) history (with_answer p (answer_of there shown frame (Probe p) x.number asked) answers)
     asked-more p asked answers who what within was = record {
       count = set-length answers p (slice_index_or answers p [] ++ new ∷ []) ∙ was.count;
@@ -122,12 +137,15 @@ module _ (script : Script) (place : ℕ) (x : ScriptLine) (at : At script place 
         Own : ℕ → List ScriptLine → List ProbeAnswer → Type 0
         Own n lines one = AreAnsweredBy (hits_in_frame script.setup history) (frames history) lines one
 
-        by : (n : ℕ) (one : List ProbeAnswer) → slice_get (with_answer p new answers) n ≡ Some one → (b : Bool) → (p == n) ≡ b → Own n (probe_lines_of n (take (place + 1) script.lines)) one
+        by : (n : ℕ) (one : List ProbeAnswer) → slice_get (with_answer p new answers) n ≡ Some one → (b : Bool) → (p == n) ≡ b
+            → Own n (probe_lines_of n (take (place + 1) script.lines)) one
         by n one got true is =
             let here : n ≡ p = sym (eqb-true p n is) in
             let old : List ProbeAnswer = slice_index_or answers p [] in
-            let before : Own n (probe_lines_of n (take place script.lines)) old = was.each n old (ap (slice_get answers) here ∙ slice_get-get_or answers p [] within) in
-            let found : Some one ≡ Some (old ++ new ∷ []) = sym got ∙ ap (slice_get (with_answer p new answers)) here ∙ got-same answers p (old ++ new ∷ []) within in
+            let before : Own n (probe_lines_of n (take place script.lines)) old =
+            was.each n old (ap (slice_get answers) here ∙ slice_get-get_or answers p [] within) in
+            let found : Some one ≡ Some (old ++ new ∷ []) = sym got ∙ ap (slice_get (with_answer p new answers)) here
+            ∙ got-same answers p (old ++ new ∷ []) within in
             let is_one : one ≡ old ++ new ∷ [] = cc in
             let last : new ≡ answer_by (hits_in_frame script.setup history) (x, frames history) =
             answer-is p asked who what ∙ ap (λ (n : ℕ). answer_by (hits_in_frame script.setup history) (x, n)) number_is in
@@ -138,10 +156,12 @@ module _ (script : Script) (place : ℕ) (x : ScriptLine) (at : At script place 
         by n one got false is =
             let apart : n ≡ p → ⊥ = λ same. (let yes : (p == n) ≡ true = eq-eqb p n (sym same) in let both : true ≡ false = sym yes ∙ is in absurd (cc)) in
             let P : List ScriptLine → Type 0 = λ lines. Own n lines one in
-            subst P (sym (own-same n (ap (is_probe n) who ∙ is))) (was.each n one (sym (got-other answers p n (slice_index_or answers p [] ++ new ∷ []) apart) ∙ got))
+            subst P (sym (own-same n (ap (is_probe n) who ∙ is)))
+            (was.each n one (sym (got-other answers p n (slice_index_or answers p [] ++ new ∷ []) apart) ∙ got))
 
     -- another actor's line
-    unasked-more : (answers : List (List ProbeAnswer)) → ((n : ℕ) → is_probe n x.actor ≡ false) → ProbesStand script place history answers → ProbesStand script (place + 1) history answers
+    unasked-more : (answers : List (List ProbeAnswer)) → ((n : ℕ) → is_probe n x.actor ≡ false) → ProbesStand script place history answers
+        → ProbesStand script (place + 1) history answers
     unasked-more answers other was = record {
       count = was.count;
       each = λ n one got.
@@ -150,7 +170,8 @@ module _ (script : Script) (place : ℕ) (x : ScriptLine) (at : At script place 
     }
 
     -- any line
-    pub probes-more : (answers new : List (List ProbeAnswer)) → new ≡ answers_after there shown frame x.number (asked_of x.actor x.body) answers → ProbesStand script place history answers
+    pub probes-more : (answers new : List (List ProbeAnswer)) → new ≡ answers_after there shown frame x.number (asked_of x.actor x.body) answers
+        → ProbesStand script place history answers
         → ProbesStand script (place + 1) history new
     probes-more answers new is was = by x.actor refl
       where
@@ -167,7 +188,8 @@ module _ (script : Script) (place : ℕ) (x : ScriptLine) (at : At script place 
             let played : is_played script.setup (Probe p) x.body ≡ true = ap (λ (a : Actor). is_played script.setup a x.body) (sym who) ∙ at.played in
             let line : IsAsked script.setup p x.body = is_asked script.setup p x.body played in
             let what : asked_of x.actor x.body ≡ Some (p, line.asked) = ap (λ (a : Actor). asked_of a x.body) who ∙ ap (asked_of (Probe p)) line.is in
-            subst P (sym (is ∙ ap after what)) (asked-more p line.asked answers who line.is (let many = was.count in let few = line.below in omega (arith, many, few)) was)
+            subst P (sym (is ∙ ap after what)) (asked-more p line.asked answers who line.is
+            (let many = was.count in let few = line.below in omega (arith, many, few)) was)
 
 -- which probe is asked, if one is
 abbrev number-in : Option (ℕ × ProbeLine) → ℕ
@@ -175,7 +197,8 @@ number-in None = 0
 number-in (Some both) = both.0
 
 -- a probe that a line asks is one of the script's
-pub asked-within : (script : Script) (place : ℕ) (x : ScriptLine) → At script place x → (history : List Entry) (answers : List (List ProbeAnswer)) → ProbesStand script place history answers
+pub asked-within : (script : Script) (place : ℕ) (x : ScriptLine) → At script place x → (history : List Entry) (answers : List (List ProbeAnswer))
+    → ProbesStand script place history answers
     → (p : ℕ) (asked : ProbeLine) → asked_of x.actor x.body ≡ Some (p, asked) → p < length answers
 asked-within script place x at history answers was p asked is = by x.actor refl x.body refl
   where

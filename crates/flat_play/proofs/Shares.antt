@@ -1,5 +1,6 @@
 -- The shares of a script's actors, with one line after another.
-use Rattle.std.proofs.Common.{◌≡◌, ℕ, zero, suc, ◌+◌, ◌≤◌, Bool, true, false, cond, ◌==◌, List, [], ◌∷◌, ◌++◌, length, map, slice_index, refl, sym, ap, ◌∙◌, subst, arith}
+use Rattle.std.proofs.Common.{◌≡◌, ℕ, zero, suc, ◌+◌, ◌≤◌, Bool, true, false, cond, ◌==◌, List, [], ◌∷◌, ◌++◌, length, map, slice_index, refl, sym, ap, ◌∙◌}
+use Rattle.std.proofs.Common.{subst, arith}
 use Rattle.std.proofs.lemmas.Bool.Decides.{nat_tests}
 use Rattle.std.proofs.lemmas.Grind.{common_steps}
 use Rattle.std.proofs.lemmas.List.{map-append}
@@ -22,13 +23,16 @@ both-more m n = by (m == n) refl
     by false is = by_other (suc m == suc n) refl
       where
         by_other : (c : Bool) → (suc m == suc n) ≡ c → c ≡ false
-        by_other true same = absurd (let equal : m ≡ n = grind (arith, nat_tests) in let wrong : (m == n) ≡ true = grind (arith, nat_tests) in let both : true ≡ false = sym wrong ∙ is in cc)
+        by_other true same = absurd (let equal : m ≡ n = grind (arith, nat_tests) in let wrong : (m == n) ≡ true = grind (arith, nat_tests) in
+            let both : true ≡ false = sym wrong ∙ is in cc)
         by_other false same = refl
 
 -- of a list that has one item more
-one-more-behind : (place : ℕ) (shares : List ℕ) (last : ℕ) → with_one_more place (shares ++ last ∷ []) ≡ with_one_more place shares ++ (last + cond (place == length shares) 1 0) ∷ []
+one-more-behind : (place : ℕ) (shares : List ℕ) (last : ℕ)
+    → with_one_more place (shares ++ last ∷ []) ≡ with_one_more place shares ++ (last + cond (place == length shares) 1 0) ∷ []
 one-more-behind zero [] last = refl
-one-more-behind (suc place) [] last = let other : (suc place == 0) ≡ false = grind (arith, nat_tests) in let same : last ≡ last + cond (suc place == 0) 1 0 = rw other (omega arith) in ap (λ n. n ∷ []) same
+one-more-behind (suc place) [] last = let other : (suc place == 0) ≡ false = grind (arith, nat_tests) in let same : last ≡ last + cond (suc place == 0) 1 0 =
+    rw other (omega arith) in ap (λ n. n ∷ []) same
 one-more-behind zero (share ∷ shares) last =
     let other : (0 == suc (length shares)) ≡ false = grind (arith, nat_tests) in
     let same : last ≡ last + cond (0 == suc (length shares)) 1 0 = rw other (omega arith) in

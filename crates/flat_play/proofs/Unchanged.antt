@@ -1,5 +1,6 @@
 -- The next frame, where what is shown and the pixel ratio are those of the last one.
-use Rattle.std.proofs.Common.{◌≡◌, ℕ, suc, ◌+◌, ◌<◌, Bool, true, false, cond, List, [], ◌∷◌, ◌++◌, Some, Result, Ok, Err, OnOk, sym, ap, ◌∙◌, subst, arith, append-nil, refl}
+use Rattle.std.proofs.Common.{◌≡◌, ℕ, suc, ◌+◌, ◌<◌, Bool, true, false, cond, List, [], ◌∷◌, ◌++◌, Some, Result, Ok, Err, OnOk, sym, ap, ◌∙◌, subst, arith}
+use Rattle.std.proofs.Common.{append-nil, refl}
 use Rattle.flat_base.specs.Last.{last_item}
 use Rattle.flat_base.specs.declared.ids.FrameNo.{FrameNo}
 use Rattle.flat_scene.specs.declared.frames.DrawItem.{DrawItem}
@@ -37,18 +38,21 @@ use Rattle.flat_play.proofs.lemmas.FramesShown.{scaled, viewed}
 use Rattle.flat_play.proofs.lemmas.Seen.{finished_by, frames_more}
 
 -- the last finished frame, where there is one
-pub last-finished : (setup : Setup) (history : List Entry) → 0 < frames history → last_item (finished setup history) ≡ Some (frame_at setup (frames history) (to_finished history))
+pub last-finished : (setup : Setup) (history : List Entry) → 0 < frames history
+    → last_item (finished setup history) ≡ Some (frame_at setup (frames history) (to_finished history))
 last-finished setup [] some = absurd (omega (arith, some))
 last-finished setup (before ▹ entry) some = by (last-finished setup before) (is_finish entry.kind) refl
   where
-    by : (0 < frames before → last_item (finished setup before) ≡ Some (frame_at setup (frames before) (to_finished before))) → (b : Bool) → is_finish entry.kind ≡ b
+    by : (0 < frames before → last_item (finished setup before) ≡ Some (frame_at setup (frames before) (to_finished before))) → (b : Bool)
+        → is_finish entry.kind ≡ b
         → last_item (finished setup (before ▹ entry)) ≡ Some (frame_at setup (frames (before ▹ entry)) (to_finished (before ▹ entry)))
     by earlier true is =
         let many : frames (before ▹ entry) ≡ suc (frames before) = (let more = frames_more before entry true is in omega (arith, more)) in
         let ended : to_finished (before ▹ entry) ≡ to_begin before = rw is refl in
         ap last_item (finished_by setup before entry true is)
         ∙ last-more (finished setup before) (frame_at setup (suc (frames before)) (to_begin before))
-        ∙ sym (ap (λ n. Some (frame_at setup n (to_finished (before ▹ entry)))) many ∙ ap (λ (h : List Entry). Some (frame_at setup (suc (frames before)) h)) ended)
+        ∙ sym (ap (λ n. Some (frame_at setup n (to_finished (before ▹ entry)))) many
+        ∙ ap (λ (h : List Entry). Some (frame_at setup (suc (frames before)) h)) ended)
     by earlier false is =
         let many : frames (before ▹ entry) ≡ frames before = (let more = frames_more before entry false is in omega (arith, more)) in
         let ended : to_finished (before ▹ entry) ≡ to_finished before = rw is refl in
@@ -69,8 +73,10 @@ in-any-case (Ok value) holds = holds
 in-any-case (Err error) holds = tt
 
 -- what was kept as one kind is kept as it, of one frame more
-pub more-unchanged : {A E : Type 0} (script : Script) (number : FrameNo) (tree : ViewTree) (old was new : Kept) (result : Result A E) → old ≡ was → keeping_of new ≡ keeping_of was
-    → ((frames : List FrameOut) (last : FrameOut) → Keeps script was frames → last_item frames ≡ Some last → OnOk result (Keeps script new (frames ++ unchanged number tree last ∷ []))) → OnOk result (KeepsUnchanged script number tree old new)
+pub more-unchanged : {A E : Type 0} (script : Script) (number : FrameNo) (tree : ViewTree) (old was new : Kept) (result : Result A E) → old ≡ was
+    → keeping_of new ≡ keeping_of was
+    → ((frames : List FrameOut) (last : FrameOut) → Keeps script was frames → last_item frames ≡ Some last
+    → OnOk result (Keeps script new (frames ++ unchanged number tree last ∷ []))) → OnOk result (KeepsUnchanged script number tree old new)
 more-unchanged script number tree old was new (Ok value) is same more = record {
   same = same ∙ ap keeping_of (sym is);
   more = λ frames last keeps item. more frames last (subst (λ (k : Kept). Keeps script k frames) is keeps) item;
@@ -78,7 +84,8 @@ more-unchanged script number tree old was new (Ok value) is same more = record {
 more-unchanged script number tree old was new (Err error) is same more = tt
 
 -- so one frame more is kept that has the items of the last one
-pub kept-unchanged : {A E : Type 0} (script : Script) (number : FrameNo) (tree : ViewTree) (old new : Kept) (frames : List FrameOut) (last : FrameOut) (result : Result A E) → Keeps script old frames → last_item frames ≡ Some last
+pub kept-unchanged : {A E : Type 0} (script : Script) (number : FrameNo) (tree : ViewTree) (old new : Kept) (frames : List FrameOut) (last : FrameOut)
+    (result : Result A E) → Keeps script old frames → last_item frames ≡ Some last
     → OnOk result (KeepsUnchanged script number tree old new) → OnOk result (KeepsMore script (unchanged number tree last) old new)
 kept-unchanged script number tree old new frames last (Ok value) keeps is more = record {
   same = more.same;
@@ -87,7 +94,8 @@ kept-unchanged script number tree old new frames last (Ok value) keeps is more =
 kept-unchanged script number tree old new frames last (Err error) keeps is more = tt
 
 -- the frame of the begin is the last one, unchanged, where it shows the same states at the same pixel ratio
-module _ (setup : Setup) (history : List Entry) (last : LastFrame) (answers : List HitAnswer) (shown : Shown) (at : ℕ) (views : SessionSet) (ended : AnswersStand setup history last answers) (stands : FramesStand setup history shown at views)
+module _ (setup : Setup) (history : List Entry) (last : LastFrame) (answers : List HitAnswer) (shown : Shown) (at : ℕ) (views : SessionSet)
+    (ended : AnswersStand setup history last answers) (stands : FramesStand setup history shown at views)
     (shows : last.reuse ≡ shown) (scales : last.ratio ≡ at) where
   there : setup_at setup (to_finished history) ≡ at_ratio at setup
   there = ap (λ r. at_ratio r setup) (sym ended.scaling ∙ scales)
@@ -96,10 +104,13 @@ module _ (setup : Setup) (history : List Entry) (last : LastFrame) (answers : Li
   states = sym ended.showing ∙ shows
 
   pub next-unchanged : is_setup setup ≡ true → ViewsGiveTrees → HasViews setup views
-      → unchanged (record { 0 = last.frame.0 + 1 }) (tree_of (frame_at setup (frames history) (to_finished history)).tree.nodes views) (frame_at setup (frames history) (to_finished history)) ≡ frame_at setup (frames history + 1) (to_begin history)
+      → unchanged (record { 0 = last.frame.0 + 1 }) (tree_of (frame_at setup (frames history) (to_finished history)).tree.nodes views)
+      (frame_at setup (frames history) (to_finished history)) ≡ frame_at setup (frames history + 1) (to_begin history)
   next-unchanged is_one follow none =
       let was : FrameOut = frame_at setup (frames history) (to_finished history) in
       let items : was.items ≡ draw_list (at_ratio at setup) shown = λ i. draw_list (there i) (states i) in
       let nodes : was.tree.nodes ≡ view_nodes (at_ratio at setup) shown = λ i. view_nodes (there i) (states i) in
       ap (λ (n : ℕ). unchanged (record { 0 = n + 1 }) (tree_of was.tree.nodes views) was) ended.number
-      ∙ composed setup (to_begin history) shown views at (scaled setup (to_begin history) at stands.scaling) stands.showing (viewed setup history shown at views stands none) (frames history + 1) was.items was.tree.nodes (tree_of was.tree.nodes views) is_one follow items nodes refl
+      ∙ composed setup (to_begin history) shown views at (scaled setup (to_begin history) at stands.scaling) stands.showing
+      (viewed setup history shown at views stands none) (frames history + 1) was.items was.tree.nodes (tree_of was.tree.nodes views) is_one follow items
+      nodes refl

@@ -45,4 +45,5 @@ pub record KeepsMore (script : Script) (frame : FrameOut) (old new : Kept) : Typ
 -- One frame more is kept, in the same way: that of a number and with a view tree, which has the items of the last one.
 pub record KeepsUnchanged (script : Script) (number : FrameNo) (tree : ViewTree) (old new : Kept) : Type 0 where
   pub same : keeping_of new ≡ keeping_of old
-  pub more : (frames : List FrameOut) (last : FrameOut) → Keeps script old frames → last_item frames ≡ Some last → Keeps script new (frames ++ unchanged number tree last ∷ [])
+  pub more : (frames : List FrameOut) (last : FrameOut) → Keeps script old frames → last_item frames ≡ Some last
+      → Keeps script new (frames ++ unchanged number tree last ∷ [])

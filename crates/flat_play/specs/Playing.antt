@@ -55,11 +55,12 @@ last_number n (next ∷ later) = last_number next.number later
 
 -- A session's entries are the reading of its lines up to a place, and its reader stands behind them.
 -- It refused no more lines than there were.
-pub record ReaderStands (script : Script) (s : SessionNo) (place : ℕ) (history : List Entry) (reader : Reader) : Type 0 where
-  pub session : reader.session ≡ s
-  pub few : reader.refused ≤ last_number 0 (take place script.lines)
-  pub stands : Stands script.setup (own s history) reader
-  pub reads : HasRead script.setup (session_lines s (take place script.lines)) (own s history) reader
+pub record ReaderStands (script : Script) (s : SessionNo) (place : ℕ) (history : List Entry) (reader : Reader) : Type 0
+  where
+    pub session : reader.session ≡ s
+    pub few : reader.refused ≤ last_number 0 (take place script.lines)
+    pub stands : Stands script.setup (own s history) reader
+    pub reads : HasRead script.setup (session_lines s (take place script.lines)) (own s history) reader
 
 -- ---- all actors at a place
 
@@ -95,18 +96,21 @@ pub record DisplayStands (script : Script) (place : ℕ) (history : List Entry) 
   pub closing : frames_close (is_frame_open history) (begin_time history) (drop place script.lines) ≡ true
 
 -- What is shown is that of the last begin, and so is the pixel ratio.
-pub record FramesStand (setup : Setup) (history : List Entry) (shown : Shown) (at : ℕ) (with_view : SessionSet) : Type 0 where
-  pub showing : shown ≡ shown_states setup (to_begin history)
-  pub scaling : at ≡ ratio setup (to_begin history)
-  pub viewing : (s : SessionNo) → is_declared setup s ≡ true → is_member with_view s.0 ≡ has_view setup (to_begin history) s
+pub record FramesStand (setup : Setup) (history : List Entry) (shown : Shown) (at : ℕ) (with_view : SessionSet) : Type 0
+  where
+    pub showing : shown ≡ shown_states setup (to_begin history)
+    pub scaling : at ≡ ratio setup (to_begin history)
+    pub viewing : (s : SessionNo) → is_declared setup s ≡ true
+        → is_member with_view s.0 ≡ has_view setup (to_begin history) s
 
 -- The last finished frame is known, and the points that were asked for are answered.
-pub record AnswersStand (setup : Setup) (history : List Entry) (last : LastFrame) (answers : List HitAnswer) : Type 0 where
-  pub number : last.frame.0 ≡ frames history
-  pub is_last : IsLast setup last
-  pub showing : last.reuse ≡ shown_states setup (to_finished history)
-  pub scaling : last.ratio ≡ ratio setup (to_finished history)
-  pub answering : answers ≡ answers_of setup history
+pub record AnswersStand (setup : Setup) (history : List Entry) (last : LastFrame) (answers : List HitAnswer) : Type 0
+  where
+    pub number : last.frame.0 ≡ frames history
+    pub is_last : IsLast setup last
+    pub showing : last.reuse ≡ shown_states setup (to_finished history)
+    pub scaling : last.ratio ≡ ratio setup (to_finished history)
+    pub answering : answers ≡ answers_of setup history
 
 -- a set of sessions has none beyond those of the setup
 abbrev pub HasViews : Setup → SessionSet → Type 0
@@ -115,7 +119,8 @@ HasViews setup views = (s : ℕ) → setup.sessions < s → is_member views s �
 -- All readers stand at a place.
 pub record ReadersStand (script : Script) (place : ℕ) (history : List Entry) (readers : List Reader) : Type 0 where
   pub count : length readers ≡ script.setup.sessions
-  pub each : (k : ℕ) (d : Reader) → k < length readers → ReaderStands script (record { 0 = k + 1 }) place history (slice_index_or readers k d)
+  pub each : (k : ℕ) (d : Reader) → k < length readers
+      → ReaderStands script (record { 0 = k + 1 }) place history (slice_index_or readers k d)
 
 -- The whole run stands at a place.
 pub record PlayStands (script : Script) (place : ℕ) (play : Play) : Type 0 where
@@ -139,7 +144,8 @@ pub record BeginsFrame (old new : Play) (number time : ℕ) : Type 0 where
   pub shown : new.shown ≡ shown_states new.board.setup new.board.history
   pub scaling : new.ratio ≡ ratio new.board.setup new.board.history
   pub changed : AreSame new.changed old.shown new.shown
-  pub viewing : (s : SessionNo) → is_declared new.board.setup s ≡ true → is_member new.with_view s.0 ≡ has_view new.board.setup new.board.history s
+  pub viewing : (s : SessionNo) → is_declared new.board.setup s ≡ true
+      → is_member new.with_view s.0 ≡ has_view new.board.setup new.board.history s
   pub views : HasViews new.board.setup new.with_view
   pub readers : new.readers ≡ old.readers
   pub kept : new.kept ≡ old.kept
@@ -153,7 +159,8 @@ pub record FinishesFrame (script : Script) (old new : Play) (number : ℕ) : Typ
   pub ratio : new.ratio ≡ old.ratio
   pub with_view : new.with_view ≡ old.with_view
   pub readers : new.readers ≡ old.readers
-  pub kept : KeepsMore script (frame_at script.setup (frames new.board.history) (to_begin old.board.history)) old.kept new.kept
+  pub kept : KeepsMore script (frame_at script.setup (frames new.board.history) (to_begin old.board.history)) old.kept
+      new.kept
   pub shows : new.last.frame.0 ≡ frames new.board.history
   pub is_last : IsLast old.board.setup new.last
   pub showing : new.last.reuse ≡ old.shown
@@ -181,7 +188,12 @@ pub record EntersBeside (old new : Play) (number : ℕ) (kind : Kind) (reply : R
 
 -- the answer to a point that the display asks for, by the last finished frame
 abbrev pub point_answer : Setup → LastFrame → ℕ → ℤ → ℤ → HitAnswer
-point_answer setup last number x y = record { actor = Display; line = number; frame = last.frame; hits = hit_list (at_ratio last.ratio setup) last.reuse x y }
+point_answer setup last number x y = record {
+  actor = Display;
+  line = number;
+  frame = last.frame;
+  hits = hit_list (at_ratio last.ratio setup) last.reuse x y;
+}
 
 -- The display asks for a point, and is answered by the last finished frame.
 pub record AsksPoint (old new : Play) (number : ℕ) (x y : ℤ) : Type 0 where
@@ -227,8 +239,11 @@ pub record EndsStand (script : Script) (ended : ℕ) (play : Play) : Type 0 wher
   pub setup : play.board.setup ≡ script.setup
   pub shares : play.board.shares ≡ shares_of script
   pub count : length play.readers.items ≡ script.setup.sessions
-  pub readings : (k : ℕ) → k < ended → IsReading script.setup script.count (session_lines (record { 0 = k + 1 }) script.lines) (own (record { 0 = k + 1 }) play.board.history)
-  pub waiting : (k : ℕ) (d : Reader) → ended ≤ k → k < length play.readers.items → ReaderStands script (record { 0 = k + 1 }) (length script.lines) play.board.history (slice_index_or play.readers.items k d)
+  pub readings : (k : ℕ) → k < ended → IsReading script.setup script.count
+      (session_lines (record { 0 = k + 1 }) script.lines) (own (record { 0 = k + 1 }) play.board.history)
+  pub waiting : (k : ℕ) (d : Reader) → ended ≤ k → k < length play.readers.items
+      → ReaderStands script (record { 0 = k + 1 }) (length script.lines) play.board.history
+      (slice_index_or play.readers.items k d)
   pub display : DisplayStands script (length script.lines) play.board.history
   pub has_ends : HasEnds ended play.board.history
   pub unspent : (k : ℕ) → ended ≤ k → made (k + 1) play.board.history ≤ lines_by (k + 1) script.lines

@@ -32,19 +32,29 @@ asked_of _ _ = None
 
 -- the answer to an actor's line by a frame that shows these states
 abbrev pub answer_of : Setup → Shown → ℕ → Actor → ℕ → ProbeLine → ProbeAnswer
-answer_of setup shown frame actor number asked = record { actor = actor; line = number; asked = asked; frame = record { 0 = frame }; hits = asked_hits (hit_list setup shown) asked }
+answer_of setup shown frame actor number asked =
+    record {
+      actor = actor;
+      line = number;
+      asked = asked;
+      frame = record { 0 = frame };
+      hits = asked_hits (hit_list setup shown) asked;
+    }
 
 -- the answers of all probes, with one more of a probe
 abbrev pub with_answer : ℕ → ProbeAnswer → List (List ProbeAnswer) → List (List ProbeAnswer)
 with_answer p answer answers = slice_set answers p (slice_index_or answers p [] ++ answer ∷ [])
 
 -- the answers after a line of a number, by what it asks and of whom
-abbrev pub answers_after : Setup → Shown → ℕ → ℕ → Option (ℕ × ProbeLine) → List (List ProbeAnswer) → List (List ProbeAnswer)
+abbrev pub answers_after : Setup → Shown → ℕ → ℕ → Option (ℕ × ProbeLine) → List (List ProbeAnswer)
+    → List (List ProbeAnswer)
 answers_after setup shown frame number None answers = answers
-answers_after setup shown frame number (Some (p, asked)) answers = with_answer p (answer_of setup shown frame (Probe p) number asked) answers
+answers_after setup shown frame number (Some (p, asked)) answers =
+    with_answer p (answer_of setup shown frame (Probe p) number asked) answers
 
 -- ---- when they are asked
 
 -- Each probe's line is answered by the frame that was finished last before it.
 abbrev pub SeeInTurn : List ScriptLine → List Entry → List (List ProbeAnswer) → Type 0
-SeeInTurn lines history answers = (n : ℕ) (one : List ProbeAnswer) → slice_get answers n ≡ Some one → map frame_seen one ≡ frames_then history (probe_lines_of n lines)
+SeeInTurn lines history answers = (n : ℕ) (one : List ProbeAnswer) → slice_get answers n ≡ Some one
+    → map frame_seen one ≡ frames_then history (probe_lines_of n lines)

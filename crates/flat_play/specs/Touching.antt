@@ -35,7 +35,8 @@ pub record GoesOnByEnds (old new : List Entry) : Type 0 where
   pub are_ends : list_all (λ entry. is_end entry.kind) ends ≡ true
 
 -- The lines that come next, up to that of a number, are answered by what is shown, and the later ones are left.
-pub record AnswersUpto (setup : Setup) (shown : Shown) (number : ℕ) (lines later : List PointerLine) (old new : List Touch) : Type 0 where
+pub record AnswersUpto (setup : Setup) (shown : Shown) (number : ℕ) (lines later : List PointerLine)
+    (old new : List Touch) : Type 0 where
   pub early : List PointerLine
   pub parts : lines ≡ early ++ later
   pub up_to : list_all (λ line. nat_le line.number number) early ≡ true
@@ -43,7 +44,8 @@ pub record AnswersUpto (setup : Setup) (shown : Shown) (number : ℕ) (lines lat
   pub touches : new ≡ old ++ map (touch_in setup shown) early
 
 -- The first lines are answered, those up to that of a number, behind which no entry stands; the others are left.
-pub record AreAnswered (setup : Setup) (history : List Entry) (number : ℕ) (lines left : List PointerLine) (found : List Touch) : Type 0 where
+pub record AreAnswered (setup : Setup) (history : List Entry) (number : ℕ) (lines left : List PointerLine)
+    (found : List Touch) : Type 0 where
   pub answered : List PointerLine
   pub parts : lines ≡ answered ++ left
   pub touches : found ≡ map (touch_of setup history) answered

@@ -1,5 +1,6 @@
 -- Every script that the reader accepts is playable.
-use Rattle.std.proofs.Common.{◌≡◌, ℕ, ◌+◌, ◌-◌, ◌*◌, ◌<◌, ◌≤◌, ◌==◌, ◌⊎◌, inl, inr, not, Bool, true, false, cond, nat_lt, nat_le, List, [], ◌∷◌, ◌++◌, length, Some, Result, Ok, Err, refl, sym, ◌∙◌, ap, codes, arith, append-nil, subst}
+use Rattle.std.proofs.Common.{◌≡◌, ℕ, ◌+◌, ◌-◌, ◌*◌, ◌<◌, ◌≤◌, ◌==◌, ◌⊎◌, inl, inr, not, Bool, true, false, cond, nat_lt, nat_le, List, [], ◌∷◌, ◌++◌, length}
+use Rattle.std.proofs.Common.{Some, Result, Ok, Err, refl, sym, ◌∙◌, ap, codes, arith, append-nil, subst}
 use Rattle.std.specs.Str.{bytes_eq}
 use Rattle.std.specs.List.{list_all, slice_split}
 use Rattle.std.specs.Prelude.{find}
@@ -41,7 +42,8 @@ record BodyEnd (h : Script) (end : ℕ) (s : Script) : Type 0 where
   pub made : s ≡ record (with_lines h us) { count = end - 1 }
 
 ended : (h : Script) (us : List ScriptLine) (n : ℕ) (s : Script) (b : Bool) → BodyKept h us n → is_open (with_lines h us) ≡ b
-    → cond {A = Result Script ScriptFault} b (Err (record { line = n; kind = BadOrder })) (Ok (record (with_lines h us) { count = n - 1 })) ≡ Ok s → BodyEnd h n s
+    → cond {A = Result Script ScriptFault} b (Err (record { line = n; kind = BadOrder })) (Ok (record (with_lines h us) { count = n - 1 })) ≡ Ok s
+    → BodyEnd h n s
 ended h us n s true kept at is = absurd (cc)
 ended h us n s false kept at is = let e : record (with_lines h us) { count = n - 1 } ≡ s = cc in record { us = us; kept = kept; closed = at; made = sym e }
 
@@ -52,21 +54,27 @@ end_at h a b s e done = let P : ℕ → Type 0 = λ k. BodyEnd h k s in subst P 
 abbrev BodyEnds : Script → List (List ℕ) → Script → Type 0
 BodyEnds h ls s = (us : List ScriptLine) (n : ℕ) → BodyKept h us n → lines_read n (part.Body, with_lines h us) ls ≡ Ok s → BodyEnd h (n + length ls) s
 
-body_by : (h : Script) (ls : List (List ℕ)) (us : List ScriptLine) (n : ℕ) (s : Script) (l : List ℕ) (next : NextOk n (part.Body, with_lines h us) l ls s) → h.setup.sessions ≡ length h.sessions → h.setup.probes ≡ length h.probes → BodyKept h us n
+body_by : (h : Script) (ls : List (List ℕ)) (us : List ScriptLine) (n : ℕ) (s : Script) (l : List ℕ) (next : NextOk n (part.Body, with_lines h us) l ls s)
+    → h.setup.sessions ≡ length h.sessions → h.setup.probes ≡ length h.probes → BodyKept h us n
     → ((part.Body, with_lines h us) ≡ next.next) ⊎ Read n (part.Body, with_lines h us) next.next l → BodyEnds h ls s → BodyEnd h (n + 1 + length ls) s
-body_by h ls us n s l next many probed kept (inl e) ends = ends us (n + 1) (body_skipped h us n kept) (read_at (n + 1) (part.Body, with_lines h us) next.next ls s e next.rest)
+body_by h ls us n s l next many probed kept (inl e) ends =
+    ends us (n + 1) (body_skipped h us n kept) (read_at (n + 1) (part.Body, with_lines h us) next.next ls s e next.rest)
 body_by h ls us n s l next many probed kept (inr r) ends =
     let t = mapped_ok (λ v. (part.Body, v)) (body_line (with_lines h us) n (words_of l)) next.next r.words in
     let a = body_again h us us n n (words_of l) t.a (record { same = refl }) t.given in
     let x : ScriptLine = record { number = n; actor = a.actor; body = a.body } in
     let here : (part.Body, with_lines h (us ++ x ∷ [])) ≡ next.next = ap (λ v. (part.Body, v)) (sym a.read) ∙ t.value in
-    ends (us ++ x ∷ []) (n + 1) (body_line_kept h us n (words_of l) t.a a many probed kept) (read_at (n + 1) (part.Body, with_lines h (us ++ x ∷ [])) next.next ls s here next.rest)
+    ends (us ++ x ∷ []) (n + 1) (body_line_kept h us n (words_of l) t.a a many probed kept)
+    (read_at (n + 1) (part.Body, with_lines h (us ++ x ∷ [])) next.next ls s here next.rest)
 
-body_end : (h : Script) (ls : List (List ℕ)) (us : List ScriptLine) (n : ℕ) (s : Script) → h.setup.sessions ≡ length h.sessions → h.setup.probes ≡ length h.probes → BodyKept h us n → lines_read n (part.Body, with_lines h us) ls ≡ Ok s → BodyEnd h (n + length ls) s
+body_end : (h : Script) (ls : List (List ℕ)) (us : List ScriptLine) (n : ℕ) (s : Script) → h.setup.sessions ≡ length h.sessions
+    → h.setup.probes ≡ length h.probes → BodyKept h us n → lines_read n (part.Body, with_lines h us) ls ≡ Ok s → BodyEnd h (n + length ls) s
 body_end h [] us n s many probed kept is = end_at h n (n + 0) s (omega arith) (ended h us n s (is_open (with_lines h us)) kept refl is)
 body_end h (l ∷ ls) us n s many probed kept is =
     let next = next_ok n (part.Body, with_lines h us) l ls s is in
-    end_at h (n + 1 + length ls) (n + length (l ∷ ls)) s (omega arith) (body_by h ls us n s l next many probed kept (line_ok n (part.Body, with_lines h us) next.next l next.read) (λ vs k more rest. body_end h ls vs k s many probed more rest))
+    end_at h (n + 1 + length ls) (n + length (l ∷ ls)) s (omega arith)
+    (body_by h ls us n s l next many probed kept (line_ok n (part.Body, with_lines h us) next.next l next.read)
+    (λ vs k more rest. body_end h ls vs k s many probed more rest))
 
 -- the head
 
@@ -84,19 +92,30 @@ head_at {v = v} a b s e done = let P : ℕ → Type 0 = λ k. HeadEnd v k s in s
 abbrev HeadEnds : ℕ → List (List ℕ) → Script → Type 0
 HeadEnds v ls s = (u : Script) (n : ℕ) → 0 < n → HeadKept v u → lines_read n (part.Head, u) ls ≡ Ok s → HeadEnd v (n + length ls) s
 
-head_by : {v : ℕ} (u : Script) (n : ℕ) (s : Script) (ls : List (List ℕ)) (next : Sofar) (w : Word) (words : List Word) (b : Bool) → HeadKept v u → lines_read (n + 1) next ls ≡ Ok s
-    → cond b (mapped (λ _. (part.Body, u)) (run_line u words)) (mapped (λ t. (part.Head, t)) (head_line u (w ∷ words))) ≡ Ok next → HeadEnds v ls s → HeadEnd v (n + 1 + length ls) s
+head_by : {v : ℕ} (u : Script) (n : ℕ) (s : Script) (ls : List (List ℕ)) (next : Sofar) (w : Word) (words : List Word) (b : Bool) → HeadKept v u
+    → lines_read (n + 1) next ls ≡ Ok s
+    → cond b (mapped (λ _. (part.Body, u)) (run_line u words)) (mapped (λ t. (part.Head, t)) (head_line u (w ∷ words))) ≡ Ok next → HeadEnds v ls s
+    → HeadEnd v (n + 1 + length ls) s
 head_by u n s ls next w words true kept rest read ends =
     let m = mapped_ok (λ _. (part.Body, u)) (run_line u words) next read in
     let tested = unless_ok BadHead (is_ready u) (whole (give (tt {0})) words) m.a m.given in
     let bare : with_lines u [] ≡ u = ap (with_lines u) (sym kept.lines) in
     let here : (part.Body, with_lines u []) ≡ next = ap (λ v. (part.Body, v)) bare ∙ m.value in
-    record { h = u; kept = kept; ready = tested.passed; body = body_end u ls [] (n + 1) s kept.sessions kept.probes (body_empty u (n + 1) (omega arith)) (read_at (n + 1) (part.Body, with_lines u []) next ls s here rest) }
+    record {
+      h = u;
+      kept = kept;
+      ready = tested.passed;
+      body =
+          body_end u ls [] (n + 1) s kept.sessions kept.probes (body_empty u (n + 1) (omega arith))
+          (read_at (n + 1) (part.Body, with_lines u []) next ls s here rest);
+    }
 head_by u n s ls next w words false kept rest read ends =
     let m = mapped_ok (λ t. (part.Head, t)) (head_line u (w ∷ words)) next read in
-    ends m.a (n + 1) (omega arith) (step_kept u (w ∷ words) m.a (step_found u (w ∷ words) m.a m.given) kept) (read_at (n + 1) (part.Head, m.a) next ls s m.value rest)
+    ends m.a (n + 1) (omega arith) (step_kept u (w ∷ words) m.a (step_found u (w ∷ words) m.a m.given) kept)
+    (read_at (n + 1) (part.Head, m.a) next ls s m.value rest)
 
-head_words_by : {v : ℕ} (u : Script) (n : ℕ) (s : Script) (ls : List (List ℕ)) (next : Sofar) (ws : List Word) → HeadKept v u → lines_read (n + 1) next ls ≡ Ok s
+head_words_by : {v : ℕ} (u : Script) (n : ℕ) (s : Script) (ls : List (List ℕ)) (next : Sofar) (ws : List Word) → HeadKept v u
+    → lines_read (n + 1) next ls ≡ Ok s
     → words_read n (part.Head, u) ws ≡ Ok next → HeadEnds v ls s → HeadEnd v (n + 1 + length ls) s
 head_words_by u n s ls next [] kept rest read ends = absurd (cc)
 head_words_by u n s ls next (w ∷ words) kept rest read ends = head_by u n s ls next w words (bytes_eq w (codes "run")) kept rest read ends
@@ -106,11 +125,13 @@ head_line_by : {v : ℕ} (u : Script) (n : ℕ) (s : Script) (l : List ℕ) (ls 
 head_line_by u n s l ls next kept (inl e) ends = ends u (n + 1) (omega arith) kept (read_at (n + 1) (part.Head, u) next.next ls s e next.rest)
 head_line_by u n s l ls next kept (inr r) ends = head_words_by u n s ls next.next (words_of l) kept next.rest r.words ends
 
-head_end : {v : ℕ} (ls : List (List ℕ)) (u : Script) (n : ℕ) (s : Script) → 0 < n → HeadKept v u → lines_read n (part.Head, u) ls ≡ Ok s → HeadEnd v (n + length ls) s
+head_end : {v : ℕ} (ls : List (List ℕ)) (u : Script) (n : ℕ) (s : Script) → 0 < n → HeadKept v u → lines_read n (part.Head, u) ls ≡ Ok s
+    → HeadEnd v (n + length ls) s
 head_end [] u n s some kept is = absurd (cc)
 head_end (l ∷ ls) u n s some kept is =
     let next = next_ok n (part.Head, u) l ls s is in
-    head_at (n + 1 + length ls) (n + length (l ∷ ls)) s (omega arith) (head_line_by u n s l ls next kept (line_ok n (part.Head, u) next.next l next.read) (λ v k p more rest. head_end ls v k s p more rest))
+    head_at (n + 1 + length ls) (n + length (l ∷ ls)) s (omega arith)
+    (head_line_by u n s l ls next kept (line_ok n (part.Head, u) next.next l next.read) (λ v k p more rest. head_end ls v k s p more rest))
 
 -- the version
 
@@ -135,15 +156,19 @@ start_words n next l false q is = absurd (cc)
 start_words n next l true true is = absurd (cc)
 start_words n next l true false is = is
 
-start_line_by : (n : ℕ) (s : Script) (l : List ℕ) (ls : List (List ℕ)) (next : Sofar) (skipped : Bool) → is_skipped l ≡ skipped → lines_read (n + 1) next ls ≡ Ok s
-    → cond {A = Reading Sofar} (not (list_all is_plain l)) (Err NotAscii) (cond {A = Reading Sofar} (nat_lt 1024 (length l)) (Err LongLine) (cond {A = Reading Sofar} skipped (Ok (part.Start, empty)) (words_read n (part.Start, empty) (words_of l)))) ≡ Ok next
+start_line_by : (n : ℕ) (s : Script) (l : List ℕ) (ls : List (List ℕ)) (next : Sofar) (skipped : Bool) → is_skipped l ≡ skipped
+    → lines_read (n + 1) next ls ≡ Ok s
+    → cond {A = Reading Sofar} (not (list_all is_plain l)) (Err NotAscii)
+    (cond {A = Reading Sofar} (nat_lt 1024 (length l)) (Err LongLine)
+    (cond {A = Reading Sofar} skipped (Ok (part.Start, empty)) (words_read n (part.Start, empty) (words_of l)))) ≡ Ok next
     → StartEnds ls s → StartEnd (n + 1 + length ls) (l ∷ ls) s
 start_line_by n s l ls next true at rest is ends =
     let same : (part.Start, empty) ≡ next = skipped_by (list_all is_plain l) (nat_lt 1024 (length l)) is in
     let behind = ends (n + 1) (read_at (n + 1) (part.Start, empty) next ls s same rest) in
     record { v = behind.v; head = behind.head; first = ap (λ b. cond (not b) (Some l) (find (λ line. not (is_skipped line)) ls)) at ∙ behind.first }
   where
-    skipped_by : (p q : Bool) → cond {A = Reading Sofar} (not p) (Err NotAscii) (cond {A = Reading Sofar} q (Err LongLine) (Ok (part.Start, empty))) ≡ Ok next → (part.Start, empty) ≡ next
+    skipped_by : (p q : Bool) → cond {A = Reading Sofar} (not p) (Err NotAscii) (cond {A = Reading Sofar} q (Err LongLine) (Ok (part.Start, empty))) ≡ Ok next
+        → (part.Start, empty) ≡ next
     skipped_by false q is = absurd (cc)
     skipped_by true true is = absurd (cc)
     skipped_by true false is = cc
@@ -154,7 +179,8 @@ start_line_by n s l ls next false at rest is ends =
     let line : l ≡ version_line m.a = sym (spelled-words_of l) ∙ ap line_of says.0 ∙ ap (λ t. codes "flatland " ++ t) (append-nil (decimal m.a)) in
     record {
       v = m.a;
-      head = head_end ls (with_version empty m.a) (n + 1) s (omega arith) (head_first m.a says.1) (read_at (n + 1) (part.Head, with_version empty m.a) next ls s m.value rest);
+      head = head_end ls (with_version empty m.a) (n + 1) s (omega arith) (head_first m.a says.1)
+          (read_at (n + 1) (part.Head, with_version empty m.a) next ls s m.value rest);
       first = ap (λ b. cond (not b) (Some l) (find (λ line. not (is_skipped line)) ls)) at ∙ ap Some line;
     }
 
@@ -162,7 +188,8 @@ start_end : (ls : List (List ℕ)) (n : ℕ) (s : Script) → lines_read n (part
 start_end [] n s is = absurd (cc)
 start_end (l ∷ ls) n s is =
     let next = next_ok n (part.Start, empty) l ls s is in
-    start_at (n + 1 + length ls) (n + length (l ∷ ls)) (l ∷ ls) s (omega arith) (start_line_by n s l ls next.next (is_skipped l) refl next.rest next.read (λ k rest. start_end ls k s rest))
+    start_at (n + 1 + length ls) (n + length (l ∷ ls)) (l ∷ ls) s (omega arith)
+    (start_line_by n s l ls next.next (is_skipped l) refl next.rest next.read (λ k rest. start_end ls k s rest))
 
 -- how many lines a text has
 
@@ -194,7 +221,8 @@ pub record Accepted (s : Script) : Type 0 where
   pub one : nat_lt s.version RATIO_SINCE ≡ true → s.setup.ratio ≡ ONE
   pub unscaled : nat_lt s.version RATIO_SINCE ≡ true → list_all sets_no_ratio s.lines ≡ true
 
-frames_end : (h : Script) (us : List ScriptLine) (opened : Bool) (time : ℕ) → FramesKept (with_lines h us) opened time → is_open (with_lines h us) ≡ false → frames_close false 0 us ≡ true
+frames_end : (h : Script) (us : List ScriptLine) (opened : Bool) (time : ℕ) → FramesKept (with_lines h us) opened time → is_open (with_lines h us) ≡ false
+    → frames_close false 0 us ≡ true
 frames_end h us opened time kept closed =
     ap (frames_close false 0) (sym (append-nil us)) ∙ kept.judged [] ∙ ap not (sym (open_is (with_lines h us) opened time kept) ∙ closed)
 
@@ -227,7 +255,8 @@ pub record AcceptedText (bytes : List ℕ) (s : Script) : Type 0 where
   pub first : first_kept bytes ≡ Some (version_line s.version)
 
 by_size : (bytes : List ℕ) (s : Script) (b : Bool) → nat_lt (16 * 1024 * 1024) (length bytes) ≡ b
-    → cond {A = Result Script ScriptFault} b (Err (record { line = 0; kind = TooLong })) (lines_read 1 (part.Start, empty) (lines_of bytes)) ≡ Ok s → AcceptedText bytes s
+    → cond {A = Result Script ScriptFault} b (Err (record { line = 0; kind = TooLong })) (lines_read 1 (part.Start, empty) (lines_of bytes)) ≡ Ok s
+    → AcceptedText bytes s
 by_size bytes s true at is = absurd (cc)
 by_size bytes s false at is =
     let few : length bytes ≤ 16777216 = grind (arith, nat_tests) in

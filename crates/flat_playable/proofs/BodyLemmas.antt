@@ -1,5 +1,6 @@
 -- What the lines of a body keep, as they are read.
-use Rattle.std.proofs.Common.{◌≡◌, ℕ, ◌+◌, ◌<◌, ◌≤◌, ◌&&◌, not, max, Bool, true, false, cond, nat_lt, nat_le, List, [], ◌∷◌, ◌++◌, length, None, Ok, Err, refl, sym, ◌∙◌, ap, arith, append_assoc, append-nil, length-append, subst}
+use Rattle.std.proofs.Common.{◌≡◌, ℕ, ◌+◌, ◌<◌, ◌≤◌, ◌&&◌, not, max, Bool, true, false, cond, nat_lt, nat_le, List, [], ◌∷◌, ◌++◌, length, None, Ok, Err, refl}
+use Rattle.std.proofs.Common.{sym, ◌∙◌, ap, arith, append_assoc, append-nil, length-append, subst}
 use Rattle.std.specs.List.{list_all, filter_map}
 use Rattle.std.specs.Fmt.{decimal}
 use Rattle.std.proofs.lemmas.List.Elements.{filter_map-append}
@@ -17,7 +18,8 @@ use Rattle.flat_scene.specs.declared.script.Body.TheVariants as body
 use Rattle.flat_places.specs.declared.kinds.FaultKind.TheVariants.{Limit, BadOrder}
 use Rattle.flat_places.specs.declared.script.Script.{Script}
 use Rattle.flat_places.specs.Forms.{Word, Reading, mapped, unless_kind, whole, give}
-use Rattle.flat_forms.specs.Body.{time_begun, ends_frame, begin_times, dones, is_open, greatest, in_order, begin_place, display_line, session_line, probe_line, actor_line, with_line}
+use Rattle.flat_forms.specs.Body.{time_begun, ends_frame, begin_times, dones, is_open, greatest, in_order, begin_place, display_line, session_line, probe_line}
+use Rattle.flat_forms.specs.Body.{actor_line, with_line}
 use Rattle.flat_print.specs.Print.{display_words}
 use Rattle.flat_forms.proofs.lemmas.FormLemmas.{place_ok, whole_ok, unless_ok, mapped_ok}
 use Rattle.flat_print.proofs.lemmas.BodyWordLemmas.{display_spelt}
@@ -49,17 +51,21 @@ counts_open false d n is = grind (arith, nat_tests)
 pub open_is : (s : Script) (opened : Bool) (time : ℕ) → FramesKept s opened time → is_open s ≡ opened
 open_is s opened time kept = counts_open opened (dones s) (length (begin_times s)) kept.begun
 
-times_after : (s : Script) (n : ℕ) (a : Actor) (b : Body) → begin_times (with_line s n a b) ≡ begin_times s ++ filter_map (λ (l : ScriptLine). time_begun l.body) (record { number = n; actor = a; body = b } ∷ [])
+times_after : (s : Script) (n : ℕ) (a : Actor) (b : Body)
+    → begin_times (with_line s n a b) ≡ begin_times s ++ filter_map (λ (l : ScriptLine). time_begun l.body) (record { number = n; actor = a; body = b } ∷ [])
 times_after s n a b = filter_map-append (λ (l : ScriptLine). time_begun l.body) s.lines (record { number = n; actor = a; body = b } ∷ [])
 
 dones_after : (s : Script) (n : ℕ) (a : Actor) (b : Body) → dones (with_line s n a b) ≡ dones s + cond (ends_frame b) 1 0
-dones_after s n a b = sym (dones_more s.lines (s.lines ++ record { number = n; actor = a; body = b } ∷ []) (record { number = n; actor = a; body = b }) (dones s) (cond (ends_frame b) 1 0) refl refl refl)
+dones_after s n a b = sym (dones_more s.lines (s.lines ++ record { number = n; actor = a; body = b } ∷ []) (record { number = n; actor = a; body = b })
+    (dones s) (cond (ends_frame b) 1 0) refl refl refl)
 
 -- a line that has nothing to do with frames
 abbrev Passes : Body → Type 0
-Passes b = (opened : Bool) (time : ℕ) (n : ℕ) (a : Actor) (later : List ScriptLine) → frames_close opened time (record { number = n; actor = a; body = b } ∷ later) ≡ frames_close opened time later
+Passes b = (opened : Bool) (time : ℕ) (n : ℕ) (a : Actor) (later : List ScriptLine)
+    → frames_close opened time (record { number = n; actor = a; body = b } ∷ later) ≡ frames_close opened time later
 
-passed : (s : Script) (n : ℕ) (a : Actor) (b : Body) (opened : Bool) (time : ℕ) → time_begun b ≡ None → ends_frame b ≡ false → Passes b → FramesKept s opened time → FramesKept (with_line s n a b) opened time
+passed : (s : Script) (n : ℕ) (a : Actor) (b : Body) (opened : Bool) (time : ℕ) → time_begun b ≡ None → ends_frame b ≡ false → Passes b
+    → FramesKept s opened time → FramesKept (with_line s n a b) opened time
 passed s n a b opened time none other passes kept =
     let x : ScriptLine = record { number = n; actor = a; body = b } in
     let times : begin_times (with_line s n a b) ≡ begin_times s = times_after s n a b ∙ rw none (append-nil (begin_times s)) in
@@ -71,7 +77,8 @@ passed s n a b opened time none other passes kept =
     }
 
 -- a `begin`
-begins : (s : Script) (n t : ℕ) (a : Actor) (time : ℕ) → nat_le time t ≡ true → FramesKept s false time → FramesKept (with_line s n a (body.Display (display.Begin t))) true t
+begins : (s : Script) (n t : ℕ) (a : Actor) (time : ℕ) → nat_le time t ≡ true → FramesKept s false time
+    → FramesKept (with_line s n a (body.Display (display.Begin t))) true t
 begins s n t a time least kept =
     let b : Body = body.Display (display.Begin t) in
     let x : ScriptLine = record { number = n; actor = a; body = b } in
@@ -115,7 +122,8 @@ record BeginOk (s : Script) (t : ℕ) : Type 0 where
   pub closed : not (is_open s) ≡ true
   pub least : nat_le (greatest (begin_times s)) t ≡ true
 
-begin_ok : (s : Script) (words : List Word) (t : ℕ) (few : Bool) → mapped display.Begin (unless_kind Limit few (unless_kind BadOrder (not (is_open s)) (whole (begin_place s) words))) ≡ Ok (display.Begin t) → BeginOk s t
+begin_ok : (s : Script) (words : List Word) (t : ℕ) (few : Bool)
+    → mapped display.Begin (unless_kind Limit few (unless_kind BadOrder (not (is_open s)) (whole (begin_place s) words))) ≡ Ok (display.Begin t) → BeginOk s t
 begin_ok s words t few is =
     let m = mapped_ok display.Begin _ (display.Begin t) is in
     let first = unless_ok Limit few _ m.a m.given in
@@ -128,7 +136,8 @@ begin_ok s words t few is =
 go_on_at : (s t : Script) → s ≡ t → FramesGoOn t → FramesGoOn s
 go_on_at s t e go = let P : Script → Type 0 = FramesGoOn in subst P (sym e) go
 
-begun_by : (s : Script) (n t : ℕ) (a : Actor) (opened : Bool) (time : ℕ) → FramesKept s opened time → BeginOk s t → FramesGoOn (with_line s n a (body.Display (display.Begin t)))
+begun_by : (s : Script) (n t : ℕ) (a : Actor) (opened : Bool) (time : ℕ) → FramesKept s opened time → BeginOk s t
+    → FramesGoOn (with_line s n a (body.Display (display.Begin t)))
 begun_by s n t a true time kept is = absurd (let h = is.closed in let o = open_is s true time kept in wrong (is_open s) o h)
   where
     wrong : (b : Bool) → b ≡ true → not b ≡ true → ⊥
@@ -136,31 +145,43 @@ begun_by s n t a true time kept is = absurd (let h = is.closed in let o = open_i
     wrong false o h = cc
 begun_by s n t a false time kept is = record { opened = true; time = t; kept = begins s n t a time (ap (λ m. nat_le m t) (sym kept.last) ∙ is.least) kept }
 
-done_by : (s : Script) (n : ℕ) (a : Actor) (opened : Bool) (time : ℕ) → FramesKept s opened time → is_open s ≡ true → FramesGoOn (with_line s n a (body.Display display.Done))
+done_by : (s : Script) (n : ℕ) (a : Actor) (opened : Bool) (time : ℕ) → FramesKept s opened time → is_open s ≡ true
+    → FramesGoOn (with_line s n a (body.Display display.Done))
 done_by s n a true time kept is = record { opened = false; time = time; kept = ends s n a time kept }
 done_by s n a false time kept is = absurd (let o = open_is s false time kept in cc)
 
-display_frames : (s : Script) (n : ℕ) (a : Actor) (l : DisplayLine) (opened : Bool) (time : ℕ) → FramesKept s opened time → display_line s (display_words s l) ≡ Ok l → FramesGoOn (with_line s n a (body.Display l))
-display_frames s n a (display.Begin t) opened time kept is = begun_by s n t a opened time kept (begin_ok s (decimal t ∷ []) t (nat_lt (length (begin_times s)) 512) is)
-display_frames s n a display.Done opened time kept is = done_by s n a opened time kept (unless_ok BadOrder (is_open s) (whole (give display.Done) []) display.Done is).passed
-display_frames s n a (display.Signal f) opened time kept is = record { opened = opened; time = time; kept = passed s n a (body.Display (display.Signal f)) opened time refl refl (λ o t k c later. refl) kept }
-display_frames s n a (display.Wait c) opened time kept is = record { opened = opened; time = time; kept = passed s n a (body.Display (display.Wait c)) opened time refl refl (λ o t k c later. refl) kept }
-display_frames s n a (display.Hit x y) opened time kept is = record { opened = opened; time = time; kept = passed s n a (body.Display (display.Hit x y)) opened time refl refl (λ o t k c later. refl) kept }
-display_frames s n a (display.Dpr r) opened time kept is = record { opened = opened; time = time; kept = passed s n a (body.Display (display.Dpr r)) opened time refl refl (λ o t k c later. refl) kept }
+display_frames : (s : Script) (n : ℕ) (a : Actor) (l : DisplayLine) (opened : Bool) (time : ℕ) → FramesKept s opened time
+    → display_line s (display_words s l) ≡ Ok l → FramesGoOn (with_line s n a (body.Display l))
+display_frames s n a (display.Begin t) opened time kept is =
+    begun_by s n t a opened time kept (begin_ok s (decimal t ∷ []) t (nat_lt (length (begin_times s)) 512) is)
+display_frames s n a display.Done opened time kept is =
+    done_by s n a opened time kept (unless_ok BadOrder (is_open s) (whole (give display.Done) []) display.Done is).passed
+display_frames s n a (display.Signal f) opened time kept is =
+    record { opened = opened; time = time; kept = passed s n a (body.Display (display.Signal f)) opened time refl refl (λ o t k c later. refl) kept }
+display_frames s n a (display.Wait c) opened time kept is =
+    record { opened = opened; time = time; kept = passed s n a (body.Display (display.Wait c)) opened time refl refl (λ o t k c later. refl) kept }
+display_frames s n a (display.Hit x y) opened time kept is =
+    record { opened = opened; time = time; kept = passed s n a (body.Display (display.Hit x y)) opened time refl refl (λ o t k c later. refl) kept }
+display_frames s n a (display.Dpr r) opened time kept is =
+    record { opened = opened; time = time; kept = passed s n a (body.Display (display.Dpr r)) opened time refl refl (λ o t k c later. refl) kept }
 
 frames_at : (s : Script) (n : ℕ) (a : Actor) (b c : Body) → b ≡ c → FramesGoOn (with_line s n a b) → FramesGoOn (with_line s n a c)
 frames_at s n a b c e go = let P : Body → Type 0 = λ x. FramesGoOn (with_line s n a x) in subst P e go
 
-pub line_frames : (s : Script) (n : ℕ) (a : Actor) (words : List Word) (b : Body) (opened : Bool) (time : ℕ) → FramesKept s opened time → actor_line s a words ≡ Ok b → FramesGoOn (with_line s n a b)
+pub line_frames : (s : Script) (n : ℕ) (a : Actor) (words : List Word) (b : Body) (opened : Bool) (time : ℕ) → FramesKept s opened time
+    → actor_line s a words ≡ Ok b → FramesGoOn (with_line s n a b)
 line_frames s n Display words b opened time kept is =
     let m = mapped_ok body.Display (display_line s words) b is in
-    frames_at s n Display (body.Display m.a) b m.value (display_frames s n Display m.a opened time kept (ap (display_line s) (display_spelt s words m.a m.given) ∙ m.given))
+    frames_at s n Display (body.Display m.a) b m.value (display_frames s n Display m.a opened time kept
+    (ap (display_line s) (display_spelt s words m.a m.given) ∙ m.given))
 line_frames s n (Session a) words b opened time kept is =
     let m = mapped_ok body.Session (session_line s a words) b is in
-    frames_at s n (Session a) (body.Session m.a) b m.value (record { opened = opened; time = time; kept = passed s n (Session a) (body.Session m.a) opened time refl refl (λ o t k c later. refl) kept })
+    frames_at s n (Session a) (body.Session m.a) b m.value
+    (record { opened = opened; time = time; kept = passed s n (Session a) (body.Session m.a) opened time refl refl (λ o t k c later. refl) kept })
 line_frames s n (Probe p) words b opened time kept is =
     let m = mapped_ok body.Probe (probe_line s.version words) b is in
-    frames_at s n (Probe p) (body.Probe m.a) b m.value (record { opened = opened; time = time; kept = passed s n (Probe p) (body.Probe m.a) opened time refl refl (λ o t k c later. refl) kept })
+    frames_at s n (Probe p) (body.Probe m.a) b m.value (record
+    { opened = opened; time = time; kept = passed s n (Probe p) (body.Probe m.a) opened time refl refl (λ o t k c later. refl) kept })
 
 -- all of a body
 
@@ -205,16 +226,20 @@ below_count n c few = grind (arith, nat_tests)
 above_last : (last n : ℕ) → last < n → nat_lt last n ≡ true
 above_last last n less = grind (arith, nat_tests)
 
-pub body_line_kept : (h : Script) (us : List ScriptLine) (n : ℕ) (words : List Word) (u : Script) (a : Again h us us n n words u) → h.setup.sessions ≡ length h.sessions → h.setup.probes ≡ length h.probes → BodyKept h us n → BodyKept h (us ++ record { number = n; actor = a.actor; body = a.body } ∷ []) (n + 1)
+pub body_line_kept : (h : Script) (us : List ScriptLine) (n : ℕ) (words : List Word) (u : Script) (a : Again h us us n n words u)
+    → h.setup.sessions ≡ length h.sessions → h.setup.probes ≡ length h.probes → BodyKept h us n
+    → BodyKept h (us ++ record { number = n; actor = a.actor; body = a.body } ∷ []) (n + 1)
 body_line_kept h us n words u a many probed kept =
     let x : ScriptLine = record { number = n; actor = a.actor; body = a.body } in
     record {
       last = n;
       below = omega arith;
-      rise = λ later. ap (rise_from 0) (append_assoc us (x ∷ []) later) ∙ kept.rise (x ∷ later) ∙ ap (λ b. b && rise_from n later) (above_last kept.last n kept.below);
+      rise = λ later. ap (rise_from 0) (append_assoc us (x ∷ []) later) ∙ kept.rise (x ∷ later)
+          ∙ ap (λ b. b && rise_from n later) (above_last kept.last n kept.below);
       counted = λ c few. all-more (λ next. nat_le next.number c) us x (kept.counted c (omega arith)) (below_count n c few);
       frames = line_frames (with_lines h us) n a.actor a.rest a.body kept.frames.opened kept.frames.time kept.frames.kept a.line;
-      played = all-more (λ next. is_played h.setup next.actor next.body) us x kept.played (line_played (with_lines h us) a.actor a.rest a.body many (actor_declared h a.first a.actor many probed a.named) a.line);
+      played = all-more (λ next. is_played h.setup next.actor next.body) us x kept.played
+          (line_played (with_lines h us) a.actor a.rest a.body many (actor_declared h a.first a.actor many probed a.named) a.line);
       unscaled = λ early. all-more sets_no_ratio us x (kept.unscaled early) (line_unscaled (with_lines h us) n a.actor a.rest a.body early a.line);
       early = λ first. all-more is_of_first_version us x (kept.early first) (line_early (with_lines h us) n a.actor a.rest a.body first a.line);
     }

@@ -44,7 +44,8 @@ alone_never version (w ∷ words) alone rest first given = by_test (bytes_eq w (
     by_test true false at known value = cc
     by_test false c at known value = cc
 
-present_early : (s : Script) (a : SessionNo) (p : PresentArgs) (words : List Word) → s.version ≡ 1 → whole (line.Present <$> present s a) words ≡ Ok (line.Present p) → is_early (line.Present p) ≡ true
+present_early : (s : Script) (a : SessionNo) (p : PresentArgs) (words : List Word) → s.version ≡ 1
+    → whole (line.Present <$> present s a) words ≡ Ok (line.Present p) → is_early (line.Present p) ≡ true
 present_early s a p words early is =
     let lists : Form (List FenceNo × List FenceNo) = λ ws. (fence_lists (fence_word s (Session a)) ws, []) in
     let alone = unsquashable s.version in
@@ -85,7 +86,8 @@ line_unscaled s n (Probe p) words b early is =
     let m = mapped_ok body.Probe (probe_line s.version words) b is in
     ap (λ t. sets_no_ratio (record { number = n; actor = Probe p; body = t })) (sym m.value)
 
-pub line_early : (s : Script) (n : ℕ) (a : Actor) (words : List Word) (b : Body) → s.version ≡ 1 → actor_line s a words ≡ Ok b → is_of_first_version (record { number = n; actor = a; body = b }) ≡ true
+pub line_early : (s : Script) (n : ℕ) (a : Actor) (words : List Word) (b : Body) → s.version ≡ 1 → actor_line s a words ≡ Ok b
+    → is_of_first_version (record { number = n; actor = a; body = b }) ≡ true
 line_early s n Display words b first is =
     let m = mapped_ok body.Display (display_line s words) b is in
     ap (λ t. is_of_first_version (record { number = n; actor = Display; body = t })) (sym m.value)

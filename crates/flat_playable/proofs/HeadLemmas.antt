@@ -1,5 +1,6 @@
 -- What the lines of a head keep, as they are read.
-use Rattle.std.proofs.Common.{◌≡◌, ℕ, ◌+◌, ◌<◌, ◌≤◌, ◌==◌, ◌&&◌, ◌||◌, Bool, true, false, cond, nat_lt, nat_le, List, [], ◌∷◌, ◌++◌, length, Option, Some, None, option_map, Ok, refl, sym, ◌∙◌, ap, codes, arith, length-append, subst}
+use Rattle.std.proofs.Common.{◌≡◌, ℕ, ◌+◌, ◌<◌, ◌≤◌, ◌==◌, ◌&&◌, ◌||◌, Bool, true, false, cond, nat_lt, nat_le, List, [], ◌∷◌, ◌++◌, length, Option, Some, None}
+use Rattle.std.proofs.Common.{option_map, Ok, refl, sym, ◌∙◌, ap, codes, arith, length-append, subst}
 use Rattle.std.specs.Prelude.{filter}
 use Rattle.std.specs.List.{list_all, list_any}
 use Rattle.std.specs.Str.{bytes_eq}
@@ -17,7 +18,8 @@ use Rattle.flat_scene.specs.declared.setup.BufferDecl.{BufferDecl}
 use Rattle.flat_scene.specs.declared.setup.FenceDecl.{FenceDecl}
 use Rattle.flat_scene.specs.History.{is_display}
 use Rattle.flat_scene.specs.Setups.{is_within, is_ratio, is_declared}
-use Rattle.flat_scene.specs.Heads.{may_own, is_pair_declared, is_buffer_declared, is_fence_declared, owners_declared, is_within_limits, has_one_display_pair, is_setup}
+use Rattle.flat_scene.specs.Heads.{may_own, is_pair_declared, is_buffer_declared, is_fence_declared, owners_declared, is_within_limits, has_one_display_pair}
+use Rattle.flat_scene.specs.Heads.{is_setup}
 use Rattle.flat_text.specs.Number.{natural}
 use Rattle.flat_places.specs.declared.kinds.FaultKind.TheVariants.{BadNumber, UnknownName}
 use Rattle.flat_places.specs.declared.script.Script.{Script}
@@ -26,7 +28,8 @@ use Rattle.flat_places.specs.Names.{session_named, owner_named, is_actor}
 use Rattle.flat_places.specs.Places.{number_from, ratio, first_ratio, owner_word, has_display_pair}
 use Rattle.flat_forms.specs.Head.{empty, with_version, size, side, has_display, is_ready}
 use Rattle.flat_forms.proofs.lemmas.FormLemmas.{Gives, both_ok, or_kind_ok, whole_ok, apply_ok, map_ok, place_ok}
-use Rattle.flat_forms.proofs.lemmas.StepLemmas.{SizeStep, SessionStep, ProbeStep, BuffersStep, PairStep, FenceStep, Step, size_step, session_step, probe_step, buffers_step, pair_step, fence_step}
+use Rattle.flat_forms.proofs.lemmas.StepLemmas.{SizeStep, SessionStep, ProbeStep, BuffersStep, PairStep, FenceStep, Step, size_step, session_step, probe_step}
+use Rattle.flat_forms.proofs.lemmas.StepLemmas.{buffers_step, pair_step, fence_step}
 use Rattle.flat_playable.proofs.PlayedLemmas.{within_of, session_declared, owner_declared}
 use Rattle.std.proofs.lemmas.Bool.{and_parts, and_from}
 use Rattle.flat_print.proofs.lemmas.OrderLemmas.{test_passes}
@@ -43,7 +46,8 @@ from_one : (most : ℕ) (w : Word) (n : ℕ) → (number_from 1 most (w ∷ []))
 from_one most w n is = is_within_of most n (test_passes (λ k. nat_le 1 k && nat_le k most) (natural w) n (or_kind_ok BadNumber _ n is))
 
 -- the pixel ratio is one that a display may have, and one where the version gives none
-ratio_kept : (version : ℕ) (words : List Word) (q : ℕ) (rest : List Word) → Gives (first_ratio version) words q rest → (is_ratio q ≡ true) × (nat_lt version RATIO_SINCE ≡ true → q ≡ ONE)
+ratio_kept : (version : ℕ) (words : List Word) (q : ℕ) (rest : List Word) → Gives (first_ratio version) words q rest
+    → (is_ratio q ≡ true) × (nat_lt version RATIO_SINCE ≡ true → q ≡ ONE)
 ratio_kept version [] q rest given =
     let one : ONE ≡ q = let value = given.value in cc in
     (ap is_ratio (sym one), λ early. sym one)
@@ -101,7 +105,8 @@ owner_more old new wider (Session s) is = wider s is
 owner_more old new wider (Probe p) is = absurd (cc)
 
 pair_more : (old new : Setup) → IsWider old new → (d : PairDecl) → is_pair_declared old d ≡ true → is_pair_declared new d ≡ true
-pair_more old new wider d is = let b = and_parts (may_own old d.viewport) (is_declared old d.view) is in and_from _ _ (owner_more old new wider d.viewport b.0) (wider d.view b.1)
+pair_more old new wider d is = let b = and_parts (may_own old d.viewport) (is_declared old d.view) is in
+    and_from _ _ (owner_more old new wider d.viewport b.0) (wider d.view b.1)
 
 buffer_more : (old new : Setup) → IsWider old new → (d : BufferDecl) → is_buffer_declared old d ≡ true → is_buffer_declared new d ≡ true
 buffer_more old new wider d is =
@@ -222,8 +227,10 @@ session_kept {v = v} u ws t x o =
       few_fences = o.few_fences;
       sizes = o.sizes;
       pairs_owned = all-also (is_pair_declared u.setup) (is_pair_declared more) (pair_more u.setup more (declared_more u.setup)) u.setup.pairs o.pairs_owned;
-      buffers_owned = all-also (is_buffer_declared u.setup) (is_buffer_declared more) (buffer_more u.setup more (declared_more u.setup)) u.setup.buffers o.buffers_owned;
-      fences_owned = all-also (is_fence_declared u.setup) (is_fence_declared more) (fence_more u.setup more (declared_more u.setup)) u.setup.fences o.fences_owned;
+      buffers_owned = all-also (is_buffer_declared u.setup) (is_buffer_declared more) (buffer_more u.setup more (declared_more u.setup)) u.setup.buffers
+          o.buffers_owned;
+      fences_owned = all-also (is_fence_declared u.setup) (is_fence_declared more) (fence_more u.setup more (declared_more u.setup)) u.setup.fences
+          o.fences_owned;
       shown = o.shown;
     })
 
@@ -304,9 +311,11 @@ same_test (Probe p) = refl
 shown_more : (pairs : List PairDecl) (d : PairDecl) (has is : Bool) → list_any display_pair pairs ≡ has → is_display d.viewport ≡ is → (is && has) ≡ false
     → length (filter shown_pair pairs) ≡ cond has 1 0 → length (filter shown_pair (pairs ++ d ∷ [])) ≡ cond (list_any display_pair (pairs ++ d ∷ [])) 1 0
 shown_more pairs d has is had shows lone before =
-    ap length (filter-append shown_pair pairs (d ∷ [])) ∙ length-append (filter shown_pair pairs) (filter shown_pair (d ∷ [])) ∙ ap (λ k. k + length (filter shown_pair (d ∷ []))) before
+    ap length (filter-append shown_pair pairs (d ∷ [])) ∙ length-append (filter shown_pair pairs) (filter shown_pair (d ∷ []))
+    ∙ ap (λ k. k + length (filter shown_pair (d ∷ []))) before
     ∙ ap (λ b. cond has 1 0 + length (cond b (d ∷ []) [])) shows ∙ counts has is lone
-    ∙ sym (ap (λ b. cond b 1 0) (list_any-append display_pair pairs (d ∷ []) ∙ ap (λ b. b || (display_pair d || false)) had ∙ ap (λ b. has || (b || false)) (same_test d.viewport ∙ shows)))
+    ∙ sym (ap (λ b. cond b 1 0) (list_any-append display_pair pairs (d ∷ []) ∙ ap (λ b. b || (display_pair d || false)) had
+    ∙ ap (λ b. has || (b || false)) (same_test d.viewport ∙ shows)))
   where
     counts : (h i : Bool) → (i && h) ≡ false → cond h 1 0 + length (cond i (d ∷ []) []) ≡ cond (h || (i || false)) 1 0
     counts true true wrong = absurd (cc)
@@ -315,7 +324,8 @@ shown_more pairs d has is had shows lone before =
     counts false false fine = refl
 
 -- an owner that is the display is written so
-display_named_by : (u : Script) (w : Word) (a : Actor) (b : Bool) → bytes_eq w (codes "display") ≡ b → owner_named u w ≡ Some a → is_display a ≡ true → bytes_eq w (codes "display") ≡ true
+display_named_by : (u : Script) (w : Word) (a : Actor) (b : Bool) → bytes_eq w (codes "display") ≡ b → owner_named u w ≡ Some a → is_display a ≡ true
+    → bytes_eq w (codes "display") ≡ true
 display_named_by u w a true at is shows = at
 display_named_by u w (Session s) false at is shows = absurd (cc)
 display_named_by u w (Probe p) false at is shows = absurd (cc)
@@ -325,14 +335,17 @@ display_named_by u w Display false at is shows = absurd (by_session (session_nam
     by_session None wrong = cc
     by_session (Some s) wrong = cc
 
-pair_alone : (u : Script) (w : Word) (a : Actor) (is : Bool) → is_display a ≡ is → owner_named u w ≡ Some a → (bytes_eq w (codes "display") && has_display_pair u) ≡ false → (is && has_display_pair u) ≡ false
+pair_alone : (u : Script) (w : Word) (a : Actor) (is : Bool) → is_display a ≡ is → owner_named u w ≡ Some a
+    → (bytes_eq w (codes "display") && has_display_pair u) ≡ false → (is && has_display_pair u) ≡ false
 pair_alone u w a false shows named single = refl
-pair_alone u w a true shows named single = let word = display_named_by u w a (bytes_eq w (codes "display")) refl named shows in ap (λ b. b && has_display_pair u) (sym word) ∙ single
+pair_alone u w a true shows named single = let word =
+    display_named_by u w a (bytes_eq w (codes "display")) refl named shows in ap (λ b. b && has_display_pair u) (sym word) ∙ single
 
 pair_kept : {v : ℕ} (u : Script) (ws : List Word) (t : Script) → PairStep u ws t → HeadKept v u → HeadKept v t
 pair_kept {v = v} u ws t x o =
     let P : Script → Type 0 = HeadKept v in
-    let good : is_pair_declared u.setup x.decl ≡ true = and_from (may_own u.setup x.decl.viewport) (is_declared u.setup x.decl.view) (owner_declared u x.x x.decl.viewport o.sessions x.viewport) (session_declared u x.y x.decl.view o.sessions x.view) in
+    let good : is_pair_declared u.setup x.decl ≡ true = and_from (may_own u.setup x.decl.viewport) (is_declared u.setup x.decl.view)
+    (owner_declared u x.x x.decl.viewport o.sessions x.viewport) (session_declared u x.y x.decl.view o.sessions x.view) in
     subst P (sym x.made) (record {
       said = o.said;
       known = o.known;
@@ -353,21 +366,26 @@ pair_kept {v = v} u ws t x o =
       pairs_owned = all-more (is_pair_declared u.setup) u.setup.pairs x.decl o.pairs_owned good;
       buffers_owned = o.buffers_owned;
       fences_owned = o.fences_owned;
-      shown = shown_more u.setup.pairs x.decl (has_display_pair u) (is_display x.decl.viewport) refl refl (pair_alone u x.x x.decl.viewport (is_display x.decl.viewport) refl x.viewport x.single) o.shown;
+      shown = shown_more u.setup.pairs x.decl (has_display_pair u) (is_display x.decl.viewport) refl refl
+          (pair_alone u x.x x.decl.viewport (is_display x.decl.viewport) refl x.viewport x.single) o.shown;
     })
 
 -- owners of a fence
-owners_each : (u : Script) (ws : List Word) (actors : List Actor) → u.setup.sessions ≡ length u.sessions → each (owner_word u) ws ≡ Ok actors → list_all (may_own u.setup) actors ≡ true
+owners_each : (u : Script) (ws : List Word) (actors : List Actor) → u.setup.sessions ≡ length u.sessions → each (owner_word u) ws ≡ Ok actors
+    → list_all (may_own u.setup) actors ≡ true
 owners_each u [] actors many is = let e : [] ≡ actors = cc in ap (list_all (may_own u.setup)) (sym e)
 owners_each u (w ∷ ws) actors many is =
     let parts = both_ok (λ a rest. a ∷ rest) (owner_word u w) (each (owner_word u) ws) actors is in
-    ap (list_all (may_own u.setup)) (sym parts.value) ∙ and_from (may_own u.setup parts.a) (list_all (may_own u.setup) parts.b) (owner_declared u w parts.a many (or_kind_ok UnknownName (owner_named u w) parts.a parts.first)) (owners_each u ws parts.b many parts.second)
+    ap (list_all (may_own u.setup)) (sym parts.value) ∙ and_from (may_own u.setup parts.a) (list_all (may_own u.setup) parts.b)
+    (owner_declared u w parts.a many (or_kind_ok UnknownName (owner_named u w) parts.a parts.first)) (owners_each u ws parts.b many parts.second)
 
-owners_some : (u : Script) (ws : List Word) (d : FenceDecl) → u.setup.sessions ≡ length u.sessions → one_or_more (owner_word u) ws ≡ Ok d.owners → is_fence_declared u.setup d ≡ true
+owners_some : (u : Script) (ws : List Word) (d : FenceDecl) → u.setup.sessions ≡ length u.sessions → one_or_more (owner_word u) ws ≡ Ok d.owners
+    → is_fence_declared u.setup d ≡ true
 owners_some u [] d many is = absurd (cc)
 owners_some u (w ∷ ws) d many is =
     let parts = both_ok (λ a rest. a ∷ rest) (owner_word u w) (each (owner_word u) ws) d.owners is in
-    and_from (nat_lt 0 (length d.owners)) (list_all (may_own u.setup) d.owners) (ap (λ l. nat_lt 0 (length l)) (sym parts.value) ∙ some parts.a parts.b) (owners_each u (w ∷ ws) d.owners many is)
+    and_from (nat_lt 0 (length d.owners)) (list_all (may_own u.setup) d.owners) (ap (λ l. nat_lt 0 (length l)) (sym parts.value) ∙ some parts.a parts.b)
+    (owners_each u (w ∷ ws) d.owners many is)
   where
     some : (x : Actor) (xs : List Actor) → nat_lt 0 (length (x ∷ xs)) ≡ true
     some x xs = grind (arith, nat_tests)
@@ -426,8 +444,13 @@ setup_given u o ready =
     let buffers = within_most (length u.setup.buffers) (length u.buffers) 256 o.buffer_names o.few_buffers in
     let fences = within_most (length u.setup.fences) (length u.fences) 4096 o.fence_names o.few_fences in
     let limits : is_within_limits u.setup ≡ true =
-    and_from _ (nat_le (length u.setup.fences) 4096) (and_from _ (nat_le (length u.setup.buffers) 256) (and_from _ (nat_le (length u.setup.pairs) 4096) (and_from _ (nat_le u.setup.probes 8) (and_from _ (is_within 16 u.setup.sessions) (and_from _ (is_within 65536 u.setup.height) (and_from _ (is_within 65536 u.setup.width) o.ratio sizes.0) sizes.1) sessions) probes) pairs) buffers) fences in
-    let owners : owners_declared u.setup ≡ true = and_from _ (list_all (is_fence_declared u.setup) u.setup.fences) (and_from (list_all (is_pair_declared u.setup) u.setup.pairs) (list_all (is_buffer_declared u.setup) u.setup.buffers) o.pairs_owned o.buffers_owned) o.fences_owned in
+    and_from _ (nat_le (length u.setup.fences) 4096) (and_from _ (nat_le (length u.setup.buffers) 256)
+    (and_from _ (nat_le (length u.setup.pairs) 4096) (and_from _ (nat_le u.setup.probes 8)
+    (and_from _ (is_within 16 u.setup.sessions) (and_from _ (is_within 65536 u.setup.height) (and_from _ (is_within 65536 u.setup.width) o.ratio sizes.0)
+    sizes.1) sessions) probes) pairs) buffers) fences in
+    let owners : owners_declared u.setup ≡ true = and_from _ (list_all (is_fence_declared u.setup) u.setup.fences)
+    (and_from (list_all (is_pair_declared u.setup) u.setup.pairs) (list_all (is_buffer_declared u.setup) u.setup.buffers) o.pairs_owned o.buffers_owned)
+    o.fences_owned in
     and_from _ (has_one_display_pair u.setup) (and_from (is_within_limits u.setup) (owners_declared u.setup) limits owners) (one_shown u o r.1)
   where
     positive : (n : ℕ) → nat_lt 0 n ≡ true → 0 < n

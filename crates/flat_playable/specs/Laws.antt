@@ -20,7 +20,8 @@ SessionsAreFew = (bytes : List ℕ) (script : Script) → IsScript bytes script 
 
 -- its count of lines is within the limit of bytes
 abbrev pub CountsAreWithin : Type 0
-CountsAreWithin = (bytes : List ℕ) (script : Script) → IsScript bytes script → nat_le script.count SCRIPT_BYTES_MAX ≡ true
+CountsAreWithin = (bytes : List ℕ) (script : Script) → IsScript bytes script
+    → nat_le script.count SCRIPT_BYTES_MAX ≡ true
 
 -- the numbers of its lines rise
 abbrev pub LinesRise : Type 0
@@ -28,7 +29,8 @@ LinesRise = (bytes : List ℕ) (script : Script) → IsScript bytes script → r
 
 -- no line has a number above the count
 abbrev pub LinesAreCounted : Type 0
-LinesAreCounted = (bytes : List ℕ) (script : Script) → IsScript bytes script → list_all (λ next. nat_le next.number script.count) script.lines ≡ true
+LinesAreCounted = (bytes : List ℕ) (script : Script) → IsScript bytes script
+    → list_all (λ next. nat_le next.number script.count) script.lines ≡ true
 
 -- its frames are begun and done in turn
 abbrev pub FramesClose : Type 0
@@ -36,24 +38,29 @@ FramesClose = (bytes : List ℕ) (script : Script) → IsScript bytes script →
 
 -- each line is one that is played
 abbrev pub LinesArePlayed : Type 0
-LinesArePlayed = (bytes : List ℕ) (script : Script) → IsScript bytes script → list_all (λ next. is_played script.setup next.actor next.body) script.lines ≡ true
+LinesArePlayed = (bytes : List ℕ) (script : Script) → IsScript bytes script
+    → list_all (λ next. is_played script.setup next.actor next.body) script.lines ≡ true
 
 -- where its version is the first, no line has what came with the second
 abbrev pub FirstVersionIsKept : Type 0
-FirstVersionIsKept = (bytes : List ℕ) (script : Script) → IsScript bytes script → script.version ≡ 1 → list_all is_of_first_version script.lines ≡ true
+FirstVersionIsKept = (bytes : List ℕ) (script : Script) → IsScript bytes script → script.version ≡ 1
+    → list_all is_of_first_version script.lines ≡ true
 
 -- where its version is below the third, its display's pixel ratio is one from the head on
 abbrev pub EarlierVersionsHaveNoRatio : Type 0
-EarlierVersionsHaveNoRatio = (bytes : List ℕ) (script : Script) → IsScript bytes script → nat_lt script.version RATIO_SINCE ≡ true
+EarlierVersionsHaveNoRatio = (bytes : List ℕ) (script : Script) → IsScript bytes script
+    → nat_lt script.version RATIO_SINCE ≡ true
     → (script.setup.ratio ≡ ONE) × (list_all sets_no_ratio script.lines ≡ true)
 
 -- its version is one that there is
 abbrev pub VersionsAreKnown : Type 0
-VersionsAreKnown = (bytes : List ℕ) (script : Script) → IsScript bytes script → is_within VERSION_MAX script.version ≡ true
+VersionsAreKnown = (bytes : List ℕ) (script : Script) → IsScript bytes script
+    → is_within VERSION_MAX script.version ≡ true
 
 -- the first line of its text that isn't skipped says its version
 abbrev pub TextsSayVersions : Type 0
-TextsSayVersions = (bytes : List ℕ) (script : Script) → IsScript bytes script → first_kept bytes ≡ Some (version_line script.version)
+TextsSayVersions = (bytes : List ℕ) (script : Script) → IsScript bytes script
+    → first_kept bytes ≡ Some (version_line script.version)
 
 -- the whole test
 abbrev pub ScriptsArePlayable : Type 0

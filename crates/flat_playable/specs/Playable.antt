@@ -29,7 +29,8 @@ keeps_frames is_open time _ follows = follows is_open time
 -- frames begin and are done in turn, from one that is open or not; begin times never fall, and the last frame is done
 abbrev pub frames_close : Bool → ℕ → List ScriptLine → Bool
 frames_close is_open time [] = not is_open
-frames_close is_open time (next ∷ later) = keeps_frames is_open time next.body (λ open_then time_then. frames_close open_then time_then later)
+frames_close is_open time (next ∷ later) =
+    keeps_frames is_open time next.body (λ open_then time_then. frames_close open_then time_then later)
 
 -- a line that is played, by whom
 abbrev pub is_played : Setup → Actor → Body → Bool
@@ -42,5 +43,6 @@ is_played setup _ _ = false
 -- its lines rise up to its count, frames close, and each line is known.
 abbrev pub is_playable : Script → Bool
 is_playable script =
-    is_setup script.setup && nat_le script.count SCRIPT_BYTES_MAX && rise_from 0 script.lines && list_all (λ next. nat_le next.number script.count) script.lines
+    is_setup script.setup && nat_le script.count SCRIPT_BYTES_MAX && rise_from 0 script.lines
+    && list_all (λ next. nat_le next.number script.count) script.lines
     && frames_close false 0 script.lines && list_all (λ next. is_played script.setup next.actor next.body) script.lines

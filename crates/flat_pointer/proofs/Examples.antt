@@ -76,10 +76,12 @@ abbrev says : ℕ → ℕ → PointerCall → List Hit → Touch
 says number pointer call hits = record { line = record { number = number; pointer = pointer; call = call }; hits = hits }
 
 abbrev text_lines : List Word → List ℕ → List FrameOut → List Touch → List (List ℕ)
-text_lines names dones frames touches = map line_of (all_lines (lines_at names) (λ one before. event_of one ∷ before) [] (merged (λ touch. touch.line.number) dones frames touches) ++ end_line (length touches) ∷ [])
+text_lines names dones frames touches = map line_of (all_lines (lines_at names) (λ one before. event_of one ∷ before) []
+    (merged (λ touch. touch.line.number) dones frames touches) ++ end_line (length touches) ∷ [])
 
 one_stream : text_lines (codes "A" ∷ []) (14 ∷ []) (shown 1 (node 1 None ∷ []) ∷ [])
-    (says 15 0 (Down (pos 5) (pos 5)) (hit 1 ∷ []) ∷ says 16 0 (Move (pos 200) (pos 200)) [] ∷ says 17 0 (Down (pos 1) (pos 1)) (hit 1 ∷ []) ∷ says 18 0 Up [] ∷ says 19 0 (Move (pos 1) (pos 1)) [] ∷ []) ≡
+    (says 15 0 (Down (pos 5) (pos 5)) (hit 1 ∷ []) ∷ says 16 0 (Move (pos 200) (pos 200)) [] ∷ says 17 0 (Down (pos 1) (pos 1)) (hit 1 ∷ []) ∷ says 18 0 Up []
+    ∷ says 19 0 (Move (pos 1) (pos 1)) [] ∷ []) ≡
     codes "frame 1"
     ∷ codes "pointer 15 0 down A"
     ∷ codes "pointer 16 0 move A 200 200"

@@ -19,7 +19,8 @@ begins None [] s h = absurd (cc)
 begins None (hit ∷ hits) s h = let same : hit.session ≡ s = cc in ap Some same
 
 -- what doesn't end the stream leaves it
-goes-on : (p : ℕ) (s : SessionNo) (event : PointerEvent) (history : List PointerEvent) → ends p s event ≡ false → stream_after p history ≡ Some s → stream_after p (event ∷ history) ≡ Some s
+goes-on : (p : ℕ) (s : SessionNo) (event : PointerEvent) (history : List PointerEvent) → ends p s event ≡ false → stream_after p history ≡ Some s
+    → stream_after p (event ∷ history) ≡ Some s
 goes-on p s (frame nodes) history on is = let there : is_node nodes s ≡ true = not-false (is_node nodes s) on in rw (is, there) refl
 goes-on p s (down q hits) history on is = by_test (q == p)
   where
@@ -29,7 +30,8 @@ goes-on p s (down q hits) history on is = by_test (q == p)
 goes-on p s (move q) history on is = is
 goes-on p s (up q) history on is = rw on is
 
-going : (p : ℕ) (s : SessionNo) (hits : List Hit) (before during : List PointerEvent) → answer_to before (down p hits) ≡ Some (Down s) → list_any (ends p s) during ≡ false
+going : (p : ℕ) (s : SessionNo) (hits : List Hit) (before during : List PointerEvent) → answer_to before (down p hits) ≡ Some (Down s)
+    → list_any (ends p s) during ≡ false
     → stream_after p (during ++ down p hits ∷ before) ≡ Some s
 going p s hits before [] is none =
     let own : (p == p) ≡ true = eq-eqb p p refl in
@@ -41,7 +43,8 @@ going p s hits before (event ∷ during) is none =
 
 -- ---- answers
 
-downs : (s : SessionNo) (stream : Option SessionNo) (hits : List Hit) (answer : PointerAnswer) → stream ≡ Some s → Some (down_answer stream hits) ≡ Some answer → names s answer ≡ true
+downs : (s : SessionNo) (stream : Option SessionNo) (hits : List Hit) (answer : PointerAnswer) → stream ≡ Some s → Some (down_answer stream hits) ≡ Some answer
+    → names s answer ≡ true
 downs s stream hits answer is said = let busy : down_answer stream hits ≡ Busy = rw is refl in let same : answer ≡ Busy = cc in rw same refl
 
 moves : (s : SessionNo) (stream : Option SessionNo) (answer : PointerAnswer) → stream ≡ Some s → Some (move_answer stream) ≡ Some answer → names s answer ≡ true
@@ -53,13 +56,15 @@ ups s stream answer is said = let up : up_answer stream ≡ Up s = rw is refl in
 answers : (p : ℕ) (s : SessionNo) (history : List PointerEvent) → stream_after p history ≡ Some s
     → (event : PointerEvent) (answer : PointerAnswer) → is_line_of p event ≡ true → answer_to history event ≡ Some answer → names s answer ≡ true
 answers p s history is (frame nodes) answer own said = absurd (cc)
-answers p s history is (down q hits) answer own said = downs s (stream_after q history) hits answer (ap (λ r. stream_after r history) (eqb-true q p own) ∙ is) said
+answers p s history is (down q hits) answer own said =
+    downs s (stream_after q history) hits answer (ap (λ r. stream_after r history) (eqb-true q p own) ∙ is) said
 answers p s history is (move q) answer own said = moves s (stream_after q history) answer (ap (λ r. stream_after r history) (eqb-true q p own) ∙ is) said
 answers p s history is (up q) answer own said = ups s (stream_after q history) answer (ap (λ r. stream_after r history) (eqb-true q p own) ∙ is) said
 
 -- ---- the end
 
-ended : (p : ℕ) (s : SessionNo) (history : List PointerEvent) → stream_after p history ≡ Some s → (event : PointerEvent) → ends p s event ≡ true → stream_after p (event ∷ history) ≡ None
+ended : (p : ℕ) (s : SessionNo) (history : List PointerEvent) → stream_after p history ≡ Some s → (event : PointerEvent) → ends p s event ≡ true
+    → stream_after p (event ∷ history) ≡ None
 ended p s history is (frame nodes) end = let gone : is_node nodes s ≡ false = not-true (is_node nodes s) end in rw (is, gone) refl
 ended p s history is (down q hits) end = absurd (cc)
 ended p s history is (move q) end = absurd (cc)

@@ -29,7 +29,8 @@ only p events = filter (concerns p) events
 -- what a pointer is told at each of them, the newest first: the answer, and whose stream is cancelled
 abbrev pub told : ℕ → List PointerEvent → List (Option PointerAnswer × Option SessionNo)
 told p [] = []
-told p (event ∷ before) = if concerns p event then (answer_to before event, cancel_at p before event) ∷ told p before else told p before
+told p (event ∷ before) = if concerns p event then (answer_to before event, cancel_at p before event) ∷ told p before
+    else told p before
 
 -- the streams of all pointers
 abbrev pub streams_after : List PointerEvent → Streams

@@ -25,7 +25,9 @@ use Rattle.flat_pointer.specs.Concerns.{answer_to, only, told, streams_after}
 pub record Follow (before : List PointerEvent) : Type 0 where
   pub here : (p : ℕ) → p < POINTERS → stream_of (streams_after before) p ≡ stream_after p before
   pub frames : (nodes : List ViewNode) → framed nodes (streams_after before) ≡ streams_after (frame nodes ∷ before)
-  pub downs : (p : ℕ) (hits : List Hit) → p < POINTERS → with_stream (streams_after before) p (after_down (stream_of (streams_after before) p) hits) ≡ streams_after (down p hits ∷ before)
+  pub downs : (p : ℕ) (hits : List Hit) → p < POINTERS
+      → with_stream (streams_after before) p (after_down (stream_of (streams_after before) p) hits)
+      ≡ streams_after (down p hits ∷ before)
   pub moves : (p : ℕ) → streams_after before ≡ streams_after (move p ∷ before)
   pub ups : (p : ℕ) → p < POINTERS → with_stream (streams_after before) p None ≡ streams_after (up p ∷ before)
 
@@ -36,8 +38,11 @@ CallsFollow = (before : List PointerEvent) → Follow before
 -- whose stream the frame cancels
 pub record FollowFrame (nodes : List ViewNode) (before : List PointerEvent) : Type 0 where
   pub first : streams_after before ≡ framed_below nodes 0 (streams_after before)
-  pub next : (p : ℕ) → with_stream (framed_below nodes p (streams_after before)) p (kept_in nodes (stream_of (framed_below nodes p (streams_after before)) p)) ≡ framed_below nodes (suc p) (streams_after before)
-  pub answers : (p : ℕ) → p < POINTERS → cancelled_in nodes (stream_of (framed_below nodes p (streams_after before)) p) ≡ cancel_at p before (frame nodes)
+  pub next : (p : ℕ) → with_stream (framed_below nodes p (streams_after before)) p
+      (kept_in nodes (stream_of (framed_below nodes p (streams_after before)) p))
+      ≡ framed_below nodes (suc p) (streams_after before)
+  pub answers : (p : ℕ) → p < POINTERS → cancelled_in nodes (stream_of (framed_below nodes p (streams_after before)) p)
+      ≡ cancel_at p before (frame nodes)
   pub last : framed_below nodes POINTERS (streams_after before) ≡ streams_after (frame nodes ∷ before)
 
 abbrev pub CancelsFollow : Type 0
@@ -74,18 +79,21 @@ names s Nobody = false
 -- session or are busy, and an event that ends it leaves none.
 pub record StreamTo (p : ℕ) (s : SessionNo) (history : List PointerEvent) : Type 0 where
   pub going : stream_after p history ≡ Some s
-  pub answers : (event : PointerEvent) (answer : PointerAnswer) → IsTrue (is_line_of p event) → answer_to history event ≡ Some answer → IsTrue (names s answer)
+  pub answers : (event : PointerEvent) (answer : PointerAnswer) → IsTrue (is_line_of p event)
+      → answer_to history event ≡ Some answer → IsTrue (names s answer)
   pub ended : (event : PointerEvent) → IsTrue (ends p s event) → stream_after p (event ∷ history) ≡ None
 
 abbrev pub OneSession : Type 0
-OneSession = (p : ℕ) (s : SessionNo) (hits : List Hit) (before during : List PointerEvent) → answer_to before (down p hits) ≡ Some (Down s) → list_any (ends p s) during ≡ false
+OneSession = (p : ℕ) (s : SessionNo) (hits : List Hit) (before during : List PointerEvent)
+    → answer_to before (down p hits) ≡ Some (Down s) → list_any (ends p s) during ≡ false
     → StreamTo p s (during ++ down p hits ∷ before)
 
 -- ---- frames
 
 -- a text hangs on the numbers and the view trees of its frames alone: draw items play no part
 abbrev pub ItemsPlayNoPart : Type 0
-ItemsPlayNoPart = (names : List Word) (dones : List ℕ) (frames : List FrameOut) (touches : List Touch) → pointer_text names dones (map without_items frames) touches ≡ pointer_text names dones frames touches
+ItemsPlayNoPart = (names : List Word) (dones : List ℕ) (frames : List FrameOut) (touches : List Touch)
+    → pointer_text names dones (map without_items frames) touches ≡ pointer_text names dones frames touches
 
 -- ---- one pointer
 

@@ -53,8 +53,10 @@ after (said touch) streams = after_call streams touch.line.pointer touch.hits to
 
 -- what is written of one thing that happens, where these are the streams before it
 abbrev pub lines_with : List Word → Streams → Happening Touch → List (List Word)
-lines_with names streams (finished out) = frame_lines names out.frame.0 (λ p. cancelled_in out.tree.nodes (stream_of streams p))
-lines_with names streams (said touch) = touch_line names touch.line (call_answer (stream_of streams touch.line.pointer) touch.hits touch.line.call) ∷ []
+lines_with names streams (finished out) =
+    frame_lines names out.frame.0 (λ p. cancelled_in out.tree.nodes (stream_of streams p))
+lines_with names streams (said touch) = touch_line names touch.line
+    (call_answer (stream_of streams touch.line.pointer) touch.hits touch.line.call) ∷ []
 
 -- each line is one of the sixteen pointers'
 pub record ArePointers (touches : List Touch) : Type 0 where

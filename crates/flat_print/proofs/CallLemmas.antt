@@ -1,6 +1,8 @@
 -- The words of a call are those that it was read from.
 use Rattle.flat_page.specs.Words.{name_at}
-use Rattle.std.proofs.Common.{◌≡◌, ℕ, ◌+◌, ◌<◌, ◌≤◌, ◌^◌, ◌-◌, ◌==◌, ◌&&◌, zero, suc, nat_le, ℤ, Bool, true, false, cond, nat_lt, List, [], ◌∷◌, ◌++◌, length, map, Option, Some, None, Ok, Err, refl, sym, ◌∙◌, ap, option_and_then, if◌then◌else◌, slice_get, unwrap_or, arith, get_or, append-nil, length-append, subst}
+use Rattle.std.proofs.Common.{◌≡◌, ℕ, ◌+◌, ◌<◌, ◌≤◌, ◌^◌, ◌-◌, ◌==◌, ◌&&◌, zero, suc, nat_le, ℤ, Bool, true, false, cond, nat_lt, List, [], ◌∷◌, ◌++◌, length}
+use Rattle.std.proofs.Common.{map, Option, Some, None, Ok, Err, refl, sym, ◌∙◌, ap, option_and_then, if◌then◌else◌, slice_get, unwrap_or, arith, get_or}
+use Rattle.std.proofs.Common.{append-nil, length-append, subst}
 use Rattle.std.specs.List.{flat_map, find}
 use Rattle.std.specs.Option.{option_map_or}
 use Rattle.std.specs.Str.{bytes_eq}
@@ -34,16 +36,23 @@ use Rattle.flat_scene.specs.declared.calls.Call.TheVariants as call
 use Rattle.flat_text.specs.Number.{natural, signed}
 use Rattle.flat_text.proofs.lemmas.NumberLemmas.{decimal-natural, signed_decimal-signed}
 use Rattle.flat_forms.specs.declared.calls.CallName.{CallName}
-use Rattle.flat_forms.specs.declared.calls.CallName.TheVariants.{CreateView, ReleaseView, CreateTransform, ReleaseTransform, SetTranslation, SetOrientation, SetScale, SetOpacity, SetClipBoundary, AddChild, RemoveChild, ReplaceChildren, SetRootTransform, CreateViewport, SetViewportProperties, ReleaseViewport, CreateImage, SetImageSampleRegion, SetImageDestinationSize, SetImageBlendingFunction, SetImageFlip, SetImageOpacity, ReleaseImage, CreateFilledRect, SetSolidFill, ReleaseFilledRect, SetHitRegions, SetInfiniteHitRegion, SetContent, Clear}
+use Rattle.flat_forms.specs.declared.calls.CallName.TheVariants.{CreateView, ReleaseView, CreateTransform, ReleaseTransform, SetTranslation, SetOrientation}
+use Rattle.flat_forms.specs.declared.calls.CallName.TheVariants.{SetScale, SetOpacity, SetClipBoundary, AddChild, RemoveChild, ReplaceChildren}
+use Rattle.flat_forms.specs.declared.calls.CallName.TheVariants.{SetRootTransform, CreateViewport, SetViewportProperties, ReleaseViewport, CreateImage}
+use Rattle.flat_forms.specs.declared.calls.CallName.TheVariants.{SetImageSampleRegion, SetImageDestinationSize, SetImageBlendingFunction, SetImageFlip}
+use Rattle.flat_forms.specs.declared.calls.CallName.TheVariants.{SetImageOpacity, ReleaseImage, CreateFilledRect, SetSolidFill, ReleaseFilledRect}
+use Rattle.flat_forms.specs.declared.calls.CallName.TheVariants.{SetHitRegions, SetInfiniteHitRegion, SetContent, Clear}
 use Rattle.flat_places.specs.declared.kinds.FaultKind.TheVariants.{BadNumber, UnknownName, NotOwner}
 use Rattle.flat_places.specs.declared.script.Script.{Script}
 use Rattle.flat_places.specs.Forms.{Word, Form, Reading, unless_kind, both, mapped, whole, place, optional, ◌<$>◌, ◌<*>◌}
 use Rattle.flat_places.specs.Names.{place_of, is_actor}
-use Rattle.flat_places.specs.Places.{owned, number_below, i32, u32, colour, transform, content, choice, orientation, blend, flip, interaction, view_end, viewport_end, collection, fence, region, regions, transforms, int_rect, inset, fits_i32, fence_word as tested_fence}
+use Rattle.flat_places.specs.Places.{owned, number_below, i32, u32, colour, transform, content, choice, orientation, blend, flip, interaction, view_end}
+use Rattle.flat_places.specs.Places.{viewport_end, collection, fence, region, regions, transforms, int_rect, inset, fits_i32, fence_word as tested_fence}
 use Rattle.flat_forms.specs.Calls.{call_form, call_named, call_written, call_names, text, inset_or_none}
 use Rattle.flat_scene.specs.Draft.{no_inset}
 use Rattle.flat_places.specs.Known.{knows}
-use Rattle.flat_print.specs.Print.{pair_word, buffers_word, fence_word, call_fields, call_name, rect_words, inset_words, region_words, orientation_number, blend_number}
+use Rattle.flat_print.specs.Print.{pair_word, buffers_word, fence_word, call_fields, call_name, rect_words, inset_words, region_words, orientation_number}
+use Rattle.flat_print.specs.Print.{blend_number}
 use Rattle.flat_print.specs.Choices.{flip_number, interaction_number}
 use Rattle.flat_forms.proofs.lemmas.FormLemmas.{mapped_ok, unless_ok, Gives, apply_ok, map_ok, place_ok, whole_ok, or_kind_ok, both_ok, Shown, shown_whole}
 use Rattle.flat_forms.proofs.lemmas.ParserLemmas.{is_zero}
@@ -78,7 +87,8 @@ i32_words = record {
 
 -- forms of forms
 
-mapped_words : {A B : Type 0} (h : A → B) (form : Form A) (spell : A → List Word) (new : B → List Word) → ((a : A) → new (h a) ≡ spell a) → Spells form spell → Spells (h <$> form) new
+mapped_words : {A B : Type 0} (h : A → B) (form : Form A) (spell : A → List Word) (new : B → List Word) → ((a : A) → new (h a) ≡ spell a) → Spells form spell
+    → Spells (h <$> form) new
 mapped_words h form spell new same spells = record {
   takes = λ words v rest given.
       let m = map_ok h form words v rest given in
@@ -97,17 +107,20 @@ found_ok f (Some n) v is = (n, refl, is)
 
 -- a value of a list, by its number
 
-choice_at : {A : Type 0} (first : ℕ) (values : List A) (number : A → ℕ) (n : ℕ) (v : A) (b : Bool) → nat_le first n ≡ b → ((i : ℕ) (w : A) → slice_get values i ≡ Some w → number w ≡ first + i)
+choice_at : {A : Type 0} (first : ℕ) (values : List A) (number : A → ℕ) (n : ℕ) (v : A) (b : Bool) → nat_le first n ≡ b
+    → ((i : ℕ) (w : A) → slice_get values i ≡ Some w → number w ≡ first + i)
     → cond b (slice_get values (n - first)) None ≡ Some v → number v ≡ n
 choice_at first values number n v false at numbers is = absurd (cc)
 choice_at first values number n v true at numbers is = let least : first + (n - first) ≡ n = grind (arith, nat_tests) in numbers (n - first) v is ∙ least
 
-choice_words : {A : Type 0} (first : ℕ) (values : List A) (number : A → ℕ) → ((i : ℕ) (w : A) → slice_get values i ≡ Some w → number w ≡ first + i) → Spells (choice first values) (λ v. decimal (number v) ∷ [])
+choice_words : {A : Type 0} (first : ℕ) (values : List A) (number : A → ℕ) → ((i : ℕ) (w : A) → slice_get values i ≡ Some w → number w ≡ first + i)
+    → Spells (choice first values) (λ v. decimal (number v) ∷ [])
 choice_words first values number numbers = record {
   takes = λ words v rest given.
       let p = place_ok _ words v rest given in
       let found = found_ok _ (natural p.word) v (or_kind_ok BadNumber _ v p.passes) in
-      p.begins ∙ ap (λ w. w ∷ rest) (sym (decimal-natural p.word found.0 found.1).0 ∙ ap decimal (sym (choice_at first values number found.0 v (nat_le first found.0) refl numbers found.2)));
+      p.begins ∙ ap (λ w. w ∷ rest) (sym (decimal-natural p.word found.0 found.1).0
+      ∙ ap decimal (sym (choice_at first values number found.0 v (nat_le first found.0) refl numbers found.2)));
 }
 
 none_past : {A : Type 0} (values : List A) (i : ℕ) (v : A) → length values ≤ i → slice_get values i ≡ Some v → ⊥
@@ -153,8 +166,10 @@ interaction_words = choice_words 0 (Default ∷ SemanticallyInvisible ∷ []) in
 
 -- a form that may be left out
 
-optional_taken : {A : Type 0} (form : Form A) (spell : A → List Word) → Spells form spell → (words : List Word) (o : Option A) (rest : List Word) → Gives (optional form) words o rest → words ≡ option_map_or spell o [] ++ rest
-optional_taken form spell spells [] o rest given = let value = given.value in let none : None ≡ o = cc in given.left ∙ ap (λ v. option_map_or spell v [] ++ rest) none
+optional_taken : {A : Type 0} (form : Form A) (spell : A → List Word) → Spells form spell → (words : List Word) (o : Option A) (rest : List Word)
+    → Gives (optional form) words o rest → words ≡ option_map_or spell o [] ++ rest
+optional_taken form spell spells [] o rest given = let value = given.value in let none : None ≡ o =
+    cc in given.left ∙ ap (λ v. option_map_or spell v [] ++ rest) none
 optional_taken form spell spells (w ∷ words) o rest given =
     let g : Gives (Some <$> form) (w ∷ words) o rest = record { value = given.value; left = given.left } in
     let m = map_ok Some form (w ∷ words) o rest g in
@@ -186,7 +201,8 @@ pub record Split {A B : Type 0} (f : Form (A → B)) (x : Form A) (spell : A →
   pub behind : mid ≡ spell a ++ rest
   pub value : g a ≡ v
 
-pub split : {A B : Type 0} (f : Form (A → B)) (x : Form A) (spell : A → List Word) (words : List Word) (v : B) (rest : List Word) → Spells x spell → Gives (f <*> x) words v rest → Split f x spell words v rest
+pub split : {A B : Type 0} (f : Form (A → B)) (x : Form A) (spell : A → List Word) (words : List Word) (v : B) (rest : List Word) → Spells x spell
+    → Gives (f <*> x) words v rest → Split f x spell words v rest
 split f x spell words v rest spells given =
     let p = apply_ok f x words v rest given in
     record { g = p.g; a = p.a; mid = p.mid; first = p.first; behind = spells.takes p.mid p.a rest p.second; value = p.value }
@@ -194,7 +210,8 @@ split f x spell words v rest spells given =
 owned_ok : {D : Type 0} (names : List Word) (decls : List D) (owns : D → Bool) (w : Word) (i : ℕ) → owned names decls owns w ≡ Ok i → place_of names w ≡ Some i
 owned_ok {D = D} names decls owns w i is = by_place (place_of names w) is
   where
-    by_place : (o : Option ℕ) → option_map_or (λ j. unless_kind NotOwner (option_map_or owns (slice_get decls j) false) (Ok j)) o (Err UnknownName) ≡ Ok i → o ≡ Some i
+    by_place : (o : Option ℕ) → option_map_or (λ j. unless_kind NotOwner (option_map_or owns (slice_get decls j) false) (Ok j)) o (Err UnknownName) ≡ Ok i
+        → o ≡ Some i
     by_place None wrong = absurd (cc)
     by_place (Some j) found = let tested = unless_ok NotOwner _ (Ok j) i found in let same = tested.given in ap Some (cc)
 
@@ -204,13 +221,15 @@ fence_spelt s a w f is =
     let at = owned_ok s.fences s.setup.fences _ w m.a m.given in
     sym (name_at-place_of s.fences [] w m.a at) ∙ ap (λ names. name_at names m.a) (append-nil s.fences) ∙ ap (fence_word s) m.value
 
-pair_end_words : (s : Script) (owns : PairDecl → Bool) → Spells (place (λ w. mapped (λ i. record { 0 = i }) (owned s.pairs s.setup.pairs owns w))) (λ p. pair_word s p ∷ [])
+pair_end_words : (s : Script) (owns : PairDecl → Bool)
+    → Spells (place (λ w. mapped (λ i. record { 0 = i }) (owned s.pairs s.setup.pairs owns w))) (λ p. pair_word s p ∷ [])
 pair_end_words s owns = record {
   takes = λ words v rest given.
       let p = place_ok _ words v rest given in
       let m = mapped_ok (λ i. record { 0 = i }) _ v p.passes in
       let at = owned_ok s.pairs s.setup.pairs owns p.word m.a m.given in
-      p.begins ∙ ap (λ w. w ∷ rest) (sym (name_at-place_of s.pairs [] p.word m.a at) ∙ ap (λ names. name_at names m.a) (append-nil s.pairs) ∙ ap (pair_word s) m.value);
+      p.begins ∙ ap (λ w. w ∷ rest) (sym (name_at-place_of s.pairs [] p.word m.a at) ∙ ap (λ names. name_at names m.a) (append-nil s.pairs)
+      ∙ ap (pair_word s) m.value);
 }
 
 view_end_words : (s : Script) (o : SessionNo) → Spells (view_end s o) (λ p. pair_word s p ∷ [])
@@ -225,7 +244,8 @@ collection_words s o = record {
       let p = place_ok _ words v rest given in
       let m = mapped_ok (λ i. record { 0 = i }) _ v p.passes in
       let at = owned_ok s.buffers s.setup.buffers _ p.word m.a m.given in
-      p.begins ∙ ap (λ w. w ∷ rest) (sym (name_at-place_of s.buffers [] p.word m.a at) ∙ ap (λ names. name_at names m.a) (append-nil s.buffers) ∙ ap (buffers_word s) m.value);
+      p.begins ∙ ap (λ w. w ∷ rest) (sym (name_at-place_of s.buffers [] p.word m.a at) ∙ ap (λ names. name_at names m.a) (append-nil s.buffers)
+      ∙ ap (buffers_word s) m.value);
 }
 
 pub fence_words : (s : Script) (a : Actor) → Spells (fence s a) (λ f. fence_word s f ∷ [])
@@ -239,17 +259,24 @@ fence_words s a = record {
 steps_2 : {A B C : Type 0} (f0 : A → B → C) (a0 : A) (f1 : B → C) (a1 : B) (made : C) → f0 a0 ≡ f1 → f1 a1 ≡ made → f0 a0 a1 ≡ made
 steps_2 f0 a0 f1 a1 made e0 e1 = ap (λ g. g a1) e0 ∙ e1
 
-steps_3 : {A B C D : Type 0} (f0 : A → B → C → D) (a0 : A) (f1 : B → C → D) (a1 : B) (f2 : C → D) (a2 : C) (made : D) → f0 a0 ≡ f1 → f1 a1 ≡ f2 → f2 a2 ≡ made → f0 a0 a1 a2 ≡ made
+steps_3 : {A B C D : Type 0} (f0 : A → B → C → D) (a0 : A) (f1 : B → C → D) (a1 : B) (f2 : C → D) (a2 : C) (made : D) → f0 a0 ≡ f1 → f1 a1 ≡ f2 → f2 a2 ≡ made
+    → f0 a0 a1 a2 ≡ made
 steps_3 f0 a0 f1 a1 f2 a2 made e0 e1 e2 = ap (λ g. g a1 a2) e0 ∙ ap (λ g. g a2) e1 ∙ e2
 
-steps_4 : {A B C D E : Type 0} (f0 : A → B → C → D → E) (a0 : A) (f1 : B → C → D → E) (a1 : B) (f2 : C → D → E) (a2 : C) (f3 : D → E) (a3 : D) (made : E) → f0 a0 ≡ f1 → f1 a1 ≡ f2 → f2 a2 ≡ f3 → f3 a3 ≡ made → f0 a0 a1 a2 a3 ≡ made
+steps_4 : {A B C D E : Type 0} (f0 : A → B → C → D → E) (a0 : A) (f1 : B → C → D → E) (a1 : B) (f2 : C → D → E) (a2 : C) (f3 : D → E) (a3 : D) (made : E)
+    → f0 a0 ≡ f1 → f1 a1 ≡ f2 → f2 a2 ≡ f3 → f3 a3 ≡ made → f0 a0 a1 a2 a3 ≡ made
 steps_4 f0 a0 f1 a1 f2 a2 f3 a3 made e0 e1 e2 e3 = ap (λ g. g a1 a2 a3) e0 ∙ ap (λ g. g a2 a3) e1 ∙ ap (λ g. g a3) e2 ∙ e3
 
-steps_5 : {A B C D E F : Type 0} (f0 : A → B → C → D → E → F) (a0 : A) (f1 : B → C → D → E → F) (a1 : B) (f2 : C → D → E → F) (a2 : C) (f3 : D → E → F) (a3 : D) (f4 : E → F) (a4 : E) (made : F) → f0 a0 ≡ f1 → f1 a1 ≡ f2 → f2 a2 ≡ f3 → f3 a3 ≡ f4 → f4 a4 ≡ made → f0 a0 a1 a2 a3 a4 ≡ made
+steps_5 : {A B C D E F : Type 0} (f0 : A → B → C → D → E → F) (a0 : A) (f1 : B → C → D → E → F) (a1 : B) (f2 : C → D → E → F) (a2 : C) (f3 : D → E → F) (a3 : D)
+    (f4 : E → F) (a4 : E) (made : F) → f0 a0 ≡ f1 → f1 a1 ≡ f2 → f2 a2 ≡ f3 → f3 a3 ≡ f4 → f4 a4 ≡ made → f0 a0 a1 a2 a3 a4 ≡ made
 steps_5 f0 a0 f1 a1 f2 a2 f3 a3 f4 a4 made e0 e1 e2 e3 e4 = ap (λ g. g a1 a2 a3 a4) e0 ∙ ap (λ g. g a2 a3 a4) e1 ∙ ap (λ g. g a3 a4) e2 ∙ ap (λ g. g a4) e3 ∙ e4
 
-steps_7 : {A B C D E F G H : Type 0} (f0 : A → B → C → D → E → F → G → H) (a0 : A) (f1 : B → C → D → E → F → G → H) (a1 : B) (f2 : C → D → E → F → G → H) (a2 : C) (f3 : D → E → F → G → H) (a3 : D) (f4 : E → F → G → H) (a4 : E) (f5 : F → G → H) (a5 : F) (f6 : G → H) (a6 : G) (made : H) → f0 a0 ≡ f1 → f1 a1 ≡ f2 → f2 a2 ≡ f3 → f3 a3 ≡ f4 → f4 a4 ≡ f5 → f5 a5 ≡ f6 → f6 a6 ≡ made → f0 a0 a1 a2 a3 a4 a5 a6 ≡ made
-steps_7 f0 a0 f1 a1 f2 a2 f3 a3 f4 a4 f5 a5 f6 a6 made e0 e1 e2 e3 e4 e5 e6 = ap (λ g. g a1 a2 a3 a4 a5 a6) e0 ∙ ap (λ g. g a2 a3 a4 a5 a6) e1 ∙ ap (λ g. g a3 a4 a5 a6) e2 ∙ ap (λ g. g a4 a5 a6) e3 ∙ ap (λ g. g a5 a6) e4 ∙ ap (λ g. g a6) e5 ∙ e6
+steps_7 : {A B C D E F G H : Type 0} (f0 : A → B → C → D → E → F → G → H) (a0 : A) (f1 : B → C → D → E → F → G → H) (a1 : B) (f2 : C → D → E → F → G → H)
+    (a2 : C) (f3 : D → E → F → G → H) (a3 : D) (f4 : E → F → G → H) (a4 : E) (f5 : F → G → H) (a5 : F) (f6 : G → H) (a6 : G) (made : H) → f0 a0 ≡ f1
+    → f1 a1 ≡ f2 → f2 a2 ≡ f3 → f3 a3 ≡ f4 → f4 a4 ≡ f5 → f5 a5 ≡ f6 → f6 a6 ≡ made → f0 a0 a1 a2 a3 a4 a5 a6 ≡ made
+steps_7 f0 a0 f1 a1 f2 a2 f3 a3 f4 a4 f5 a5 f6 a6 made e0 e1 e2 e3 e4 e5 e6 =
+    ap (λ g. g a1 a2 a3 a4 a5 a6) e0 ∙ ap (λ g. g a2 a3 a4 a5 a6) e1 ∙ ap (λ g. g a3 a4 a5 a6) e2 ∙ ap (λ g. g a4 a5 a6) e3 ∙ ap (λ g. g a5 a6) e4
+    ∙ ap (λ g. g a6) e5 ∙ e6
 
 int_rect_words : Spells int_rect rect_words
 int_rect_words = record {
@@ -261,7 +288,8 @@ int_rect_words = record {
       let b = split (h <$> i32) i32 spell words c.g c.mid i32_words c.first in
       let a = map_ok h i32 words b.g b.mid b.first in
       let value : h a.a b.a c.a d.a ≡ v = steps_4 h a.a b.g b.a c.g c.a d.g d.a v a.value b.value c.value d.value in
-      i32_words.takes words a.a b.mid a.given ∙ ap (λ t. signed_decimal a.a ∷ t) (b.behind ∙ ap (λ t. signed_decimal b.a ∷ t) (c.behind ∙ ap (λ t. signed_decimal c.a ∷ t) d.behind))
+      i32_words.takes words a.a b.mid a.given ∙ ap (λ t. signed_decimal a.a ∷ t)
+      (b.behind ∙ ap (λ t. signed_decimal b.a ∷ t) (c.behind ∙ ap (λ t. signed_decimal c.a ∷ t) d.behind))
       ∙ ap (λ r. rect_words r ++ rest) value;
 }
 
@@ -275,11 +303,13 @@ region_spelled = record {
       int_rect_words.takes words a.a b.mid a.given ∙ ap (λ t. rect_words a.a ++ t) b.behind ∙ ap (λ r. region_words r ++ rest) value;
 }
 
-few_taken : (words : List Word) (rs : List HitRegion) → both (λ r rest. r ∷ rest) (region words).0 (Ok []) ≡ Ok rs → (region words).1 ≡ [] → words ≡ flat_map region_words rs
+few_taken : (words : List Word) (rs : List HitRegion) → both (λ r rest. r ∷ rest) (region words).0 (Ok []) ≡ Ok rs → (region words).1 ≡ []
+    → words ≡ flat_map region_words rs
 few_taken words rs is none =
     let parts = both_ok (λ r rest. r ∷ rest) (region words).0 (Ok []) rs is in
     let last : [] ≡ parts.b = let e = parts.second in cc in
-    region_spelled.takes words parts.a [] (record { value = parts.first; left = none }) ∙ ap (λ t. region_words parts.a ++ t) (ap (flat_map region_words) last) ∙ ap (flat_map region_words) parts.value
+    region_spelled.takes words parts.a [] (record { value = parts.first; left = none }) ∙ ap (λ t. region_words parts.a ++ t) (ap (flat_map region_words) last)
+    ∙ ap (flat_map region_words) parts.value
 
 regions_taken : (words : List Word) (rs : List HitRegion) → regions words ≡ Ok rs → words ≡ flat_map region_words rs
 regions_taken [] rs is = let e : [] ≡ rs = cc in ap (flat_map region_words) e
@@ -289,23 +319,29 @@ regions_taken (x ∷ y ∷ w ∷ []) rs is = few_taken (x ∷ y ∷ w ∷ []) rs
 regions_taken (x ∷ y ∷ w ∷ h ∷ []) rs is = few_taken (x ∷ y ∷ w ∷ h ∷ []) rs is refl
 regions_taken (x ∷ y ∷ w ∷ h ∷ i ∷ ws) rs is =
     let parts = both_ok (λ r rest. r ∷ rest) (region (x ∷ y ∷ w ∷ h ∷ i ∷ [])).0 (regions ws) rs is in
-    let one : x ∷ y ∷ w ∷ h ∷ i ∷ [] ≡ region_words parts.a = region_spelled.takes (x ∷ y ∷ w ∷ h ∷ i ∷ []) parts.a [] (record { value = parts.first; left = refl }) ∙ append-nil (region_words parts.a) in
+    let one : x ∷ y ∷ w ∷ h ∷ i ∷ [] ≡ region_words parts.a =
+    region_spelled.takes (x ∷ y ∷ w ∷ h ∷ i ∷ []) parts.a [] (record { value = parts.first; left = refl }) ∙ append-nil (region_words parts.a) in
     let more : ws ≡ flat_map region_words parts.b = regions_taken ws parts.b parts.second in
     ap (λ t. t ++ ws) one ∙ ap (λ t. region_words parts.a ++ t) more ∙ ap (flat_map region_words) parts.value
 
 regions_words : Spells (λ words. (regions words, [])) (λ rs. flat_map region_words rs)
-regions_words = record { takes = λ words v rest given. regions_taken words v given.value ∙ sym (append-nil (flat_map region_words v)) ∙ ap (λ t. flat_map region_words v ++ t) given.left }
+regions_words = record {
+  takes = λ words v rest given. regions_taken words v given.value ∙ sym (append-nil (flat_map region_words v))
+      ∙ ap (λ t. flat_map region_words v ++ t) given.left;
+}
 
 transforms_taken : (words : List Word) (ts : List TransformId) → transforms words ≡ Ok ts → words ≡ map (λ t. decimal t.0) ts
 transforms_taken [] ts is = let e : [] ≡ ts = cc in ap (map (λ (t : TransformId). decimal t.0)) e
 transforms_taken (w ∷ words) ts is =
     let parts = both_ok (λ t rest. t ∷ rest) (transform (w ∷ [])).0 (transforms words) ts is in
     let one : w ∷ [] ≡ decimal parts.a.0 ∷ [] = transform_words.takes (w ∷ []) parts.a [] (record { value = parts.first; left = refl }) in
-    ap (λ t. t ++ words) one ∙ ap (λ t. decimal parts.a.0 ∷ t) (transforms_taken words parts.b parts.second) ∙ ap (map (λ (t : TransformId). decimal t.0)) parts.value
+    ap (λ t. t ++ words) one ∙ ap (λ t. decimal parts.a.0 ∷ t) (transforms_taken words parts.b parts.second)
+    ∙ ap (map (λ (t : TransformId). decimal t.0)) parts.value
 
 transforms_words : Spells (λ words. (transforms words, [])) (map (λ t. decimal t.0))
 transforms_words = record {
-  takes = λ words v rest given. transforms_taken words v given.value ∙ sym (append-nil (map (λ (t : TransformId). decimal t.0) v)) ∙ ap (λ t. map (λ (k : TransformId). decimal k.0) v ++ t) given.left;
+  takes = λ words v rest given. transforms_taken words v given.value ∙ sym (append-nil (map (λ (t : TransformId). decimal t.0) v))
+      ∙ ap (λ t. map (λ (k : TransformId). decimal k.0) v ++ t) given.left;
 }
 
 -- what a call was read from are its name and its fields
@@ -322,7 +358,8 @@ spelt-CreateView s o words c is =
     let taken : words ≡ call_fields s (h p1.a) = (view_end_words s o).takes words p1.a [] p1.given in
     record { fields = ap (call_fields s) (sym value) ∙ sym taken; named = ap call_name (sym value) }
 
-spelt-CreateTransform : (s : Script) (o : SessionNo) (words : List Word) (c : Call) → whole (call_form s o CreateTransform) words ≡ Ok c → Spelt s CreateTransform words c
+spelt-CreateTransform : (s : Script) (o : SessionNo) (words : List Word) (c : Call) → whole (call_form s o CreateTransform) words ≡ Ok c
+    → Spelt s CreateTransform words c
 spelt-CreateTransform s o words c is =
     let h : TransformId → Call = λ t. call.CreateTransform t in
     let given = whole_ok (call_form s o CreateTransform) words c is in
@@ -331,7 +368,8 @@ spelt-CreateTransform s o words c is =
     let taken : words ≡ call_fields s (h p1.a) = transform_words.takes words p1.a [] p1.given in
     record { fields = ap (call_fields s) (sym value) ∙ sym taken; named = ap call_name (sym value) }
 
-spelt-ReleaseTransform : (s : Script) (o : SessionNo) (words : List Word) (c : Call) → whole (call_form s o ReleaseTransform) words ≡ Ok c → Spelt s ReleaseTransform words c
+spelt-ReleaseTransform : (s : Script) (o : SessionNo) (words : List Word) (c : Call) → whole (call_form s o ReleaseTransform) words ≡ Ok c
+    → Spelt s ReleaseTransform words c
 spelt-ReleaseTransform s o words c is =
     let h : TransformId → Call = λ t. call.ReleaseTransform t in
     let given = whole_ok (call_form s o ReleaseTransform) words c is in
@@ -340,7 +378,8 @@ spelt-ReleaseTransform s o words c is =
     let taken : words ≡ call_fields s (h p1.a) = transform_words.takes words p1.a [] p1.given in
     record { fields = ap (call_fields s) (sym value) ∙ sym taken; named = ap call_name (sym value) }
 
-spelt-SetTranslation : (s : Script) (o : SessionNo) (words : List Word) (c : Call) → whole (call_form s o SetTranslation) words ≡ Ok c → Spelt s SetTranslation words c
+spelt-SetTranslation : (s : Script) (o : SessionNo) (words : List Word) (c : Call) → whole (call_form s o SetTranslation) words ≡ Ok c
+    → Spelt s SetTranslation words c
 spelt-SetTranslation s o words c is =
     let h : TransformId → ℤ → ℤ → Call = λ t x y. call.SetTranslation t x y in
     let given = whole_ok (call_form s o SetTranslation) words c is in
@@ -348,7 +387,8 @@ spelt-SetTranslation s o words c is =
     let p2 = split (h <$> transform) i32 (λ z. signed_decimal z ∷ []) words p3.g p3.mid i32_words p3.first in
     let p1 = map_ok h transform words p2.g p2.mid p2.first in
     let value : h p1.a p2.a p3.a ≡ c = steps_3 h p1.a p2.g p2.a p3.g p3.a c p1.value p2.value p3.value in
-    let taken : words ≡ call_fields s (h p1.a p2.a p3.a) = transform_words.takes words p1.a p2.mid p1.given ∙ ap (λ t. decimal p1.a.0 ∷ t) (p2.behind ∙ ap (λ t. signed_decimal p2.a ∷ t) (p3.behind)) in
+    let taken : words ≡ call_fields s (h p1.a p2.a p3.a) =
+    transform_words.takes words p1.a p2.mid p1.given ∙ ap (λ t. decimal p1.a.0 ∷ t) (p2.behind ∙ ap (λ t. signed_decimal p2.a ∷ t) (p3.behind)) in
     record { fields = ap (call_fields s) (sym value) ∙ sym taken; named = ap call_name (sym value) }
 
 spelt-AddChild : (s : Script) (o : SessionNo) (words : List Word) (c : Call) → whole (call_form s o AddChild) words ≡ Ok c → Spelt s AddChild words c
@@ -371,7 +411,8 @@ spelt-RemoveChild s o words c is =
     let taken : words ≡ call_fields s (h p1.a p2.a) = transform_words.takes words p1.a p2.mid p1.given ∙ ap (λ t. decimal p1.a.0 ∷ t) (p2.behind) in
     record { fields = ap (call_fields s) (sym value) ∙ sym taken; named = ap call_name (sym value) }
 
-spelt-ReplaceChildren : (s : Script) (o : SessionNo) (words : List Word) (c : Call) → whole (call_form s o ReplaceChildren) words ≡ Ok c → Spelt s ReplaceChildren words c
+spelt-ReplaceChildren : (s : Script) (o : SessionNo) (words : List Word) (c : Call) → whole (call_form s o ReplaceChildren) words ≡ Ok c
+    → Spelt s ReplaceChildren words c
 spelt-ReplaceChildren s o words c is =
     let h : TransformId → List TransformId → Call = λ p ks. call.ReplaceChildren p ks in
     let spell : List TransformId → List Word = map (λ k. decimal k.0) in
@@ -383,7 +424,8 @@ spelt-ReplaceChildren s o words c is =
     let taken : words ≡ call_fields s (h p1.a p2.a) = transform_words.takes words p1.a p2.mid p1.given ∙ ap (λ t. decimal p1.a.0 ∷ t) last in
     record { fields = ap (call_fields s) (sym value) ∙ sym taken; named = ap call_name (sym value) }
 
-spelt-SetRootTransform : (s : Script) (o : SessionNo) (words : List Word) (c : Call) → whole (call_form s o SetRootTransform) words ≡ Ok c → Spelt s SetRootTransform words c
+spelt-SetRootTransform : (s : Script) (o : SessionNo) (words : List Word) (c : Call) → whole (call_form s o SetRootTransform) words ≡ Ok c
+    → Spelt s SetRootTransform words c
 spelt-SetRootTransform s o words c is =
     let h : TransformId → Call = λ t. call.SetRootTransform t in
     let given = whole_ok (call_form s o SetRootTransform) words c is in
@@ -392,7 +434,8 @@ spelt-SetRootTransform s o words c is =
     let taken : words ≡ call_fields s (h p1.a) = transform_words.takes words p1.a [] p1.given in
     record { fields = ap (call_fields s) (sym value) ∙ sym taken; named = ap call_name (sym value) }
 
-spelt-CreateFilledRect : (s : Script) (o : SessionNo) (words : List Word) (c : Call) → whole (call_form s o CreateFilledRect) words ≡ Ok c → Spelt s CreateFilledRect words c
+spelt-CreateFilledRect : (s : Script) (o : SessionNo) (words : List Word) (c : Call) → whole (call_form s o CreateFilledRect) words ≡ Ok c
+    → Spelt s CreateFilledRect words c
 spelt-CreateFilledRect s o words c is =
     let h : ContentId → Call = λ d. call.CreateFilledRect d in
     let given = whole_ok (call_form s o CreateFilledRect) words c is in
@@ -401,7 +444,8 @@ spelt-CreateFilledRect s o words c is =
     let taken : words ≡ call_fields s (h p1.a) = content_words.takes words p1.a [] p1.given in
     record { fields = ap (call_fields s) (sym value) ∙ sym taken; named = ap call_name (sym value) }
 
-spelt-SetSolidFill : (s : Script) (o : SessionNo) (words : List Word) (c : Call) → whole (call_form s o SetSolidFill) words ≡ Ok c → Spelt s SetSolidFill words c
+spelt-SetSolidFill : (s : Script) (o : SessionNo) (words : List Word) (c : Call) → whole (call_form s o SetSolidFill) words ≡ Ok c
+    → Spelt s SetSolidFill words c
 spelt-SetSolidFill s o words c is =
     let h : ContentId → ℕ → ℕ → ℕ → ℕ → ℕ → ℕ → Call = λ d r g b a w h. call.SetSolidFill d r g b a w h in
     let given = whole_ok (call_form s o SetSolidFill) words c is in
@@ -412,11 +456,17 @@ spelt-SetSolidFill s o words c is =
     let p3 = split (h <$> content <*> colour) colour (λ n. decimal n ∷ []) words p4.g p4.mid (number_words 256) p4.first in
     let p2 = split (h <$> content) colour (λ n. decimal n ∷ []) words p3.g p3.mid (number_words 256) p3.first in
     let p1 = map_ok h content words p2.g p2.mid p2.first in
-    let value : h p1.a p2.a p3.a p4.a p5.a p6.a p7.a ≡ c = steps_7 h p1.a p2.g p2.a p3.g p3.a p4.g p4.a p5.g p5.a p6.g p6.a p7.g p7.a c p1.value p2.value p3.value p4.value p5.value p6.value p7.value in
-    let taken : words ≡ call_fields s (h p1.a p2.a p3.a p4.a p5.a p6.a p7.a) = content_words.takes words p1.a p2.mid p1.given ∙ ap (λ t. decimal p1.a.0 ∷ t) (p2.behind ∙ ap (λ t. decimal p2.a ∷ t) (p3.behind ∙ ap (λ t. decimal p3.a ∷ t) (p4.behind ∙ ap (λ t. decimal p4.a ∷ t) (p5.behind ∙ ap (λ t. decimal p5.a ∷ t) (p6.behind ∙ ap (λ t. decimal p6.a ∷ t) (p7.behind)))))) in
+    let value : h p1.a p2.a p3.a p4.a p5.a p6.a p7.a ≡ c =
+    steps_7 h p1.a p2.g p2.a p3.g p3.a p4.g p4.a p5.g p5.a p6.g p6.a p7.g p7.a c p1.value p2.value p3.value p4.value p5.value p6.value p7.value in
+    let taken : words ≡ call_fields s (h p1.a p2.a p3.a p4.a p5.a p6.a p7.a) =
+    content_words.takes words p1.a p2.mid p1.given ∙ ap (λ t. decimal p1.a.0 ∷ t)
+    (p2.behind ∙ ap (λ t. decimal p2.a ∷ t) (p3.behind
+    ∙ ap (λ t. decimal p3.a ∷ t) (p4.behind ∙ ap (λ t. decimal p4.a ∷ t)
+    (p5.behind ∙ ap (λ t. decimal p5.a ∷ t) (p6.behind ∙ ap (λ t. decimal p6.a ∷ t) (p7.behind)))))) in
     record { fields = ap (call_fields s) (sym value) ∙ sym taken; named = ap call_name (sym value) }
 
-spelt-ReleaseFilledRect : (s : Script) (o : SessionNo) (words : List Word) (c : Call) → whole (call_form s o ReleaseFilledRect) words ≡ Ok c → Spelt s ReleaseFilledRect words c
+spelt-ReleaseFilledRect : (s : Script) (o : SessionNo) (words : List Word) (c : Call) → whole (call_form s o ReleaseFilledRect) words ≡ Ok c
+    → Spelt s ReleaseFilledRect words c
 spelt-ReleaseFilledRect s o words c is =
     let h : ContentId → Call = λ d. call.ReleaseFilledRect d in
     let given = whole_ok (call_form s o ReleaseFilledRect) words c is in
@@ -425,17 +475,20 @@ spelt-ReleaseFilledRect s o words c is =
     let taken : words ≡ call_fields s (h p1.a) = content_words.takes words p1.a [] p1.given in
     record { fields = ap (call_fields s) (sym value) ∙ sym taken; named = ap call_name (sym value) }
 
-spelt-SetHitRegions : (s : Script) (o : SessionNo) (words : List Word) (c : Call) → whole (call_form s o SetHitRegions) words ≡ Ok c → Spelt s SetHitRegions words c
+spelt-SetHitRegions : (s : Script) (o : SessionNo) (words : List Word) (c : Call) → whole (call_form s o SetHitRegions) words ≡ Ok c
+    → Spelt s SetHitRegions words c
 spelt-SetHitRegions s o words c is =
     let h : TransformId → List HitRegion → Call = λ t r. call.SetHitRegions t r in
     let given = whole_ok (call_form s o SetHitRegions) words c is in
     let p2 = split (h <$> transform) (λ ws. (regions ws, [])) (λ rs. flat_map region_words rs) words c [] regions_words given in
     let p1 = map_ok h transform words p2.g p2.mid p2.first in
     let value : h p1.a p2.a ≡ c = steps_2 h p1.a p2.g p2.a c p1.value p2.value in
-    let taken : words ≡ call_fields s (h p1.a p2.a) = transform_words.takes words p1.a p2.mid p1.given ∙ ap (λ t. decimal p1.a.0 ∷ t) (p2.behind) ∙ ap (λ t. decimal p1.a.0 ∷ t) (append-nil (flat_map region_words p2.a)) in
+    let taken : words ≡ call_fields s (h p1.a p2.a) = transform_words.takes words p1.a p2.mid p1.given ∙ ap (λ t. decimal p1.a.0 ∷ t) (p2.behind)
+    ∙ ap (λ t. decimal p1.a.0 ∷ t) (append-nil (flat_map region_words p2.a)) in
     record { fields = ap (call_fields s) (sym value) ∙ sym taken; named = ap call_name (sym value) }
 
-spelt-SetInfiniteHitRegion : (s : Script) (o : SessionNo) (words : List Word) (c : Call) → whole (call_form s o SetInfiniteHitRegion) words ≡ Ok c → Spelt s SetInfiniteHitRegion words c
+spelt-SetInfiniteHitRegion : (s : Script) (o : SessionNo) (words : List Word) (c : Call) → whole (call_form s o SetInfiniteHitRegion) words ≡ Ok c
+    → Spelt s SetInfiniteHitRegion words c
 spelt-SetInfiniteHitRegion s o words c is =
     let h : TransformId → Interaction → Call = λ t i. call.SetInfiniteHitRegion t i in
     let given = whole_ok (call_form s o SetInfiniteHitRegion) words c is in
@@ -469,7 +522,8 @@ spelt-Clear s o words c is =
     let value : call.Clear ≡ c = cc in
     record { fields = ap (call_fields s) (sym value) ∙ sym given.left; named = ap call_name (sym value) }
 
-spelt-SetOrientation : (s : Script) (o : SessionNo) (words : List Word) (c : Call) → whole (call_form s o SetOrientation) words ≡ Ok c → Spelt s SetOrientation words c
+spelt-SetOrientation : (s : Script) (o : SessionNo) (words : List Word) (c : Call) → whole (call_form s o SetOrientation) words ≡ Ok c
+    → Spelt s SetOrientation words c
 spelt-SetOrientation s o words c is =
     let h : TransformId → Orientation → Call = λ x1 x2. call.SetOrientation x1 x2 in
     let given = whole_ok (call_form s o SetOrientation) words c is in
@@ -487,7 +541,8 @@ spelt-SetScale s o words c is =
     let p2 = split (h <$> transform) u32 (λ n. decimal n ∷ []) words p3.g p3.mid (number_words (2 ^ 32)) p3.first in
     let p1 = map_ok h transform words p2.g p2.mid p2.first in
     let value : h p1.a p2.a p3.a ≡ c = steps_3 h p1.a p2.g p2.a p3.g p3.a c p1.value p2.value p3.value in
-    let taken : words ≡ call_fields s (h p1.a p2.a p3.a) = transform_words.takes words p1.a p2.mid p1.given ∙ ap (λ t. decimal p1.a.0 ∷ t) (p2.behind ∙ ap (λ t. decimal p2.a ∷ t) (p3.behind)) in
+    let taken : words ≡ call_fields s (h p1.a p2.a p3.a) =
+    transform_words.takes words p1.a p2.mid p1.given ∙ ap (λ t. decimal p1.a.0 ∷ t) (p2.behind ∙ ap (λ t. decimal p2.a ∷ t) (p3.behind)) in
     record { fields = ap (call_fields s) (sym value) ∙ sym taken; named = ap call_name (sym value) }
 
 spelt-SetOpacity : (s : Script) (o : SessionNo) (words : List Word) (c : Call) → whole (call_form s o SetOpacity) words ≡ Ok c → Spelt s SetOpacity words c
@@ -500,14 +555,17 @@ spelt-SetOpacity s o words c is =
     let taken : words ≡ call_fields s (h p1.a p2.a) = transform_words.takes words p1.a p2.mid p1.given ∙ ap (λ t. decimal p1.a.0 ∷ t) (p2.behind) in
     record { fields = ap (call_fields s) (sym value) ∙ sym taken; named = ap call_name (sym value) }
 
-spelt-SetClipBoundary : (s : Script) (o : SessionNo) (words : List Word) (c : Call) → whole (call_form s o SetClipBoundary) words ≡ Ok c → Spelt s SetClipBoundary words c
+spelt-SetClipBoundary : (s : Script) (o : SessionNo) (words : List Word) (c : Call) → whole (call_form s o SetClipBoundary) words ≡ Ok c
+    → Spelt s SetClipBoundary words c
 spelt-SetClipBoundary s o words c is =
     let h : TransformId → Option IntRect → Call = λ x1 x2. call.SetClipBoundary x1 x2 in
     let given = whole_ok (call_form s o SetClipBoundary) words c is in
-    let p2 = split (h <$> transform) (optional int_rect) (λ r. option_map_or rect_words r []) words c [] (optional_words int_rect rect_words int_rect_words) given in
+    let p2 = split (h <$> transform) (optional int_rect) (λ r. option_map_or rect_words r []) words c [] (optional_words int_rect rect_words int_rect_words)
+    given in
     let p1 = map_ok h transform words p2.g p2.mid p2.first in
     let value : h p1.a p2.a ≡ c = steps_2 h p1.a p2.g p2.a c p1.value p2.value in
-    let taken : words ≡ call_fields s (h p1.a p2.a) = transform_words.takes words p1.a p2.mid p1.given ∙ ap (λ t. decimal p1.a.0 ∷ t) (p2.behind) ∙ ap (λ t. decimal p1.a.0 ∷ t) (append-nil (option_map_or rect_words p2.a [])) in
+    let taken : words ≡ call_fields s (h p1.a p2.a) = transform_words.takes words p1.a p2.mid p1.given ∙ ap (λ t. decimal p1.a.0 ∷ t) (p2.behind)
+    ∙ ap (λ t. decimal p1.a.0 ∷ t) (append-nil (option_map_or rect_words p2.a [])) in
     record { fields = ap (call_fields s) (sym value) ∙ sym taken; named = ap call_name (sym value) }
 
 spelt-CreateImage : (s : Script) (o : SessionNo) (words : List Word) (c : Call) → whole (call_form s o CreateImage) words ≡ Ok c → Spelt s CreateImage words c
@@ -520,20 +578,25 @@ spelt-CreateImage s o words c is =
     let p2 = split (h <$> content) (collection s o) (λ b. buffers_word s b ∷ []) words p3.g p3.mid (collection_words s o) p3.first in
     let p1 = map_ok h content words p2.g p2.mid p2.first in
     let value : h p1.a p2.a p3.a p4.a p5.a ≡ c = steps_5 h p1.a p2.g p2.a p3.g p3.a p4.g p4.a p5.g p5.a c p1.value p2.value p3.value p4.value p5.value in
-    let taken : words ≡ call_fields s (h p1.a p2.a p3.a p4.a p5.a) = content_words.takes words p1.a p2.mid p1.given ∙ ap (λ t. decimal p1.a.0 ∷ t) (p2.behind ∙ ap (λ t. buffers_word s p2.a ∷ t) (p3.behind ∙ ap (λ t. decimal p3.a ∷ t) (p4.behind ∙ ap (λ t. decimal p4.a ∷ t) (p5.behind)))) in
+    let taken : words ≡ call_fields s (h p1.a p2.a p3.a p4.a p5.a) =
+    content_words.takes words p1.a p2.mid p1.given ∙ ap (λ t. decimal p1.a.0 ∷ t)
+    (p2.behind ∙ ap (λ t. buffers_word s p2.a ∷ t) (p3.behind ∙ ap (λ t. decimal p3.a ∷ t) (p4.behind ∙ ap (λ t. decimal p4.a ∷ t) (p5.behind)))) in
     record { fields = ap (call_fields s) (sym value) ∙ sym taken; named = ap call_name (sym value) }
 
-spelt-SetImageSampleRegion : (s : Script) (o : SessionNo) (words : List Word) (c : Call) → whole (call_form s o SetImageSampleRegion) words ≡ Ok c → Spelt s SetImageSampleRegion words c
+spelt-SetImageSampleRegion : (s : Script) (o : SessionNo) (words : List Word) (c : Call) → whole (call_form s o SetImageSampleRegion) words ≡ Ok c
+    → Spelt s SetImageSampleRegion words c
 spelt-SetImageSampleRegion s o words c is =
     let h : ContentId → IntRect → Call = λ x1 x2. call.SetImageSampleRegion x1 x2 in
     let given = whole_ok (call_form s o SetImageSampleRegion) words c is in
     let p2 = split (h <$> content) int_rect rect_words words c [] int_rect_words given in
     let p1 = map_ok h content words p2.g p2.mid p2.first in
     let value : h p1.a p2.a ≡ c = steps_2 h p1.a p2.g p2.a c p1.value p2.value in
-    let taken : words ≡ call_fields s (h p1.a p2.a) = content_words.takes words p1.a p2.mid p1.given ∙ ap (λ t. decimal p1.a.0 ∷ t) (p2.behind) ∙ ap (λ t. decimal p1.a.0 ∷ t) (append-nil (rect_words p2.a)) in
+    let taken : words ≡ call_fields s (h p1.a p2.a) = content_words.takes words p1.a p2.mid p1.given ∙ ap (λ t. decimal p1.a.0 ∷ t) (p2.behind)
+    ∙ ap (λ t. decimal p1.a.0 ∷ t) (append-nil (rect_words p2.a)) in
     record { fields = ap (call_fields s) (sym value) ∙ sym taken; named = ap call_name (sym value) }
 
-spelt-SetImageDestinationSize : (s : Script) (o : SessionNo) (words : List Word) (c : Call) → whole (call_form s o SetImageDestinationSize) words ≡ Ok c → Spelt s SetImageDestinationSize words c
+spelt-SetImageDestinationSize : (s : Script) (o : SessionNo) (words : List Word) (c : Call) → whole (call_form s o SetImageDestinationSize) words ≡ Ok c
+    → Spelt s SetImageDestinationSize words c
 spelt-SetImageDestinationSize s o words c is =
     let h : ContentId → ℕ → ℕ → Call = λ x1 x2 x3. call.SetImageDestinationSize x1 x2 x3 in
     let given = whole_ok (call_form s o SetImageDestinationSize) words c is in
@@ -541,10 +604,12 @@ spelt-SetImageDestinationSize s o words c is =
     let p2 = split (h <$> content) u32 (λ n. decimal n ∷ []) words p3.g p3.mid (number_words (2 ^ 32)) p3.first in
     let p1 = map_ok h content words p2.g p2.mid p2.first in
     let value : h p1.a p2.a p3.a ≡ c = steps_3 h p1.a p2.g p2.a p3.g p3.a c p1.value p2.value p3.value in
-    let taken : words ≡ call_fields s (h p1.a p2.a p3.a) = content_words.takes words p1.a p2.mid p1.given ∙ ap (λ t. decimal p1.a.0 ∷ t) (p2.behind ∙ ap (λ t. decimal p2.a ∷ t) (p3.behind)) in
+    let taken : words ≡ call_fields s (h p1.a p2.a p3.a) =
+    content_words.takes words p1.a p2.mid p1.given ∙ ap (λ t. decimal p1.a.0 ∷ t) (p2.behind ∙ ap (λ t. decimal p2.a ∷ t) (p3.behind)) in
     record { fields = ap (call_fields s) (sym value) ∙ sym taken; named = ap call_name (sym value) }
 
-spelt-SetImageBlendingFunction : (s : Script) (o : SessionNo) (words : List Word) (c : Call) → whole (call_form s o SetImageBlendingFunction) words ≡ Ok c → Spelt s SetImageBlendingFunction words c
+spelt-SetImageBlendingFunction : (s : Script) (o : SessionNo) (words : List Word) (c : Call) → whole (call_form s o SetImageBlendingFunction) words ≡ Ok c
+    → Spelt s SetImageBlendingFunction words c
 spelt-SetImageBlendingFunction s o words c is =
     let h : ContentId → BlendMode → Call = λ x1 x2. call.SetImageBlendingFunction x1 x2 in
     let given = whole_ok (call_form s o SetImageBlendingFunction) words c is in
@@ -554,7 +619,8 @@ spelt-SetImageBlendingFunction s o words c is =
     let taken : words ≡ call_fields s (h p1.a p2.a) = content_words.takes words p1.a p2.mid p1.given ∙ ap (λ t. decimal p1.a.0 ∷ t) (p2.behind) in
     record { fields = ap (call_fields s) (sym value) ∙ sym taken; named = ap call_name (sym value) }
 
-spelt-SetImageFlip : (s : Script) (o : SessionNo) (words : List Word) (c : Call) → whole (call_form s o SetImageFlip) words ≡ Ok c → Spelt s SetImageFlip words c
+spelt-SetImageFlip : (s : Script) (o : SessionNo) (words : List Word) (c : Call) → whole (call_form s o SetImageFlip) words ≡ Ok c
+    → Spelt s SetImageFlip words c
 spelt-SetImageFlip s o words c is =
     let h : ContentId → ImageFlip → Call = λ x1 x2. call.SetImageFlip x1 x2 in
     let given = whole_ok (call_form s o SetImageFlip) words c is in
@@ -564,7 +630,8 @@ spelt-SetImageFlip s o words c is =
     let taken : words ≡ call_fields s (h p1.a p2.a) = content_words.takes words p1.a p2.mid p1.given ∙ ap (λ t. decimal p1.a.0 ∷ t) (p2.behind) in
     record { fields = ap (call_fields s) (sym value) ∙ sym taken; named = ap call_name (sym value) }
 
-spelt-SetImageOpacity : (s : Script) (o : SessionNo) (words : List Word) (c : Call) → whole (call_form s o SetImageOpacity) words ≡ Ok c → Spelt s SetImageOpacity words c
+spelt-SetImageOpacity : (s : Script) (o : SessionNo) (words : List Word) (c : Call) → whole (call_form s o SetImageOpacity) words ≡ Ok c
+    → Spelt s SetImageOpacity words c
 spelt-SetImageOpacity s o words c is =
     let h : ContentId → ℕ → Call = λ x1 x2. call.SetImageOpacity x1 x2 in
     let given = whole_ok (call_form s o SetImageOpacity) words c is in
@@ -574,7 +641,8 @@ spelt-SetImageOpacity s o words c is =
     let taken : words ≡ call_fields s (h p1.a p2.a) = content_words.takes words p1.a p2.mid p1.given ∙ ap (λ t. decimal p1.a.0 ∷ t) (p2.behind) in
     record { fields = ap (call_fields s) (sym value) ∙ sym taken; named = ap call_name (sym value) }
 
-spelt-ReleaseImage : (s : Script) (o : SessionNo) (words : List Word) (c : Call) → whole (call_form s o ReleaseImage) words ≡ Ok c → Spelt s ReleaseImage words c
+spelt-ReleaseImage : (s : Script) (o : SessionNo) (words : List Word) (c : Call) → whole (call_form s o ReleaseImage) words ≡ Ok c
+    → Spelt s ReleaseImage words c
 spelt-ReleaseImage s o words c is =
     let h : ContentId → Call = λ x1. call.ReleaseImage x1 in
     let given = whole_ok (call_form s o ReleaseImage) words c is in
@@ -596,24 +664,30 @@ inset_spelled = record {
       let b = split (h <$> side) side spell words c.g c.mid (number_words 65537) c.first in
       let a = map_ok h side words b.g b.mid b.first in
       let value : h a.a b.a c.a d.a ≡ v = steps_4 h a.a b.g b.a c.g c.a d.g d.a v a.value b.value c.value d.value in
-      (number_words 65537).takes words a.a b.mid a.given ∙ ap (λ t. decimal a.a ∷ t) (b.behind ∙ ap (λ t. decimal b.a ∷ t) (c.behind ∙ ap (λ t. decimal c.a ∷ t) d.behind))
+      (number_words 65537).takes words a.a b.mid a.given ∙ ap (λ t. decimal a.a ∷ t)
+      (b.behind ∙ ap (λ t. decimal b.a ∷ t) (c.behind ∙ ap (λ t. decimal c.a ∷ t) d.behind))
       ∙ ap (λ r. inset_words r ++ rest) value;
 }
 
-spelt-SetViewportProperties : (s : Script) (o : SessionNo) (words : List Word) (c : Call) → whole (call_form s o SetViewportProperties) words ≡ Ok c → Spelt s SetViewportProperties words c
+spelt-SetViewportProperties : (s : Script) (o : SessionNo) (words : List Word) (c : Call) → whole (call_form s o SetViewportProperties) words ≡ Ok c
+    → Spelt s SetViewportProperties words c
 spelt-SetViewportProperties s o words c is =
     let h : ContentId → ℕ → ℕ → Option Inset → Call = λ x1 x2 x3 x4. call.SetViewportProperties x1 x2 x3 x4 in
     let given = whole_ok (call_form s o SetViewportProperties) words c is in
-    let p4 = split (h <$> content <*> u32 <*> u32) (optional inset) (λ i. option_map_or inset_words i []) words c [] (optional_words inset inset_words inset_spelled) given in
+    let p4 = split (h <$> content <*> u32 <*> u32) (optional inset) (λ i. option_map_or inset_words i []) words c []
+    (optional_words inset inset_words inset_spelled) given in
     let p3 = split (h <$> content <*> u32) u32 (λ n. decimal n ∷ []) words p4.g p4.mid (number_words (2 ^ 32)) p4.first in
     let p2 = split (h <$> content) u32 (λ n. decimal n ∷ []) words p3.g p3.mid (number_words (2 ^ 32)) p3.first in
     let p1 = map_ok h content words p2.g p2.mid p2.first in
     let value : h p1.a p2.a p3.a p4.a ≡ c = steps_4 h p1.a p2.g p2.a p3.g p3.a p4.g p4.a c p1.value p2.value p3.value p4.value in
     let last : p4.mid ≡ option_map_or inset_words p4.a [] = p4.behind ∙ append-nil (option_map_or inset_words p4.a []) in
-    let taken : words ≡ call_fields s (h p1.a p2.a p3.a p4.a) = content_words.takes words p1.a p2.mid p1.given ∙ ap (λ t. decimal p1.a.0 ∷ t) (p2.behind ∙ ap (λ t. decimal p2.a ∷ t) (p3.behind ∙ ap (λ t. decimal p3.a ∷ t) last)) in
+    let taken : words ≡ call_fields s (h p1.a p2.a p3.a p4.a) =
+    content_words.takes words p1.a p2.mid p1.given ∙ ap (λ t. decimal p1.a.0 ∷ t)
+    (p2.behind ∙ ap (λ t. decimal p2.a ∷ t) (p3.behind ∙ ap (λ t. decimal p3.a ∷ t) last)) in
     record { fields = ap (call_fields s) (sym value) ∙ sym taken; named = ap call_name (sym value) }
 
-spelt-ReleaseViewport : (s : Script) (o : SessionNo) (words : List Word) (c : Call) → whole (call_form s o ReleaseViewport) words ≡ Ok c → Spelt s ReleaseViewport words c
+spelt-ReleaseViewport : (s : Script) (o : SessionNo) (words : List Word) (c : Call) → whole (call_form s o ReleaseViewport) words ≡ Ok c
+    → Spelt s ReleaseViewport words c
 spelt-ReleaseViewport s o words c is =
     let h : ContentId → Call = λ x1. call.ReleaseViewport x1 in
     let given = whole_ok (call_form s o ReleaseViewport) words c is in
@@ -630,7 +704,8 @@ pub record ShownCall (s : Script) (o : SessionNo) (name : CallName) (words : Lis
 abbrev pub CallShown : Script → SessionNo → CallName → Type 0
 CallShown s o n = (words : List Word) (c : Call) → whole (call_form s o n) words ≡ Ok c → ShownCall s o n words c
 
-in_full : (s : Script) (o : SessionNo) (n : CallName) → ((words : List Word) (c : Call) → whole (call_form s o n) words ≡ Ok c → Spelt s n words c) → CallShown s o n
+in_full : (s : Script) (o : SessionNo) (n : CallName) → ((words : List Word) (c : Call) → whole (call_form s o n) words ≡ Ok c → Spelt s n words c)
+    → CallShown s o n
 in_full s o n spelt words c is =
     let full = spelt words c is in
     record { fields = shown_whole (whole (call_form s o n)) (call_fields s c) words c full.fields is; named = full.named }
@@ -655,7 +730,8 @@ no_inset_is i is =
     let bottom = sym (is_zero i.bottom sides.2) in
     let left = sym (is_zero i.left sides.3) in
     ap (λ n. record no_inset { top = n }) top ∙ ap (λ n. record no_inset { top = i.top; right = n }) right
-    ∙ ap (λ n. record no_inset { top = i.top; right = i.right; bottom = n }) bottom ∙ ap (λ n. record no_inset { top = i.top; right = i.right; bottom = i.bottom; left = n }) left
+    ∙ ap (λ n. record no_inset { top = i.top; right = i.right; bottom = n }) bottom
+    ∙ ap (λ n. record no_inset { top = i.top; right = i.right; bottom = i.bottom; left = n }) left
 
 -- what the four places before the inset give
 record FrontGiven (s : Script) (o : SessionNo) (x : ContentId) (y : PairNo) (w h : ℕ) : Type 0 where
@@ -668,39 +744,53 @@ record FrontGiven (s : Script) (o : SessionNo) (x : ContentId) (y : PairNo) (w h
 abbrev front_words : Script → ContentId → PairNo → ℕ → ℕ → List Word
 front_words s x y w h = decimal x.0 ∷ pair_word s y ∷ decimal w ∷ decimal h ∷ []
 
-front_again : (s : Script) (o : SessionNo) (x : ContentId) (y : PairNo) (w h : ℕ) → FrontGiven s o x y w h → whole (call_form s o CreateViewport) (front_words s x y w h) ≡ Ok (call.CreateViewport x y w h no_inset)
+front_again : (s : Script) (o : SessionNo) (x : ContentId) (y : PairNo) (w h : ℕ) → FrontGiven s o x y w h
+    → whole (call_form s o CreateViewport) (front_words s x y w h) ≡ Ok (call.CreateViewport x y w h no_inset)
 front_again s o x y w h given =
     let make : ContentId → PairNo → ℕ → ℕ → Option Inset → Call = λ d p m n i. call.CreateViewport d p m n (inset_or_none i) in
     let r : Reading ContentId → Reading PairNo → Reading ℕ → Reading ℕ → Reading Call =
-    λ d p m n. both (λ v (_ : Unit {0}). v) (both (λ g v. g v) (both (λ g v. g v) (both (λ g v. g v) (both (λ g v. g v) (mapped make d) p) m) n) (Ok None)) (Ok tt) in
+    λ d p m n. both (λ v (_ : Unit {0}). v) (both (λ g v. g v) (both (λ g v. g v) (both (λ g v. g v) (both (λ g v. g v) (mapped make d) p) m) n) (Ok None))
+    (Ok tt) in
     ap (λ d. r d (viewport_end s o (pair_word s y ∷ [])).0 (u32 (decimal w ∷ [])).0 (u32 (decimal h ∷ [])).0) given.first
-    ∙ ap (λ p. r (Ok x) p (u32 (decimal w ∷ [])).0 (u32 (decimal h ∷ [])).0) given.second ∙ ap (λ m. r (Ok x) (Ok y) m (u32 (decimal h ∷ [])).0) given.third ∙ ap (λ n. r (Ok x) (Ok y) (Ok w) n) given.fourth
+    ∙ ap (λ p. r (Ok x) p (u32 (decimal w ∷ [])).0 (u32 (decimal h ∷ [])).0) given.second ∙ ap (λ m. r (Ok x) (Ok y) m (u32 (decimal h ∷ [])).0) given.third
+    ∙ ap (λ n. r (Ok x) (Ok y) (Ok w) n) given.fourth
 
-shown_by_test : (s : Script) (o : SessionNo) (words : List Word) (x : ContentId) (y : PairNo) (w h : ℕ) (i : Inset) (b : Bool) → has_no_inset i ≡ b → FrontGiven s o x y w h → words ≡ front_words s x y w h ++ inset_words i
-    → whole (call_form s o CreateViewport) words ≡ Ok (call.CreateViewport x y w h i) → Shown (whole (call_form s o CreateViewport)) (front_words s x y w h ++ cond b [] (inset_words i)) words (call.CreateViewport x y w h i)
+shown_by_test : (s : Script) (o : SessionNo) (words : List Word) (x : ContentId) (y : PairNo) (w h : ℕ) (i : Inset) (b : Bool) → has_no_inset i ≡ b
+    → FrontGiven s o x y w h → words ≡ front_words s x y w h ++ inset_words i
+    → whole (call_form s o CreateViewport) words ≡ Ok (call.CreateViewport x y w h i)
+    → Shown (whole (call_form s o CreateViewport)) (front_words s x y w h ++ cond b [] (inset_words i)) words (call.CreateViewport x y w h i)
 shown_by_test s o words x y w h i true at given taken is = record {
   behind = inset_words i;
   begins = taken;
   again = front_again s o x y w h given ∙ ap (λ j. Ok (call.CreateViewport x y w h j)) (no_inset_is i at);
 }
-shown_by_test s o words x y w h i false at given taken is = shown_whole (whole (call_form s o CreateViewport)) (front_words s x y w h ++ inset_words i) words (call.CreateViewport x y w h i) (sym taken) is
+shown_by_test s o words x y w h i false at given taken is =
+    shown_whole (whole (call_form s o CreateViewport)) (front_words s x y w h ++ inset_words i) words (call.CreateViewport x y w h i) (sym taken) is
 
-shown_by_inset : (s : Script) (o : SessionNo) (words : List Word) (x : ContentId) (y : PairNo) (w h : ℕ) (i : Option Inset) → FrontGiven s o x y w h → words ≡ front_words s x y w h ++ option_map_or inset_words i []
-    → whole (call_form s o CreateViewport) words ≡ Ok (call.CreateViewport x y w h (inset_or_none i)) → ShownCall s o CreateViewport words (call.CreateViewport x y w h (inset_or_none i))
+shown_by_inset : (s : Script) (o : SessionNo) (words : List Word) (x : ContentId) (y : PairNo) (w h : ℕ) (i : Option Inset) → FrontGiven s o x y w h
+    → words ≡ front_words s x y w h ++ option_map_or inset_words i []
+    → whole (call_form s o CreateViewport) words ≡ Ok (call.CreateViewport x y w h (inset_or_none i))
+    → ShownCall s o CreateViewport words (call.CreateViewport x y w h (inset_or_none i))
 shown_by_inset s o words x y w h None given taken is =
-    record { fields = shown_whole (whole (call_form s o CreateViewport)) (front_words s x y w h) words (call.CreateViewport x y w h no_inset) (sym taken) is; named = refl }
-shown_by_inset s o words x y w h (Some i) given taken is = record { fields = shown_by_test s o words x y w h i (has_no_inset i) refl given taken is; named = refl }
+    record {
+      fields = shown_whole (whole (call_form s o CreateViewport)) (front_words s x y w h) words (call.CreateViewport x y w h no_inset) (sym taken) is;
+      named = refl;
+    }
+shown_by_inset s o words x y w h (Some i) given taken is =
+    record { fields = shown_by_test s o words x y w h i (has_no_inset i) refl given taken is; named = refl }
 
 shown-CreateViewport : (s : Script) (o : SessionNo) → CallShown s o CreateViewport
 shown-CreateViewport s o words c is =
     let make : ContentId → PairNo → ℕ → ℕ → Option Inset → Call = λ d p m n i. call.CreateViewport d p m n (inset_or_none i) in
     let given = whole_ok (call_form s o CreateViewport) words c is in
-    let p5 = split (make <$> content <*> viewport_end s o <*> u32 <*> u32) (optional inset) (λ i. option_map_or inset_words i []) words c [] (optional_words inset inset_words inset_spelled) given in
+    let p5 = split (make <$> content <*> viewport_end s o <*> u32 <*> u32) (optional inset) (λ i. option_map_or inset_words i []) words c []
+    (optional_words inset inset_words inset_spelled) given in
     let p4 = apply_ok (make <$> content <*> viewport_end s o <*> u32) u32 words p5.g p5.mid p5.first in
     let p3 = apply_ok (make <$> content <*> viewport_end s o) u32 words p4.g p4.mid p4.first in
     let p2 = apply_ok (make <$> content) (viewport_end s o) words p3.g p3.mid p3.first in
     let p1 = map_ok make content words p2.g p2.mid p2.first in
-    let value : make p1.a p2.a p3.a p4.a p5.a ≡ c = ap (λ g. g p2.a p3.a p4.a p5.a) p1.value ∙ ap (λ g. g p3.a p4.a p5.a) p2.value ∙ ap (λ g. g p4.a p5.a) p3.value ∙ ap (λ g. g p5.a) p4.value ∙ p5.value in
+    let value : make p1.a p2.a p3.a p4.a p5.a ≡ c = ap (λ g. g p2.a p3.a p4.a p5.a) p1.value ∙ ap (λ g. g p3.a p4.a p5.a) p2.value
+    ∙ ap (λ g. g p4.a p5.a) p3.value ∙ ap (λ g. g p5.a) p4.value ∙ p5.value in
     let at1 : words ≡ decimal p1.a.0 ∷ p2.mid = content_words.takes words p1.a p2.mid p1.given in
     let at2 : p2.mid ≡ pair_word s p2.a ∷ p3.mid = (viewport_end_words s o).takes p2.mid p2.a p3.mid p2.second in
     let at3 : p3.mid ≡ decimal p3.a ∷ p4.mid = (number_words (2 ^ 32)).takes p3.mid p3.a p4.mid p3.second in
@@ -724,17 +814,103 @@ AllShown s o [] = Unit {0}
 AllShown s o (n ∷ ns) = CallShown s o n × AllShown s o ns
 
 all_shown : (s : Script) (o : SessionNo) → AllShown s o call_names
-all_shown s o = (in_full s o CreateView (spelt-CreateView s o), (in_full s o ReleaseView (spelt-ReleaseView s o), (in_full s o CreateTransform (spelt-CreateTransform s o), (in_full s o ReleaseTransform (spelt-ReleaseTransform s o), (in_full s o SetTranslation (spelt-SetTranslation s o), (in_full s o SetOrientation (spelt-SetOrientation s o), (in_full s o SetScale (spelt-SetScale s o), (in_full s o SetOpacity (spelt-SetOpacity s o), (in_full s o SetClipBoundary (spelt-SetClipBoundary s o), (in_full s o AddChild (spelt-AddChild s o), (in_full s o RemoveChild (spelt-RemoveChild s o), (in_full s o ReplaceChildren (spelt-ReplaceChildren s o), (in_full s o SetRootTransform (spelt-SetRootTransform s o), (shown-CreateViewport s o, (in_full s o SetViewportProperties (spelt-SetViewportProperties s o), (in_full s o ReleaseViewport (spelt-ReleaseViewport s o), (in_full s o CreateImage (spelt-CreateImage s o), (in_full s o SetImageSampleRegion (spelt-SetImageSampleRegion s o), (in_full s o SetImageDestinationSize (spelt-SetImageDestinationSize s o), (in_full s o SetImageBlendingFunction (spelt-SetImageBlendingFunction s o), (in_full s o SetImageFlip (spelt-SetImageFlip s o), (in_full s o SetImageOpacity (spelt-SetImageOpacity s o), (in_full s o ReleaseImage (spelt-ReleaseImage s o), (in_full s o CreateFilledRect (spelt-CreateFilledRect s o), (in_full s o SetSolidFill (spelt-SetSolidFill s o), (in_full s o ReleaseFilledRect (spelt-ReleaseFilledRect s o), (in_full s o SetHitRegions (spelt-SetHitRegions s o), (in_full s o SetInfiniteHitRegion (spelt-SetInfiniteHitRegion s o), (in_full s o SetContent (spelt-SetContent s o), (in_full s o Clear (spelt-Clear s o), tt))))))))))))))))))))))))))))))
+all_shown s o = (
+  in_full s o CreateView (spelt-CreateView s o),
+  (
+    in_full s o ReleaseView (spelt-ReleaseView s o),
+    (
+      in_full s o CreateTransform (spelt-CreateTransform s o),
+      (
+        in_full s o ReleaseTransform (spelt-ReleaseTransform s o),
+        (
+          in_full s o SetTranslation (spelt-SetTranslation s o),
+          (
+            in_full s o SetOrientation (spelt-SetOrientation s o),
+            (
+              in_full s o SetScale (spelt-SetScale s o),
+              (
+                in_full s o SetOpacity (spelt-SetOpacity s o),
+                (
+                  in_full s o SetClipBoundary (spelt-SetClipBoundary s o),
+                  (
+                    in_full s o AddChild (spelt-AddChild s o),
+                    (
+                      in_full s o RemoveChild (spelt-RemoveChild s o),
+                      (
+                        in_full s o ReplaceChildren (spelt-ReplaceChildren s o),
+                        (
+                          in_full s o SetRootTransform (spelt-SetRootTransform s o),
+                          (
+                            shown-CreateViewport s o,
+                            (
+                              in_full s o SetViewportProperties (spelt-SetViewportProperties s o),
+                              (
+                                in_full s o ReleaseViewport (spelt-ReleaseViewport s o),
+                                (
+                                  in_full s o CreateImage (spelt-CreateImage s o),
+                                  (
+                                    in_full s o SetImageSampleRegion (spelt-SetImageSampleRegion s o),
+                                    (
+                                      in_full s o SetImageDestinationSize (spelt-SetImageDestinationSize s o),
+                                      (
+                                        in_full s o SetImageBlendingFunction (spelt-SetImageBlendingFunction s o),
+                                        (
+                                          in_full s o SetImageFlip (spelt-SetImageFlip s o),
+                                          (
+                                            in_full s o SetImageOpacity (spelt-SetImageOpacity s o),
+                                            (
+                                              in_full s o ReleaseImage (spelt-ReleaseImage s o),
+                                              (
+                                                in_full s o CreateFilledRect (spelt-CreateFilledRect s o),
+                                                (
+                                                  in_full s o SetSolidFill (spelt-SetSolidFill s o),
+                                                  (
+                                                    in_full s o ReleaseFilledRect (spelt-ReleaseFilledRect s o),
+                                                    (
+                                                      in_full s o SetHitRegions (spelt-SetHitRegions s o),
+                                                      (
+                                                        in_full s o SetInfiniteHitRegion (spelt-SetInfiniteHitRegion s o),
+                                                        (in_full s o SetContent (spelt-SetContent s o), (in_full s o Clear (spelt-Clear s o), tt)),
+                                                      ),
+                                                    ),
+                                                  ),
+                                                ),
+                                              ),
+                                            ),
+                                          ),
+                                        ),
+                                      ),
+                                    ),
+                                  ),
+                                ),
+                              ),
+                            ),
+                          ),
+                        ),
+                      ),
+                    ),
+                  ),
+                ),
+              ),
+            ),
+          ),
+        ),
+      ),
+    ),
+  ),
+)
 
 shown_at : (s : Script) (o : SessionNo) (n m : CallName) → m ≡ n → CallShown s o m → CallShown s o n
 shown_at s o n m e spelt = let P : CallName → Type 0 = CallShown s o in subst P e spelt
 
-found_by : (s : Script) (o : SessionNo) (p : CallName → Bool) (b : Bool) (m n : CallName) (more : Option CallName) → p m ≡ b → CallShown s o m → (more ≡ Some n → CallShown s o n × (p n ≡ true)) → cond b (Some m) more ≡ Some n
+found_by : (s : Script) (o : SessionNo) (p : CallName → Bool) (b : Bool) (m n : CallName) (more : Option CallName) → p m ≡ b → CallShown s o m
+    → (more ≡ Some n → CallShown s o n × (p n ≡ true)) → cond b (Some m) more ≡ Some n
     → CallShown s o n × (p n ≡ true)
 found_by s o p true m n more passed spelt rest is = let e : m ≡ n = cc in (shown_at s o n m e spelt, ap p (sym e) ∙ passed)
 found_by s o p false m n more wrong spelt rest is = rest is
 
-find_shown : (s : Script) (o : SessionNo) (p : CallName → Bool) (ns : List CallName) (n : CallName) → AllShown s o ns → find p ns ≡ Some n → CallShown s o n × (p n ≡ true)
+find_shown : (s : Script) (o : SessionNo) (p : CallName → Bool) (ns : List CallName) (n : CallName) → AllShown s o ns → find p ns ≡ Some n
+    → CallShown s o n × (p n ≡ true)
 find_shown s o p [] n all is = absurd (cc)
 find_shown s o p (m ∷ ns) n all is = found_by s o p (p m) m n (find p ns) refl all.0 (λ more. find_shown s o p ns n all.1 more) is
 
@@ -743,7 +919,8 @@ pub record NamedCall (s : Script) (o : SessionNo) (w : Word) (n : CallName) (wor
   pub fields : Shown (whole (call_form s o n)) (call_fields s c) words c
   pub word : text (call_name c) ≡ w
 
-pub call_shown : (s : Script) (o : SessionNo) (w : Word) (n : CallName) → call_named s.version w ≡ Some n → (words : List Word) (c : Call) → whole (call_form s o n) words ≡ Ok c → NamedCall s o w n words c
+pub call_shown : (s : Script) (o : SessionNo) (w : Word) (n : CallName) → call_named s.version w ≡ Some n → (words : List Word) (c : Call)
+    → whole (call_form s o n) words ≡ Ok c → NamedCall s o w n words c
 call_shown s o w n named words c is =
     let found = find_shown s o (λ m. bytes_eq w (text m)) call_names n (all_shown s o) (written_by (knows s.version w) named) in
     let shown = found.0 words c is in

@@ -120,7 +120,8 @@ call_fields s (call.AddChild p k) = numbers (p.0 ∷ k.0 ∷ [])
 call_fields s (call.RemoveChild p k) = numbers (p.0 ∷ k.0 ∷ [])
 call_fields s (call.ReplaceChildren p ks) = decimal p.0 ∷ map (λ k. decimal k.0) ks
 call_fields s (call.SetRootTransform t) = numbers (t.0 ∷ [])
-call_fields s (call.CreateViewport c p w h i) = decimal c.0 ∷ pair_word s p ∷ numbers (w ∷ h ∷ []) ++ inset_unless_none i
+call_fields s (call.CreateViewport c p w h i) =
+    decimal c.0 ∷ pair_word s p ∷ numbers (w ∷ h ∷ []) ++ inset_unless_none i
 call_fields s (call.SetViewportProperties c w h i) = numbers (c.0 ∷ w ∷ h ∷ []) ++ option_map_or inset_words i []
 call_fields s (call.ReleaseViewport c) = numbers (c.0 ∷ [])
 call_fields s (call.CreateImage c b i w h) = decimal c.0 ∷ buffers_word s b ∷ numbers (i ∷ w ∷ h ∷ [])
@@ -270,7 +271,8 @@ name_words keyword name = keyword ∷ name ∷ []
 
 -- the buffer collection of that number
 abbrev pub buffers_line_words : Script → ℕ → BufferDecl → List Word
-buffers_line_words s i d = codes "buffers" ∷ name_at s.buffers i ∷ session_word s d.owner ∷ numbers (d.count ∷ d.w ∷ d.h ∷ [])
+buffers_line_words s i d = codes "buffers" ∷ name_at s.buffers i ∷ session_word s d.owner
+    ∷ numbers (d.count ∷ d.w ∷ d.h ∷ [])
 
 -- the pair of that number
 abbrev pub pair_line_words : Script → ℕ → PairDecl → List Word

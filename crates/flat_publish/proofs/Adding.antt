@@ -18,7 +18,8 @@ moved xs ys n = Unit {0}
 
 pub adds_goes : (log v : List Frame) (f : Frame) (old new : ℕ) → last_number v ≡ old → new ≡ f.number.0 → old < new → IsRising log → IsPrefix v log
     → (b : Bool) → (last_number log == old) ≡ b
-    → Goes IsKept shown moved 0 (v, (no_nib, None)) (λ n. either (n == old) new n) (Adds (step 0 old new f) (v, (no_nib, None))) ((last_number log, true) ∷ (0, true) ∷ []) log
+    → Goes IsKept shown moved 0 (v, (no_nib, None)) (λ n. either (n == old) new n) (Adds (step 0 old new f) (v, (no_nib, None)))
+    ((last_number log, true) ∷ (0, true) ∷ []) log
 adds_goes log v f old new at to lt rising pre true is =
     let here : last_number log ≡ old = grind (arith, nat_tests) in
     let same : v ≡ log = same_last None v log pre rising (omega (arith, here, at)) in
@@ -47,7 +48,8 @@ adds_goes log v f old new at to lt rising pre false is =
 pub adds_moves : (v : List Frame) (f : Frame) (old new : ℕ) → last_number v ≡ old → new ≡ f.number.0 → old < new
     → Moves IsKept shown moved 0 (v, (no_nib, None)) (λ n. either (n == old) new n) (Adds (step 0 old new f) (v, (no_nib, None)))
 adds_moves v f old new at to lt cs log kept pre away =
-    let P : List Cell → Type 0 = λ c. (0 < length c) × ((cell c 0).1 ≡ true) × Goes IsKept shown moved 0 (v, (no_nib, None)) (λ n. either (n == old) new n) (Adds (step 0 old new f) (v, (no_nib, None))) c log in
+    let P : List Cell → Type 0 = λ c. (0 < length c) × ((cell c 0).1 ≡ true)
+    × Goes IsKept shown moved 0 (v, (no_nib, None)) (λ n. either (n == old) new n) (Adds (step 0 old new f) (v, (no_nib, None))) c log in
     subst P (sym kept.words) (omega arith, refl, adds_goes log v f old new at to lt kept.rising pre (last_number log == old) refl)
 
 -- what is told where the number found is the one asked for

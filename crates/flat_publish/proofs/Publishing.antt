@@ -1,5 +1,6 @@
 -- What a publish leaves, where it was done and where it was refused.
-use Rattle.std.proofs.Common.{◌≡◌, ◌⊎◌, List, [], ◌∷◌, ◌++◌, length, drop, Result, Ok, Err, OnOk, OnErr, inl, inr, refl, ap, sym, ◌∙◌, subst, append_assoc, le_refl, ℕ, Some}
+use Rattle.std.proofs.Common.{◌≡◌, ◌⊎◌, List, [], ◌∷◌, ◌++◌, length, drop, Result, Ok, Err, OnOk, OnErr, inl, inr, refl, ap, sym, ◌∙◌, subst, append_assoc}
+use Rattle.std.proofs.Common.{le_refl, ℕ, Some}
 use mathlib.Core.List.{IsPrefix}
 use Rattle.flat_publish.specs.declared.frame.Frame.{Frame}
 use Rattle.flat_publish.proofs.lemmas.Beginnings.{prefix_self, prefix_trans, prefix_rest, drop_whole, drop_more}

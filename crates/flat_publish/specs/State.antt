@@ -22,7 +22,8 @@ newcomer home = record { home = home; frames = [] }
 
 -- A frame was refused: it is forgotten, or stays for the next publish.
 abbrev pub Refuses : Publishing → Frame → Publishing → Type 0
-Refuses old frame new = (new.frames ≡ old.frames) × ((new.refused ≡ old.refused) ⊎ (new.refused ≡ old.refused ++ frame ∷ []))
+Refuses old frame new = (new.frames ≡ old.frames)
+    × ((new.refused ≡ old.refused) ⊎ (new.refused ≡ old.refused ++ frame ∷ []))
 
 -- A frame was published, behind those that were refused.
 abbrev pub Publishes : Publishing → Frame → Publishing → Type 0

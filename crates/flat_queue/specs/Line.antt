@@ -25,7 +25,10 @@ ready_of time is_signalled = take_while (λ kept. is_ready time is_signalled kep
 
 -- one more waits
 abbrev pub pushed : {T : Type 0} → Line T → T → PresentArgs → Line T
-pushed line item args = record { taken = line.taken; waiting = line.waiting ++ record { item = item; args = args } ∷ [] }
+pushed line item args = record {
+  taken = line.taken;
+  waiting = line.waiting ++ record { item = item; args = args } ∷ [];
+}
 
 -- The first was taken, and this is it.
 pub record TakesFirst {T : Type 0} (present : WaitingPresent T) (old new : Line T) : Type 0 where

@@ -1,5 +1,6 @@
 -- Frames as they are published: their numbers, and who is hit in them.
-use Rattle.std.proofs.Common.{◌≡◌, inl, inr, ℕ, ℤ, zero, suc, ◌+◌, ◌≤◌, ◌==◌, Bool, true, false, cond, List, [], ◌∷◌, ◌++◌, length, map, Option, Some, None, refl, sym, ap, ◌∙◌, subst, arith, append-nil, eq-or-lt_of_le}
+use Rattle.std.proofs.Common.{◌≡◌, inl, inr, ℕ, ℤ, zero, suc, ◌+◌, ◌≤◌, ◌==◌, Bool, true, false, cond, List, [], ◌∷◌, ◌++◌, length, map, Option, Some, None}
+use Rattle.std.proofs.Common.{refl, sym, ap, ◌∙◌, subst, arith, append-nil, eq-or-lt_of_le}
 use Rattle.std.proofs.lemmas.Bool.Decides.{nat_tests}
 use Rattle.flat_base.specs.declared.ids.SessionNo.{SessionNo}
 use Rattle.flat_scene.specs.declared.journal.Entry.{Entry}
@@ -43,7 +44,8 @@ nobody-hit setup x y = ap (λ (tree : JoinedTree). hits_among (placed_in (displa
 -- ---- the frames of a history
 
 module _ (setup : Setup) where
-  one-behind : (before : List Entry) (entry : Entry) (b : Bool) → is_finish entry.kind ≡ b → published_frames setup (before ▹ entry) ≡ published_frames setup before ++ cond b (shown_frame setup (suc (frames before)) (to_begin before) ∷ []) []
+  one-behind : (before : List Entry) (entry : Entry) (b : Bool) → is_finish entry.kind ≡ b
+      → published_frames setup (before ▹ entry) ≡ published_frames setup before ++ cond b (shown_frame setup (suc (frames before)) (to_begin before) ∷ []) []
   one-behind before entry b is = ap (λ b. published_frames setup before ++ cond b (shown_frame setup (suc (frames before)) (to_begin before) ∷ []) []) is
 
   none-behind : (before : List Entry) (entry : Entry) → is_finish entry.kind ≡ false → published_frames setup (before ▹ entry) ≡ published_frames setup before
@@ -64,7 +66,8 @@ module _ (setup : Setup) where
       let all = one-behind before entry true is in
       let next : Frame = shown_frame setup (suc (frames before)) (to_begin before) in
       let grown = frames_more before entry true is in
-      let last : last_number (published_frames setup (before ▹ entry)) ≡ suc (frames before) = ap last_number all ∙ ap number_of (last_snoc None (published_frames setup before) next) in
+      let last : last_number (published_frames setup (before ▹ entry)) ≡ suc (frames before) =
+      ap last_number all ∙ ap number_of (last_snoc None (published_frames setup before) next) in
       let number = was.last in
       record {
         last = omega (arith, last, grown);
@@ -82,7 +85,8 @@ module _ (setup : Setup) where
   published-rise history = (counts history).rise
 
   -- the last one of a history
-  last-hits : (before : List Entry) (entry : Entry) → is_finish entry.kind ≡ true → (n : ℕ) (x y : ℤ) → n ≡ suc (frames before) → hits_of (published_frames setup (before ▹ entry)) n x y ≡ hits_in_frame setup (before ▹ entry) n x y
+  last-hits : (before : List Entry) (entry : Entry) → is_finish entry.kind ≡ true → (n : ℕ) (x y : ℤ) → n ≡ suc (frames before)
+      → hits_of (published_frames setup (before ▹ entry)) n x y ≡ hits_in_frame setup (before ▹ entry) n x y
   last-hits before entry is n x y at =
       let all = one-behind before entry true is in
       let next : Frame = shown_frame setup (suc (frames before)) (to_begin before) in
@@ -112,11 +116,13 @@ module _ (setup : Setup) where
             let within : n ≤ frames before = omega (arith, less) in
             let c = counts before in
             let last = c.last in
-            sym (hits-later (published_frames setup before) (published_frames setup (before ▹ entry)) n x y (next ∷ [], sym (one-behind before entry true is)) (counts (before ▹ entry)).rise (omega (arith, within, last)))
+            sym (hits-later (published_frames setup before) (published_frames setup (before ▹ entry)) n x y (next ∷ [], sym (one-behind before entry true is))
+            (counts (before ▹ entry)).rise (omega (arith, within, last)))
             ∙ was within ∙ ap (λ h. hits_at setup h x y) (sym (begin-stays n before entry within))
       ]
 
   -- who is hit in them is who is hit in the history's frames
-  pub published-hits : (history : List Entry) (n : ℕ) (x y : ℤ) → n ≤ frames history → hits_of (published_frames setup history) n x y ≡ hits_in_frame setup history n x y
+  pub published-hits : (history : List Entry) (n : ℕ) (x y : ℤ) → n ≤ frames history
+      → hits_of (published_frames setup history) n x y ≡ hits_in_frame setup history n x y
   published-hits [] n x y low = sym (nobody-hit setup x y)
   published-hits (before ▹ entry) n x y low = one-more-hits before entry (is_finish entry.kind) refl n x y low (λ low'. published-hits before n x y low')

@@ -1,5 +1,6 @@
 -- Settled answers are answers by the frames that are published.
-use Rattle.std.proofs.Common.{◌≡◌, ℕ, ℤ, zero, suc, ◌<◌, ◌≤◌, Bool, true, false, cond, nat_le, List, [], ◌∷◌, ◌++◌, length, map, take, drop, slice_get, slice_set, Some, refl, sym, ap, ◌∙◌, subst, arith}
+use Rattle.std.proofs.Common.{◌≡◌, ℕ, ℤ, zero, suc, ◌<◌, ◌≤◌, Bool, true, false, cond, nat_le, List, [], ◌∷◌, ◌++◌, length, map, take, drop, slice_get}
+use Rattle.std.proofs.Common.{slice_set, Some, refl, sym, ap, ◌∙◌, subst, arith}
 use Rattle.std.specs.List.{list_all, zip}
 use Rattle.std.proofs.lemmas.Bool.Decides.{nat_tests}
 use Rattle.flat_base.proofs.lemmas.Tests.{and-left, and-right, and-true}
@@ -85,7 +86,8 @@ same-asked : (hits hits' : ℤ → ℤ → List Hit) → ((x y : ℤ) → hits x
 same-asked hits hits' same (probe.Hit x y) = same x y
 same-asked hits hits' same (probe.Await n) = refl
 
-module _ (hits hits' : ℕ → ℤ → ℤ → List Hit) (last : ℕ) (shown : ℤ → ℤ → List Hit) (agree : (n : ℕ) → n ≤ last → (x y : ℤ) → hits n x y ≡ hits' n x y) (shows : (x y : ℤ) → shown x y ≡ hits' last x y) where
+module _ (hits hits' : ℕ → ℤ → ℤ → List Hit) (last : ℕ) (shown : ℤ → ℤ → List Hit) (agree : (n : ℕ) → n ≤ last → (x y : ℤ) → hits n x y ≡ hits' n x y)
+    (shows : (x y : ℤ) → shown x y ≡ hits' last x y) where
   abbrev settle : ProbeAnswer → ProbeAnswer
   settle = settled last shown
 
@@ -104,14 +106,28 @@ module _ (hits hits' : ℕ → ℤ → ℤ → List Hit) (last : ℕ) (shown : �
   settle-one : (line : ScriptLine) (n : ℕ) → settle (answer_by hits (line, n)) ≡ answer_by hits' (line, lower n)
   settle-one line n = by (nat_le n last) refl
     where
-      by : (b : Bool) → nat_le n last ≡ b → cond b (answer_by hits (line, n)) (by_last last shown (answer_by hits (line, n))) ≡ answer_by hits' (line, cond b n last)
+      by : (b : Bool) → nat_le n last ≡ b → cond b (answer_by hits (line, n)) (by_last last shown (answer_by hits (line, n)))
+          ≡ answer_by hits' (line, cond b n last)
       by true is =
           let low : n ≤ last = grind (arith, nat_tests) in
-          λ i. record { actor = line.actor; line = line.number; asked = asked_by line.body; frame = record { 0 = n }; hits = same-asked (hits n) (hits' n) (λ x y. agree n low x y) (asked_by line.body) i }
+          λ i. record {
+            actor = line.actor;
+            line = line.number;
+            asked = asked_by line.body;
+            frame = record { 0 = n };
+            hits = same-asked (hits n) (hits' n) (λ x y. agree n low x y) (asked_by line.body) i;
+          }
       by false is =
-          λ i. record { actor = line.actor; line = line.number; asked = asked_by line.body; frame = record { 0 = last }; hits = same-asked shown (hits' last) shows (asked_by line.body) i }
+          λ i. record {
+            actor = line.actor;
+            line = line.number;
+            asked = asked_by line.body;
+            frame = record { 0 = last };
+            hits = same-asked shown (hits' last) shows (asked_by line.body) i;
+          }
 
-  settle-all : (lines : List ScriptLine) (seen : List ℕ) → map settle (map (answer_by hits) (zip lines seen)) ≡ map (answer_by hits') (zip lines (map lower seen))
+  settle-all : (lines : List ScriptLine) (seen : List ℕ)
+      → map settle (map (answer_by hits) (zip lines seen)) ≡ map (answer_by hits') (zip lines (map lower seen))
   settle-all [] seen = refl
   settle-all (line ∷ lines) [] = refl
   settle-all (line ∷ lines) (n ∷ seen) = λ i. settle-one line n i ∷ settle-all lines seen i
@@ -150,10 +166,12 @@ module _ (hits hits' : ℕ → ℤ → ℤ → List Hit) (last : ℕ) (shown : �
 
   from-none : (seen : List ℕ) → never_fall_from 0 seen ≡ true → never_fall_from 0 (map lower seen) ≡ true
   from-none [] rise = refl
-  from-none (n ∷ seen) rise = and-true (let least : nat_le 0 (lower n) ≡ true = grind (arith, nat_tests) in least) (still-rise n seen (and-right (nat_le 0 n) _ rise))
+  from-none (n ∷ seen) rise = and-true (let least : nat_le 0 (lower n) ≡ true = grind (arith, nat_tests) in least)
+      (still-rise n seen (and-right (nat_le 0 n) _ rise))
 
   -- answers by some frames, settled, are answers by those that agree with them up to the last one
-  pub settled-answers : (top : ℕ) (lines : List ScriptLine) (answers : List ProbeAnswer) → AreAnsweredBy hits top lines answers → AreAnsweredBy hits' last lines (map (settled last shown) answers)
+  pub settled-answers : (top : ℕ) (lines : List ScriptLine) (answers : List ProbeAnswer) → AreAnsweredBy hits top lines answers
+      → AreAnsweredBy hits' last lines (map (settled last shown) answers)
   settled-answers top lines answers was =
       let seen = seen-lower answers in
       record {
@@ -166,7 +184,8 @@ module _ (hits hits' : ℕ → ℤ → ℤ → List Hit) (last : ℕ) (shown : �
 -- ---- what is published last
 
 -- whatever is joined of the last frame, it is published last
-pub last-stays : (setup : Setup) (old new : LastFrame) (was now : Publishing) → StaysLast setup old new → now ≡ was → LastIsPublished setup old was → LastIsPublished setup new now
+pub last-stays : (setup : Setup) (old new : LastFrame) (was now : Publishing) → StaysLast setup old new → now ≡ was → LastIsPublished setup old was
+    → LastIsPublished setup new now
 last-stays setup old new was now stays same is =
     let P : Publishing → Type 0 = LastIsPublished setup new in
     subst P (sym same) (record {
@@ -175,7 +194,8 @@ last-stays setup old new was now stays same is =
     })
 
 -- behind all lines of the display
-pub last-published-is : (script : Script) (history : List Entry) (last : LastFrame) (published : Publishing) → last.frame.0 ≡ frames history → last.reuse ≡ shown_states script.setup (to_finished history) → last.ratio ≡ ratio script.setup (to_finished history)
+pub last-published-is : (script : Script) (history : List Entry) (last : LastFrame) (published : Publishing) → last.frame.0 ≡ frames history
+    → last.reuse ≡ shown_states script.setup (to_finished history) → last.ratio ≡ ratio script.setup (to_finished history)
     → published.frames ≡ published_frames script.setup history → LastIsPublished script.setup last published
 last-published-is script history last published number shows scales are =
     let counted : last_number published.frames ≡ frames history = ap last_number are ∙ last-published script.setup history in

@@ -7,7 +7,8 @@ use Rattle.flat_actors.specs.OwnLines.{own_places}
 
 -- Each of these lists, from one on, has the places of its session: the first those of session 1.
 pub record ArePlaces (lines : List ScriptLine) (first : ℕ) (places : List (List ℕ)) : Type 0 where
-  pub each : (k : ℕ) (own : List ℕ) → first ≤ k → slice_get places k ≡ Some own → own ≡ own_places (record { 0 = k + 1 }) lines
+  pub each : (k : ℕ) (own : List ℕ) → first ≤ k → slice_get places k ≡ Some own
+      → own ≡ own_places (record { 0 = k + 1 }) lines
 
 -- the lists with the place of one line more of an actor
 abbrev pub noted : Actor → ℕ → List (List ℕ) → List (List ℕ)

@@ -22,4 +22,5 @@ settled last hits answer = cond (nat_le answer.frame.0 last) answer (by_last las
 -- What is published last is the last finished frame: it has its number, and hits whom that hits.
 pub record LastIsPublished (setup : Setup) (last : LastFrame) (published : publish.Publishing) : Type 0 where
   pub number : last.frame.0 ≡ last_number published.frames
-  pub hits : (x y : ℤ) → hit_list (at_ratio last.ratio setup) last.reuse x y ≡ hits_of published.frames (last_number published.frames) x y
+  pub hits : (x y : ℤ) → hit_list (at_ratio last.ratio setup) last.reuse x y
+      ≡ hits_of published.frames (last_number published.frames) x y

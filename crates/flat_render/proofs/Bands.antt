@@ -24,7 +24,8 @@ step-none c item px py was e = rw e refl
 
 module _ (area : Area) (items seen : List DrawItem) where
   -- one item more that may be seen
-  pub seen-more : (i : ℕ) (d : DrawItem) → i < length items → IsDrawable (get_or items i d) → IsSeenIn area (take i items) seen → IsSeenIn area (take (i + 1) items) (seen ++ get_or items i d ∷ [])
+  pub seen-more : (i : ℕ) (d : DrawItem) → i < length items → IsDrawable (get_or items i d) → IsSeenIn area (take i items) seen
+      → IsSeenIn area (take (i + 1) items) (seen ++ get_or items i d ∷ [])
   seen-more i d within drawable is = record {
     drawable = All-append IsDrawable seen (get_or items i d ∷ []) is.drawable (All-cons IsDrawable (get_or items i d) [] drawable (All-nil IsDrawable));
     same = λ c px py old there.
@@ -51,15 +52,18 @@ some-item (item ∷ items) i within = item
 
 -- the bytes of a tile in its row
 module _ (g : Grid) (is : IsGrid g) (row n : ℕ) (column : n < g.across) where
-  pub tile-of-row : (items : List DrawItem) (m : ℕ) → m < tile_bytes g → drawn_in (tile_of g (row * g.across + n)) items m ≡ drawn_at g items (row * band_bytes g + (n * tile_bytes g + m))
+  pub tile-of-row : (items : List DrawItem) (m : ℕ) → m < tile_bytes g
+      → drawn_in (tile_of g (row * g.across + n)) items m ≡ drawn_at g items (row * band_bytes g + (n * tile_bytes g + m))
   tile-of-row items m small =
       let place : (row * g.across + n) * tile_bytes g + m ≡ row * band_bytes g + (n * tile_bytes g + m) = grind arith in
       ap (λ (k : ℕ). drawn_in (tile_of g k) items m) (sym (div-mul-add (row * g.across + n) (tile_bytes g) m small))
-      ∙ ap (λ (k : ℕ). drawn_in (tile_of g (((row * g.across + n) * tile_bytes g + m) / tile_bytes g)) items k) (sym (mod-mul-add (row * g.across + n) (tile_bytes g) m small))
+      ∙ ap (λ (k : ℕ). drawn_in (tile_of g (((row * g.across + n) * tile_bytes g + m) / tile_bytes g)) items k)
+      (sym (mod-mul-add (row * g.across + n) (tile_bytes g) m small))
       ∙ ap (λ (i : ℕ). drawn_at g items i) place
 
 -- drawn by what is seen in a tile, each of its bytes is what it is by all items
-pub seen-drawn-in : (tile : Tile) (items seen : List DrawItem) (m : ℕ) → IsTile tile → IsSeenIn (tile_area tile) items seen → drawn_in tile seen m ≡ drawn_in tile items m
+pub seen-drawn-in : (tile : Tile) (items seen : List DrawItem) (m : ℕ) → IsTile tile → IsSeenIn (tile_area tile) items seen
+    → drawn_in tile seen m ≡ drawn_in tile items m
 seen-drawn-in tile items seen m is seen_is = seen_is.same (channel_at tile m) (x_at tile m) (y_at tile m) 0 (tile-has-byte tile m is (some-pixels tile is))
 
 -- a part of what is black is black
@@ -97,7 +101,8 @@ tile-in-grid g n s all is there size whole =
     (omega (arith, fits, same), omega (arith, is.most))
 
 -- the bytes of a row of tiles end within those that are stored, which a number holds
-pub band-in-grid : (g : Grid) (row size all : ℕ) → IsGrid g → row < g.down → size ≡ band_bytes g → all ≡ grid_bytes g → (row * size + size ≤ all) × (all < 2 ^ 28)
+pub band-in-grid : (g : Grid) (row size all : ℕ) → IsGrid g → row < g.down → size ≡ band_bytes g → all ≡ grid_bytes g
+    → (row * size + size ≤ all) × (all < 2 ^ 28)
 band-in-grid g row size all is there size_is whole =
     let fits : row * size + size ≤ g.down * size = row_fits row size g.down size there (omega arith) in
     let same : g.down * size ≡ grid_bytes g = ap (λ (m : ℕ). g.down * m) size_is ∙ sym (whole-bands g) in

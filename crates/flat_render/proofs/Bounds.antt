@@ -1,5 +1,6 @@
 -- Bounds of pixels and of parts.
-use Rattle.std.proofs.Common.{ℕ, ℤ, pos, ◌+◌, ◌*◌, ◌/◌, ◌%◌, ◌<◌, ◌≡◌, ◌-ℤ◌, ◌<ℤ◌, ◌≤ℤ◌, Bool, true, false, not, ◌&&◌, nat_lt, nat_le, int_lt, int_le, unsigned_abs, if◌then◌else◌, FitsSigned, w64, to_z, of_z, ap, ◌∙◌, sym, arith}
+use Rattle.std.proofs.Common.{ℕ, ℤ, pos, ◌+◌, ◌*◌, ◌/◌, ◌%◌, ◌<◌, ◌≡◌, ◌-ℤ◌, ◌<ℤ◌, ◌≤ℤ◌, Bool, true, false, not, ◌&&◌, nat_lt, nat_le, int_lt, int_le}
+use Rattle.std.proofs.Common.{unsigned_abs, if◌then◌else◌, FitsSigned, w64, to_z, of_z, ap, ◌∙◌, sym, arith}
 use Rattle.std.proofs.lemmas.Int.{ints, to_z-of_z}
 use Rattle.std.proofs.lemmas.Nat.{div_below, mod_below, div-add-mod', div-mul-add, mul-add-lt}
 use Rattle.std.proofs.lemmas.Bool.Decides.{nat_tests}

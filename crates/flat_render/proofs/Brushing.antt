@@ -19,7 +19,8 @@ use Rattle.flat_render.specs.declared.texture.Texture.{Texture}
 use Rattle.flat_render.proofs.Covered.{fill-ink, texture-ink}
 
 -- a channel of a fill
-pub even-ink : (c : ℕ) (item : DrawItem) (rgba : List ℕ) (mix : Mix) (ink : Ink) (cut : Area) → item.paint ≡ Fill rgba → mix ≡ mix_of item.blend item.opacity (slice_index rgba 3)
+pub even-ink : (c : ℕ) (item : DrawItem) (rgba : List ℕ) (mix : Mix) (ink : Ink) (cut : Area) → item.paint ≡ Fill rgba
+    → mix ≡ mix_of item.blend item.opacity (slice_index rgba 3)
     → ink ≡ record { shade = Even (tone item.blend item.opacity (slice_index rgba c)); mix = mix } → IsInk c item cut ink
 even-ink c item rgba mix ink cut fill mixes e =
     subst (λ (i : Ink). IsInk c item cut i) (sym e) (record {
@@ -28,10 +29,12 @@ even-ink c item rgba mix ink cut fill mixes e =
     })
 
 -- a channel of an image
-pub shade-ink : (c : ℕ) (item : DrawItem) (t : Texture) (cut : Area) (shade : Shade) (mix : Mix) (s : ℕ → ℕ → ℕ) → IsTextureOf item t → IsShade shade → mix ≡ mix_of item.blend item.opacity 255
+pub shade-ink : (c : ℕ) (item : DrawItem) (t : Texture) (cut : Area) (shade : Shade) (mix : Mix) (s : ℕ → ℕ → ℕ) → IsTextureOf item t → IsShade shade
+    → mix ≡ mix_of item.blend item.opacity 255
     → ((px py : ℕ) → has_pixel cut px py ≡ true → shade_at shade (px - cut.x0) (py - cut.y0) ≡ tone t.blend t.opacity (s px py))
     → ((px py : ℕ) → s px py
-    ≡ slice_index (texel_of t.buffers t.index (buffer_column t.columns t.sample t.flip (if t.swap then py else px)) (buffer_row t.rows t.sample t.flip (if t.swap then px else py))) c)
+    ≡ slice_index (texel_of t.buffers t.index (buffer_column t.columns t.sample t.flip (if t.swap then py else px))
+    (buffer_row t.rows t.sample t.flip (if t.swap then px else py))) c)
     → IsInk c item cut (record { shade = shade; mix = mix })
 shade-ink c item t cut shade mix s is whole mixes values texels = record {
   shade = whole;

@@ -21,7 +21,8 @@ first-is : (items : List DrawItem) (p : ℕ) (places : List ℕ) → AreNumbers 
 first-is items p places are = are 0 0 (omega arith)
 
 -- the first one, and the others behind it
-cut-first : (items : List DrawItem) (p : ℕ) (places : List ℕ) (d : DrawItem) → p < length items → chosen items (p ∷ places) ≡ get_or items p d ∷ chosen items places
+cut-first : (items : List DrawItem) (p : ℕ) (places : List ℕ) (d : DrawItem) → p < length items
+    → chosen items (p ∷ places) ≡ get_or items p d ∷ chosen items places
 cut-first items p places d small = ap (λ (one : List DrawItem). one ++ chosen items places) (one-there items p d small)
 
 pub chosen-length : (items : List DrawItem) (places : List ℕ) → AreNumbers items places → length (chosen items places) ≡ length places

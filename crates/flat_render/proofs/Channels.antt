@@ -12,7 +12,8 @@ step-channels item px py a b c = by_test (covers item px py) where
   all = unfold painted in unfold channel_painted in refl
 
   by_test : (t : Bool) → (if t then painted item px py (a ∷ b ∷ c ∷ []) else a ∷ b ∷ c ∷ [])
-      ≡ (if t then channel_painted 0 item px py a else a) ∷ (if t then channel_painted 1 item px py b else b) ∷ (if t then channel_painted 2 item px py c else c) ∷ []
+      ≡ (if t then channel_painted 0 item px py a else a) ∷ (if t then channel_painted 1 item px py b else b)
+      ∷ (if t then channel_painted 2 item px py c else c) ∷ []
   by_test true = all
   by_test false = refl
 
@@ -24,6 +25,7 @@ after-channels (item ∷ items) px py a b c =
     ∙ after-channels items px py (channel_step 0 item px py a) (channel_step 1 item px py b) (channel_step 2 item px py c)
 
 -- a colour by its channels
-pub pixel-channels : (items : List DrawItem) (px py r g b : ℕ) → r ≡ channel_after 0 items px py 0 → g ≡ channel_after 1 items px py 0 → b ≡ channel_after 2 items px py 0
+pub pixel-channels : (items : List DrawItem) (px py r g b : ℕ) → r ≡ channel_after 0 items px py 0 → g ≡ channel_after 1 items px py 0
+    → b ≡ channel_after 2 items px py 0
     → r ∷ g ∷ b ∷ [] ≡ pixel items px py
 pixel-channels items px py r g b e f h = rw (e, f, h, after-channels items px py 0 0 0) refl

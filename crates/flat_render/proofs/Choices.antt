@@ -1,5 +1,6 @@
 -- Items chosen by their numbers, for each tile of a row.
-use Rattle.std.proofs.Common.{ℕ, zero, suc, ◌+◌, ◌*◌, ◌/◌, ◌%◌, ◌<◌, ◌≤◌, ◌≡◌, refl, ap, ◌∙◌, sym, subst, Bool, true, false, if◌then◌else◌, List, [], ◌∷◌, ◌++◌, length, get_or, take, drop, Vec, arith}
+use Rattle.std.proofs.Common.{ℕ, zero, suc, ◌+◌, ◌*◌, ◌/◌, ◌%◌, ◌<◌, ◌≤◌, ◌≡◌, refl, ap, ◌∙◌, sym, subst, Bool, true, false, if◌then◌else◌, List, [], ◌∷◌, ◌++◌}
+use Rattle.std.proofs.Common.{length, get_or, take, drop, Vec, arith}
 use Rattle.std.specs.Prelude.{min}
 use Rattle.std.specs.declared.alloc.Global.{Global}
 use Rattle.std.proofs.lemmas.Bool.{cases_lt, false_from_ne_true, false≢true}
@@ -26,7 +27,8 @@ one-there [] p d h = absurd (omega arith)
 one-there (item ∷ items) zero d h = refl
 one-there (item ∷ items) (suc p) d h = one-there items p d (omega arith)
 
-chosen-one : (items : List DrawItem) (places : List ℕ) (p : ℕ) (d : DrawItem) → p < length items → chosen items (places ++ p ∷ []) ≡ chosen items places ++ get_or items p d ∷ []
+chosen-one : (items : List DrawItem) (places : List ℕ) (p : ℕ) (d : DrawItem) → p < length items
+    → chosen items (places ++ p ∷ []) ≡ chosen items places ++ get_or items p d ∷ []
 chosen-one items places p d h =
     flat_map-append (λ n. take 1 (drop n items)) places (p ∷ [])
     ∙ ap (λ (one : List DrawItem). chosen items places ++ (one ++ [])) (one-there items p d h)
@@ -50,7 +52,8 @@ none-chosen area items places e = subst (λ (ns : List ℕ). IsChoice area items
   seen = record { drawable = All-nil IsDrawable; same = λ c px py old there. refl };
 })
 
-choice-more : (area : Area) (items : List DrawItem) (places : List ℕ) (n : ℕ) (d : DrawItem) → n < length items → IsDrawable (get_or items n d) → IsChoice area items places n
+choice-more : (area : Area) (items : List DrawItem) (places : List ℕ) (n : ℕ) (d : DrawItem) → n < length items → IsDrawable (get_or items n d)
+    → IsChoice area items places n
     → IsChoice area items (places ++ n ∷ []) (n + 1)
 choice-more area items places n d small drawable is = record {
   within = All-append (λ p. p < length items) places (n ∷ []) is.within (All-cons (λ p. p < length items) n [] small (All-nil (λ p. p < length items)));
@@ -58,7 +61,8 @@ choice-more area items places n d small drawable is = record {
       (seen-more area items (chosen items places) n d small drawable is.seen);
 }
 
-choice-past : (area : Area) (items : List DrawItem) (places : List ℕ) (n : ℕ) (d : DrawItem) → n < length items → ((px py : ℕ) → has_pixel area px py ≡ true → covers (get_or items n d) px py ≡ false)
+choice-past : (area : Area) (items : List DrawItem) (places : List ℕ) (n : ℕ) (d : DrawItem) → n < length items
+    → ((px py : ℕ) → has_pixel area px py ≡ true → covers (get_or items n d) px py ≡ false)
     → IsChoice area items places n → IsChoice area items places (n + 1)
 choice-past area items places n d small unseen is = record {
   within = is.within;
@@ -73,14 +77,17 @@ tile-top : (g : Grid) (row c : ℕ) → c < g.across → (tile_of g (row * g.acr
 tile-top g row c small = ap (λ (n : ℕ). n * g.tile_h) (div-mul-add row g.across c small)
 
 -- one item more for all tiles of a row
-pub choices-more : (g : Grid) (row n from upto : ℕ) (items : List DrawItem) (old lists : List (Vec ℕ Global)) (d : DrawItem) → n < length items → IsDrawable (get_or items n d)
-    → ((c px py : ℕ) → c < g.across → c * g.tile_w ≤ px → px < c * g.tile_w + g.tile_w → row * g.tile_h ≤ py → py < row * g.tile_h + g.tile_h → is_among from upto c ≡ false → covers (get_or items n d) px py ≡ false)
+pub choices-more : (g : Grid) (row n from upto : ℕ) (items : List DrawItem) (old lists : List (Vec ℕ Global)) (d : DrawItem) → n < length items
+    → IsDrawable (get_or items n d)
+    → ((c px py : ℕ) → c < g.across → c * g.tile_w ≤ px → px < c * g.tile_w + g.tile_w → row * g.tile_h ≤ py → py < row * g.tile_h + g.tile_h
+    → is_among from upto c ≡ false → covers (get_or items n d) px py ≡ false)
     → AreChoices g row items old n → IsNoted n from upto old lists → AreChoices g row items lists (n + 1)
 choices-more g row n from upto items old lists d small drawable others were noted = record {
   count = noted.count ∙ were.count;
   serve = λ c e column. by_test c e column (is_among from upto c) refl;
 } where
-  by_test : (c : ℕ) (e : Vec ℕ Global) → c < g.across → (b : Bool) → is_among from upto c ≡ b → IsChoice (tile_area (tile_of g (row * g.across + c))) items (get_or lists c e).items (n + 1)
+  by_test : (c : ℕ) (e : Vec ℕ Global) → c < g.across → (b : Bool) → is_among from upto c ≡ b
+      → IsChoice (tile_area (tile_of g (row * g.across + c))) items (get_or lists c e).items (n + 1)
   by_test c e column true t =
       subst (λ (places : List ℕ). IsChoice (tile_area (tile_of g (row * g.across + c))) items places (n + 1))
       (sym (noted.noted c e (omega (arith, were.count, column)) ∙ ap (λ (b : Bool). if b then (get_or old c e).items ++ n ∷ [] else (get_or old c e).items) t))

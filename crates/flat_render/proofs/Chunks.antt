@@ -77,12 +77,14 @@ tile-redrawn items g test n m old small =
     ∙ ap (λ (k : ℕ). redrawn_in items (tile_of g ((n * tile_bytes g + m) / tile_bytes g)) test k old) (sym (mod-mul-add n (tile_bytes g) m small))
 
 -- the same of a tile that was drawn as a part of what is stored
-pub tile-drawn : (items : List DrawItem) (g : Grid) (test : ℕ → ℕ → Bool) (n s z : ℕ) (t : Tile) (bytes part : List ℕ) → s ≡ tile_bytes g → z ≡ s → t ≡ tile_of g n → n * s + s ≤ length bytes
+pub tile-drawn : (items : List DrawItem) (g : Grid) (test : ℕ → ℕ → Bool) (n s z : ℕ) (t : Tile) (bytes part : List ℕ) → s ≡ tile_bytes g → z ≡ s
+    → t ≡ tile_of g n → n * s + s ≤ length bytes
     → ((m : ℕ) → m < length (take z (drop (n * s) bytes)) → get_or part m 0 ≡ redrawn_in items t test m (get_or (take z (drop (n * s) bytes)) m 0))
     → (m : ℕ) → m < s → get_or part m 0 ≡ redrawn items g test (n * s + m) (get_or bytes (n * s + m) 0)
 tile-drawn items g test n s z t bytes part e zs te fits drawn m small =
     let len : m < length (take z (drop (n * s) bytes)) = simp (length-take, length-drop) (omega arith) in
-    let there : get_or (take z (drop (n * s) bytes)) m 0 ≡ get_or bytes (n * s + m) 0 = get_or-take z (drop (n * s) bytes) m 0 (omega arith) ∙ get_or-drop (n * s) bytes m 0 in
+    let there : get_or (take z (drop (n * s) bytes)) m 0 ≡ get_or bytes (n * s + m) 0 =
+    get_or-take z (drop (n * s) bytes) m 0 (omega arith) ∙ get_or-drop (n * s) bytes m 0 in
     drawn m len
     ∙ ap (λ (u : Tile). redrawn_in items u test m (get_or (take z (drop (n * s) bytes)) m 0)) te
     ∙ ap (λ (o : ℕ). redrawn_in items (tile_of g n) test m o) there

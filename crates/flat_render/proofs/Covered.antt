@@ -35,17 +35,20 @@ wider low from to high c h k b =
     let below : c <ℤ to = int-lt _ _ (and-right (int_le from c) _ b) in
     and-true (le-int low c (omega (arith, ints))) (lt-int c high (omega (arith, ints)))
 
-pub lies-across : (item : DrawItem) (px py : ℕ) → IsDrawable item → covers item px py ≡ true → is_between (full_rect item).x0 (full_rect item).x1 (centre px) ≡ true
+pub lies-across : (item : DrawItem) (px py : ℕ) → IsDrawable item → covers item px py ≡ true
+    → is_between (full_rect item).x0 (full_rect item).x1 (centre px) ≡ true
 lies-across item px py d h = wider _ _ _ _ _ d.visible.x0 d.visible.x1 (and-left _ _ h)
 
-pub lies-down : (item : DrawItem) (px py : ℕ) → IsDrawable item → covers item px py ≡ true → is_between (full_rect item).y0 (full_rect item).y1 (centre py) ≡ true
+pub lies-down : (item : DrawItem) (px py : ℕ) → IsDrawable item → covers item px py ≡ true
+    → is_between (full_rect item).y0 (full_rect item).y1 (centre py) ≡ true
 lies-down item px py d h = wider _ _ _ _ _ d.visible.y0 d.visible.y1 (and-right (is_between item.visible.x0 item.visible.x1 (centre px)) _ h)
 
 on-choice : (a b : Bool) (u v x y : Axis) (p : ℕ) → a ≡ b → u ≡ (if b then y else x) → v ≡ (if b then x else y) → is_between x.low x.high (centre p) ≡ true
     → is_between (if a then v else u).low (if a then v else u).high (centre p) ≡ true
 on-choice a b u v x y p s e f h =
     subst (λ (w : Bool). is_between (if w then v else u).low (if w then v else u).high (centre p) ≡ true) (sym s) (by_choice b e f) where
-      by_choice : (c : Bool) → u ≡ (if c then y else x) → v ≡ (if c then x else y) → is_between (if c then v else u).low (if c then v else u).high (centre p) ≡ true
+      by_choice : (c : Bool) → u ≡ (if c then y else x) → v ≡ (if c then x else y)
+          → is_between (if c then v else u).low (if c then v else u).high (centre p) ≡ true
       by_choice true g k = subst (λ (w : Axis). is_between w.low w.high (centre p) ≡ true) (sym k) h
       by_choice false g k = subst (λ (w : Axis). is_between w.low w.high (centre p) ≡ true) (sym g) h
 
@@ -64,32 +67,42 @@ on-down item texture t d px py h =
 pub texture-below : (item : DrawItem) (texture : Texture) (cut : Area) → IsTextureOf item texture → IsDrawable item → cut.x0 < cut.x1 → cut.y0 < cut.y1
     → ((px py : ℕ) → has_pixel cut px py ≡ true → covers item px py ≡ true) → IsBelow texture cut
 texture-below item texture cut t d columns rows covered = record {
-  across = λ px low high. on-across item texture t d px cut.y0 (covered px cut.y0 (and-true (among cut.x0 cut.x1 px low high) (among cut.y0 cut.y1 cut.y0 (omega arith) rows)));
-  down = λ py low high. on-down item texture t d cut.x0 py (covered cut.x0 py (and-true (among cut.x0 cut.x1 cut.x0 (omega arith) columns) (among cut.y0 cut.y1 py low high)));
+  across = λ px low high. on-across item texture t d px cut.y0
+      (covered px cut.y0 (and-true (among cut.x0 cut.x1 px low high) (among cut.y0 cut.y1 cut.y0 (omega arith) rows)));
+  down = λ py low high. on-down item texture t d cut.x0 py
+      (covered cut.x0 py (and-true (among cut.x0 cut.x1 cut.x0 (omega arith) columns) (among cut.y0 cut.y1 py low high)));
 }
 
 -- the texture that is made of an item has its colours
 pub texture-paint : (item : DrawItem) (t : Texture) (px py : ℕ) → IsTextureOf item t
-    → texel_of t.buffers t.index (buffer_column t.columns t.sample t.flip (if t.swap then py else px)) (buffer_row t.rows t.sample t.flip (if t.swap then px else py)) ≡ paint_colour item item.paint px py
+    → texel_of t.buffers t.index (buffer_column t.columns t.sample t.flip (if t.swap then py else px))
+    (buffer_row t.rows t.sample t.flip (if t.swap then px else py)) ≡ paint_colour item item.paint px py
 texture-paint item t px py is =
-    ap (λ (b : ℕ). texel_of b t.index (buffer_column t.columns t.sample t.flip (if t.swap then py else px)) (buffer_row t.rows t.sample t.flip (if t.swap then px else py))) (sym is.number)
-    ∙ ap (λ (s : Bool). texel_of is.buffers.0 t.index (buffer_column t.columns t.sample t.flip (if s then py else px)) (buffer_row t.rows t.sample t.flip (if s then px else py))) is.swap
-    ∙ ap (λ (a : Axis). texel_of is.buffers.0 t.index (buffer_column a t.sample t.flip (if item.matrix.swap then py else px)) (buffer_row t.rows t.sample t.flip (if item.matrix.swap then px else py))) is.columns
-    ∙ ap (λ (a : Axis). texel_of is.buffers.0 t.index (buffer_column (column_axis item) t.sample t.flip (if item.matrix.swap then py else px)) (buffer_row a t.sample t.flip (if item.matrix.swap then px else py))) is.rows
+    ap (λ (b : ℕ). texel_of b t.index (buffer_column t.columns t.sample t.flip (if t.swap then py else px))
+    (buffer_row t.rows t.sample t.flip (if t.swap then px else py))) (sym is.number)
+    ∙ ap (λ (s : Bool). texel_of is.buffers.0 t.index (buffer_column t.columns t.sample t.flip (if s then py else px))
+    (buffer_row t.rows t.sample t.flip (if s then px else py))) is.swap
+    ∙ ap (λ (a : Axis). texel_of is.buffers.0 t.index (buffer_column a t.sample t.flip (if item.matrix.swap then py else px))
+    (buffer_row t.rows t.sample t.flip (if item.matrix.swap then px else py))) is.columns
+    ∙ ap (λ (a : Axis). texel_of is.buffers.0 t.index (buffer_column (column_axis item) t.sample t.flip (if item.matrix.swap then py else px))
+    (buffer_row a t.sample t.flip (if item.matrix.swap then px else py))) is.rows
     ∙ ap (λ (p : Paint). paint_colour item p px py) (sym is.paint)
 
 -- a channel of an image's pixel is the texture's, toned and mixed
 pub texture-ink : (c : ℕ) (item : DrawItem) (t : Texture) (px py old shade s : ℕ) → IsTextureOf item t
     → shade ≡ tone t.blend t.opacity s
-    → s ≡ slice_index (texel_of t.buffers t.index (buffer_column t.columns t.sample t.flip (if t.swap then py else px)) (buffer_row t.rows t.sample t.flip (if t.swap then px else py))) c
+    → s ≡ slice_index (texel_of t.buffers t.index (buffer_column t.columns t.sample t.flip (if t.swap then py else px))
+    (buffer_row t.rows t.sample t.flip (if t.swap then px else py))) c
     → mixed (mix_of item.blend item.opacity 255) shade old ≡ channel_painted c item px py old
 unfolding channel_painted
 texture-ink c item t px py old shade s is toned e =
     let colour : List ℕ = paint_colour item item.paint px py in
-    let all : texel_of t.buffers t.index (buffer_column t.columns t.sample t.flip (if t.swap then py else px)) (buffer_row t.rows t.sample t.flip (if t.swap then px else py)) ≡ colour = texture-paint item t px py is in
+    let all : texel_of t.buffers t.index (buffer_column t.columns t.sample t.flip (if t.swap then py else px))
+    (buffer_row t.rows t.sample t.flip (if t.swap then px else py)) ≡ colour = texture-paint item t px py is in
     let alpha : 255 ≡ slice_index colour 3 = ap (λ (rgba : List ℕ). slice_index rgba 3) all in
     let channel : s ≡ slice_index colour c = e ∙ ap (λ (rgba : List ℕ). slice_index rgba c) all in
-    ap (λ (n : ℕ). mixed (mix_of item.blend item.opacity 255) n old) (toned ∙ ap (λ (b : BlendMode). tone b t.opacity s) is.blend ∙ ap (λ (o : ℕ). tone item.blend o s) is.opacity)
+    ap (λ (n : ℕ). mixed (mix_of item.blend item.opacity 255) n old)
+    (toned ∙ ap (λ (b : BlendMode). tone b t.opacity s) is.blend ∙ ap (λ (o : ℕ). tone item.blend o s) is.opacity)
     ∙ tone-mixed item.blend item.opacity 255 s old
     ∙ ap (λ (n : ℕ). laid item.blend item.opacity n s old) alpha
     ∙ ap (λ (n : ℕ). laid item.blend item.opacity (slice_index colour 3) n old) channel

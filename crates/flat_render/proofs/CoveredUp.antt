@@ -24,12 +24,14 @@ step-anew c x px py a b e h =
     ∙ sym (ap (λ (t : Bool). if t then channel_painted c x px py b else b) h)
 
 -- the items before one that covers a pixel and replaces what is there play no part
-pub hidden : (c : ℕ) (items : List DrawItem) (i : ℕ) (d : DrawItem) (px py : ℕ) → i < length items → (get_or items i d).blend ≡ Src → covers (get_or items i d) px py ≡ true
+pub hidden : (c : ℕ) (items : List DrawItem) (i : ℕ) (d : DrawItem) (px py : ℕ) → i < length items → (get_or items i d).blend ≡ Src
+    → covers (get_or items i d) px py ≡ true
     → channel_after c items px py 0 ≡ channel_after c (drop i items) px py 0
 hidden c items i d px py within e h =
     let rest : List DrawItem = drop (i + 1) items in
     ap (λ (xs : List DrawItem). channel_after c xs px py 0) (sym (take-append-drop i items))
     ∙ fold-append (λ old item. channel_step c item px py old) 0 (take i items) (drop i items)
     ∙ ap (λ (xs : List DrawItem). fold (λ old item. channel_step c item px py old) (channel_after c (take i items) px py 0) xs) (drop_more items i d within)
-    ∙ ap (λ (was : ℕ). fold (λ old item. channel_step c item px py old) was rest) (step-anew c (get_or items i d) px py (channel_after c (take i items) px py 0) 0 e h)
+    ∙ ap (λ (was : ℕ). fold (λ old item. channel_step c item px py old) was rest)
+    (step-anew c (get_or items i d) px py (channel_after c (take i items) px py 0) 0 e h)
     ∙ ap (λ (xs : List DrawItem). channel_after c xs px py 0) (sym (drop_more items i d within))

@@ -12,7 +12,8 @@ no-columns cut px py none = false_from_ne_true _ (λ has. absurd (omega (arith, 
 pub no-rows : (cut : Area) (px py : ℕ) → cut.y1 ≤ cut.y0 → has_pixel cut px py ≡ false
 no-rows cut px py none = false_from_ne_true _ (λ has. absurd (omega (arith, none, pixel-top cut px py has, pixel-bottom cut px py has)))
 
-within : (area window k : Bool) (painted old : ℕ) → (window ≡ true → area ≡ k) → (if (area && window) then (if k then painted else old) else old) ≡ (if window then (if k then painted else old) else old)
+within : (area window k : Bool) (painted old : ℕ) → (window ≡ true → area ≡ k)
+    → (if (area && window) then (if k then painted else old) else old) ≡ (if window then (if k then painted else old) else old)
 within true true k painted old same = refl
 within true false k painted old same = refl
 within false true true painted old same = let e : false ≡ true = same refl in absurd (cc)
@@ -22,7 +23,8 @@ within false false k painted old same = refl
 -- painted on what is shared with an area that has what is covered
 pub cut-painted : (cut area window k : Bool) (painted old now : ℕ) → cut ≡ (area && window) → (window ≡ true → area ≡ k)
     → now ≡ (if cut then (if k then painted else old) else old) → now ≡ (if window then (if k then painted else old) else old)
-cut-painted cut area window k painted old now e same h = h ∙ ap (λ (b : Bool). if b then (if k then painted else old) else old) e ∙ within area window k painted old same
+cut-painted cut area window k painted old now e same h =
+    h ∙ ap (λ (b : Bool). if b then (if k then painted else old) else old) e ∙ within area window k painted old same
 
 -- nothing is shared
 pub none-painted : (cut area window k : Bool) (painted old : ℕ) → cut ≡ (area && window) → (window ≡ true → area ≡ k)

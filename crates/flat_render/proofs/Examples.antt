@@ -72,7 +72,8 @@ white = item (Fill (255 ∷ 255 ∷ 255 ∷ 255 ∷ [])) false (pos 65536) (pos 
 
 -- it covers the left pixel alone
 abbrev blue : DrawItem
-blue = record (item (Fill (0 ∷ 0 ∷ 255 ∷ 128 ∷ [])) false (pos 65536) (pos 65536) (pos 0) (pos 0) SrcOver) { visible = record { x0 = pos 0; y0 = pos 0; x1 = pos 65536; y1 = pos 65536 } }
+blue = record (item (Fill (0 ∷ 0 ∷ 255 ∷ 128 ∷ [])) false (pos 65536) (pos 65536) (pos 0) (pos 0) SrcOver)
+    { visible = record { x0 = pos 0; y0 = pos 0; x1 = pos 65536; y1 = pos 65536 } }
 
 abbrev image : ImageFlip → DrawItem
 image flip = item (Image (record { 0 = 0 }) 0 (record { x = pos 0; y = pos 0; w = pos 2; h = pos 1 }) flip) false (pos 65536) (pos 65536) (pos 0) (pos 0) Src
@@ -126,7 +127,8 @@ one_channel : channel_after 1 (white ∷ blue ∷ []) 0 0 0 ≡ 127
 unfolding channel_painted
 one_channel = refl
 
-in_the_second : is_in_any (record { x0 = pos 0; y0 = pos 0; x1 = pos 1; y1 = pos 1 } ∷ record { x0 = pos 0; y0 = pos 0; x1 = pos 65536; y1 = pos 65536 } ∷ []) 0 0 ≡ true
+in_the_second : is_in_any (record { x0 = pos 0; y0 = pos 0; x1 = pos 1; y1 = pos 1 } ∷ record { x0 = pos 0; y0 = pos 0; x1 = pos 65536; y1 = pos 65536 } ∷ []) 0
+    0 ≡ true
 in_the_second = refl
 
 -- ---- areas, ink and tiles

@@ -1,5 +1,6 @@
 -- Items drawn one after another.
-use Rattle.std.proofs.Common.{ℕ, ◌+◌, ◌*◌, ◌/◌, ◌%◌, ◌<◌, ◌≤◌, ◌≡◌, refl, ap, ◌∙◌, sym, Bool, true, false, ◌&&◌, if◌then◌else◌, List, [], ◌∷◌, length, get_or, take, drop, arith}
+use Rattle.std.proofs.Common.{ℕ, ◌+◌, ◌*◌, ◌/◌, ◌%◌, ◌<◌, ◌≤◌, ◌≡◌, refl, ap, ◌∙◌, sym, Bool, true, false, ◌&&◌, if◌then◌else◌, List, [], ◌∷◌, length, get_or}
+use Rattle.std.proofs.Common.{take, drop, arith}
 use Rattle.std.proofs.lemmas.List.{take_more, take_all}
 use Rattle.std.proofs.lemmas.Grind.{fold-append}
 use Rattle.std.proofs.lemmas.Nat.{div_below, mod_below}
@@ -15,7 +16,8 @@ use Rattle.flat_render.proofs.Rows.{among}
 -- the channels of the pixels of a window are changed by f, and the others are as they were
 abbrev pub IsDrawnIn : (ℕ → ℕ → ℕ → ℕ → ℕ) → Tile → Area → List ℕ → List ℕ → Type 0
 IsDrawnIn f tile window old bytes = (m : ℕ) → m < length old
-    → get_or bytes m 0 ≡ (if has_pixel window (x_at tile m) (y_at tile m) then f (channel_at tile m) (x_at tile m) (y_at tile m) (get_or old m 0) else get_or old m 0)
+    → get_or bytes m 0 ≡ (if has_pixel window (x_at tile m) (y_at tile m) then f (channel_at tile m) (x_at tile m) (y_at tile m) (get_or old m 0) else
+    get_or old m 0)
 
 -- one item more
 pub after-more : (c : ℕ) (items : List DrawItem) (i : ℕ) (d : DrawItem) (px py was : ℕ) → i < length items
@@ -35,7 +37,8 @@ pub item-step : (items : List DrawItem) (i : ℕ) (d : DrawItem) (tile : Tile) (
     → IsDrawnIn (λ c px py was. channel_step c (get_or items i d) px py was) tile window bytes later
     → IsDrawnIn (λ c px py was. channel_after c (take (i + 1) items) px py was) tile window old later
 item-step items i d tile window old bytes later within same so_far drawn = λ m small.
-    by-test (has_pixel window (x_at tile m) (y_at tile m)) (channel_step (channel_at tile m) (get_or items i d) (x_at tile m) (y_at tile m)) (get_or bytes m 0) (get_or later m 0)
+    by-test (has_pixel window (x_at tile m) (y_at tile m)) (channel_step (channel_at tile m) (get_or items i d) (x_at tile m) (y_at tile m)) (get_or bytes m 0)
+    (get_or later m 0)
     (channel_after (channel_at tile m) (take i items) (x_at tile m) (y_at tile m) (get_or old m 0))
     (channel_after (channel_at tile m) (take (i + 1) items) (x_at tile m) (y_at tile m) (get_or old m 0)) (get_or old m 0)
     (so_far m small) (drawn m (omega arith)) (after-more (channel_at tile m) items i d (x_at tile m) (y_at tile m) (get_or old m 0) within)
@@ -46,7 +49,8 @@ pub items-all : (items : List DrawItem) (n : ℕ) (tile : Tile) (window : Area) 
     → IsDrawnIn (λ c px py was. channel_after c items px py was) tile window old bytes
 items-all items n tile window old bytes past drawn = λ m small.
     drawn m small
-    ∙ ap (λ (xs : List DrawItem). if has_pixel window (x_at tile m) (y_at tile m) then channel_after (channel_at tile m) xs (x_at tile m) (y_at tile m) (get_or old m 0) else get_or old m 0)
+    ∙ ap (λ (xs : List DrawItem). if has_pixel window (x_at tile m) (y_at tile m) then
+    channel_after (channel_at tile m) xs (x_at tile m) (y_at tile m) (get_or old m 0) else get_or old m 0)
     (take_all n items past)
 
 -- each pixel of a tile is in its area
@@ -54,7 +58,8 @@ tile-has : (tile : Tile) (k : ℕ) → 0 < tile.width → k < tile.width * tile.
 tile-has tile k wide small =
     let x : k % tile.width < tile.width = mod_below k tile.width wide in
     let y : k / tile.width < tile.height = div_below k tile.width tile.height wide (omega arith) in
-    and-true (among tile.left (tile.left + tile.width) (x_of tile k) (omega arith) (omega arith)) (among tile.top (tile.top + tile.height) (y_of tile k) (omega arith) (omega arith))
+    and-true (among tile.left (tile.left + tile.width) (x_of tile k) (omega arith) (omega arith))
+    (among tile.top (tile.top + tile.height) (y_of tile k) (omega arith) (omega arith))
 
 pub tile-has-byte : (tile : Tile) (m : ℕ) → IsTile tile → 0 < pixels_of tile → has_pixel (tile_area tile) (x_at tile m) (y_at tile m) ≡ true
 tile-has-byte tile m is some = tile-has tile (m % pixels_of tile) is.width (mod_below m (pixels_of tile) some)

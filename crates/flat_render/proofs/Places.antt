@@ -90,7 +90,8 @@ tile-is g n is there =
 pub count-most : (g : Grid) → IsGrid g → tile_count g < 2 ^ 28
 count-most g is =
     let one_pixel : 1 * 1 ≤ tile_size g = mul-le 1 1 g.tile_w g.tile_h (omega (arith, is.tile_w)) (omega (arith, is.tile_h)) in
-    let most : tile_count g * 1 ≤ tile_count g * tile_bytes g = mul-le (tile_count g) 1 (tile_count g) (tile_bytes g) (omega arith) (omega (arith, one_pixel)) in
+    let most : tile_count g * 1 ≤ tile_count g * tile_bytes g =
+    mul-le (tile_count g) 1 (tile_count g) (tile_bytes g) (omega arith) (omega (arith, one_pixel)) in
     omega (arith, is.most, most)
 
 -- along one axis, where tiles have 64 pixels or all that there are
@@ -110,9 +111,11 @@ pub grid-is : (g : Grid) → 0 < g.width → 0 < g.height → g.width * g.height
     → g.tile_w ≡ min g.width 64 → 0 < g.tile_h → g.tile_h ≤ 64 → g.tile_h ≤ g.height
     → g.across ≡ g.width / g.tile_w + min 1 (g.width % g.tile_w) → g.down ≡ g.height / g.tile_h + min 1 (g.height % g.tile_h) → IsGrid g
 grid-is g w h most w_most h_most tw some low within across down =
-    let x : (0 < g.tile_w) × (g.tile_w ≤ 64) × (g.width ≤ g.across * g.tile_w) × (g.across * g.tile_w ≤ 2 * g.width) = tiled g.width g.tile_w g.across w tw across in
+    let x : (0 < g.tile_w) × (g.tile_w ≤ 64) × (g.width ≤ g.across * g.tile_w) × (g.across * g.tile_w ≤ 2 * g.width) =
+    tiled g.width g.tile_w g.across w tw across in
     let y : (g.height ≤ g.down * g.tile_h) × (g.down * g.tile_h ≤ 2 * g.height) = tiled-by g.height g.tile_h g.down some low within down in
-    let all : (g.across * g.tile_w) * (g.down * g.tile_h) ≤ (2 * g.width) * (2 * g.height) = mul-le (g.across * g.tile_w) (g.down * g.tile_h) (2 * g.width) (2 * g.height) x.3 y.1 in
+    let all : (g.across * g.tile_w) * (g.down * g.tile_h) ≤ (2 * g.width) * (2 * g.height) =
+    mul-le (g.across * g.tile_w) (g.down * g.tile_h) (2 * g.width) (2 * g.height) x.3 y.1 in
     let bytes : grid_bytes g ≡ 3 * ((g.across * g.tile_w) * (g.down * g.tile_h)) = grind arith in
     record {
       tile_w = x.0;
@@ -144,7 +147,8 @@ module _ (g : Grid) (is : IsGrid g) (n py : ℕ) (column : n < g.across) (y : py
 
   pub run-fits : run_of g n py + 2 * tile_size g + g.tile_w ≤ grid_bytes g
   run-fits =
-      let row : py % g.tile_h * g.tile_w + g.tile_w ≤ g.tile_h * g.tile_w = row_fits (py % g.tile_h) g.tile_w g.tile_h g.tile_w (mod_below py g.tile_h is.tile_h) (omega arith) in
+      let row : py % g.tile_h * g.tile_w + g.tile_w ≤ g.tile_h * g.tile_w =
+      row_fits (py % g.tile_h) g.tile_w g.tile_h g.tile_w (mod_below py g.tile_h is.tile_h) (omega arith) in
       let tile : (py / g.tile_h * g.across + n) * tile_bytes g + tile_bytes g ≤ tile_count g * tile_bytes g =
       row_fits (py / g.tile_h * g.across + n) (tile_bytes g) (tile_count g) (tile_bytes g) run-tile (omega arith) in
       omega (arith, row, tile)
@@ -152,6 +156,7 @@ module _ (g : Grid) (is : IsGrid g) (n py : ℕ) (column : n < g.across) (y : py
   -- a channel of its i-th pixel there
   pub run-place : (c i : ℕ) → i < g.tile_w → place_of g c (n * g.tile_w + i) py ≡ run_of g n py + (c * tile_size g + i)
   run-place c i small =
-      ap (λ (m : ℕ). (py / g.tile_h * g.across + m) * tile_bytes g + (c * tile_size g + (py % g.tile_h * g.tile_w + (n * g.tile_w + i) % g.tile_w))) (div-mul-add n g.tile_w i small)
+      ap (λ (m : ℕ). (py / g.tile_h * g.across + m) * tile_bytes g + (c * tile_size g + (py % g.tile_h * g.tile_w + (n * g.tile_w + i) % g.tile_w)))
+      (div-mul-add n g.tile_w i small)
       ∙ ap (λ (m : ℕ). (py / g.tile_h * g.across + n) * tile_bytes g + (c * tile_size g + (py % g.tile_h * g.tile_w + m))) (mod-mul-add n g.tile_w i small)
       ∙ omega arith

@@ -1,5 +1,6 @@
 -- Planes: a tile's bytes, channel by channel.
-use Rattle.std.proofs.Common.{ℕ, ◌+◌, ◌-◌, ◌*◌, ◌/◌, ◌%◌, ◌<◌, ◌≤◌, ◌≡◌, refl, ap, ◌∙◌, sym, subst, Bool, true, false, if◌then◌else◌, List, length, get_or, take, drop, arith}
+use Rattle.std.proofs.Common.{ℕ, ◌+◌, ◌-◌, ◌*◌, ◌/◌, ◌%◌, ◌<◌, ◌≤◌, ◌≡◌, refl, ap, ◌∙◌, sym, subst, Bool, true, false, if◌then◌else◌, List, length, get_or}
+use Rattle.std.proofs.Common.{take, drop, arith}
 use Rattle.std.proofs.lemmas.Bool.{cases_lt}
 use Rattle.std.proofs.lemmas.List.{get_or-take, get_or-drop, length-take, length-drop}
 use Rattle.std.proofs.lemmas.Nat.{div-add-mod', mod_below, div_below, row_fits, mul-le}
@@ -29,7 +30,8 @@ quotient-from s c m e = subst (λ (n : ℕ). n * s ≤ m) e (omega (arith, div-a
 quotient-rest : (s c m : ℕ) → m / s ≡ c → m - c * s ≡ m % s
 quotient-rest s c m e = subst (λ (n : ℕ). m - n * s ≡ m % s) e (omega (arith, div-add-mod' m s))
 
-module _ (s c z : ℕ) (bytes plane : List ℕ) (some : 0 < s) (zs : z ≡ s) (fits : c * s + s ≤ length bytes) (len : length plane ≡ length (take z (drop (c * s) bytes))) where
+module _ (s c z : ℕ) (bytes plane : List ℕ) (some : 0 < s) (zs : z ≡ s) (fits : c * s + s ≤ length bytes)
+    (len : length plane ≡ length (take z (drop (c * s) bytes))) where
   size : length plane ≡ z
   size = len ∙ simp (length-take, length-drop) (omega arith)
 
@@ -44,7 +46,8 @@ module _ (s c z : ℕ) (bytes plane : List ℕ) (some : 0 < s) (zs : z ≡ s) (f
       let place : c * s + (m - c * s) ≡ m = omega arith in
       put-inside (c * s) z bytes plane m (omega arith) size above (omega (arith, rest, small))
       ∙ changed (m - c * s) (omega (arith, rest, small, size, len))
-      ∙ ap (F (m - c * s)) (get_or-take z (drop (c * s) bytes) (m - c * s) 0 (omega (arith, rest, small)) ∙ get_or-drop (c * s) bytes (m - c * s) 0 ∙ ap (λ (n : ℕ). get_or bytes n 0) place)
+      ∙ ap (F (m - c * s)) (get_or-take z (drop (c * s) bytes) (m - c * s) 0 (omega (arith, rest, small)) ∙ get_or-drop (c * s) bytes (m - c * s) 0
+      ∙ ap (λ (n : ℕ). get_or bytes n 0) place)
       ∙ ap (λ (k : ℕ). F k (get_or bytes m 0)) rest
 
   -- and one of another plane
@@ -64,11 +67,13 @@ which-channel s m some small red green blue =
     (λ h. either _ _ (cases_lt (m / s) 2) (λ l. green (omega arith)) (λ k. blue (omega arith)))
 
 -- ink of an item, laid where the item covers, is the item's step
-ink-step : (c : ℕ) (item : DrawItem) (cut : Area) (ink : Ink) (px py was now : ℕ) → IsInk c item cut ink → (has_pixel cut px py ≡ true → covers item px py ≡ true)
+ink-step : (c : ℕ) (item : DrawItem) (cut : Area) (ink : Ink) (px py was now : ℕ) → IsInk c item cut ink
+    → (has_pixel cut px py ≡ true → covers item px py ≡ true)
     → now ≡ (if has_pixel cut px py then inked ink (px - cut.x0) (py - cut.y0) was else was)
     → now ≡ (if has_pixel cut px py then channel_step c item px py was else was)
 ink-step c item cut ink px py was now is covered e = by_test (has_pixel cut px py) refl e where
-  by_test : (b : Bool) → has_pixel cut px py ≡ b → now ≡ (if b then inked ink (px - cut.x0) (py - cut.y0) was else was) → now ≡ (if b then channel_step c item px py was else was)
+  by_test : (b : Bool) → has_pixel cut px py ≡ b → now ≡ (if b then inked ink (px - cut.x0) (py - cut.y0) was else was)
+      → now ≡ (if b then channel_step c item px py was else was)
   by_test true h k = k ∙ is.paints px py was h ∙ sym (ap (λ (b : Bool). if b then channel_painted c item px py was else was) (covered h))
   by_test false h k = k
 
@@ -77,10 +82,12 @@ of-channel : (c d : ℕ) (item : DrawItem) (b : Bool) (px py was now : ℕ) → 
     → now ≡ (if b then channel_step d item px py was else was)
 of-channel c d item b px py was now e h = h ∙ sym (ap (λ (n : ℕ). if b then channel_step n item px py was else was) e)
 
-pub item-channel : (c d : ℕ) (item : DrawItem) (cut : Area) (ink : Ink) (px py was now : ℕ) → d ≡ c → IsInk c item cut ink → (has_pixel cut px py ≡ true → covers item px py ≡ true)
+pub item-channel : (c d : ℕ) (item : DrawItem) (cut : Area) (ink : Ink) (px py was now : ℕ) → d ≡ c → IsInk c item cut ink
+    → (has_pixel cut px py ≡ true → covers item px py ≡ true)
     → now ≡ (if has_pixel cut px py then inked ink (px - cut.x0) (py - cut.y0) was else was)
     → now ≡ (if has_pixel cut px py then channel_step d item px py was else was)
-item-channel c d item cut ink px py was now e is covered h = of-channel c d item (has_pixel cut px py) px py was now e (ink-step c item cut ink px py was now is covered h)
+item-channel c d item cut ink px py was now e is covered h =
+    of-channel c d item (has_pixel cut px py) px py was now e (ink-step c item cut ink px py was now is covered h)
 
 -- a byte after ink, or as it was
 abbrev pub inked_or : Tile → Area → ℕ → Ink → ℕ → ℕ
@@ -94,7 +101,8 @@ pub inked-item : (tile : Tile) (cut : Area) (item : DrawItem) (m : ℕ) (red gre
     → (channel_at tile m ≡ 1 → two ≡ inked_or tile cut m green one) → ((channel_at tile m ≡ 1 → ⊥) → two ≡ one)
     → (channel_at tile m ≡ 2 → now ≡ inked_or tile cut m blue two) → ((channel_at tile m ≡ 2 → ⊥) → now ≡ two)
     → now ≡ (if has_pixel cut (x_at tile m) (y_at tile m) then channel_step (channel_at tile m) item (x_at tile m) (y_at tile m) was else was)
-inked-item tile cut item m red green blue was one two now is small in_red in_green in_blue covered red_there red_else green_there green_else blue_there blue_else =
+inked-item tile cut item m red green blue was one two now is small in_red in_green in_blue covered red_there red_else green_there green_else blue_there
+    blue_else =
     let px : ℕ = x_at tile m in
     let py : ℕ = y_at tile m in
     which-channel (pixels_of tile) m (some-pixels tile is) small

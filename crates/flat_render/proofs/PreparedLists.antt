@@ -23,7 +23,8 @@ some-prepared [] i within = absurd (omega arith)
 some-prepared (it ∷ list) i within = it
 
 -- those before one that covers a window and replaces what is there play no part
-pub over-same : (items : List DrawItem) (list : List Prepared) (places : List ℕ) (first : ℕ) (window : Area) (c px py : ℕ) → ArePrepared items list → AreNumbers items places → IsWindow window
+pub over-same : (items : List DrawItem) (list : List Prepared) (places : List ℕ) (first : ℕ) (window : Area) (c px py : ℕ) → ArePrepared items list
+    → AreNumbers items places → IsWindow window
     → (0 < first → first < length places) → ((e : Prepared) → 0 < first → IsOver (get_or list (get_or places first 0) e) window) → has_pixel window px py ≡ true
     → channel_after c (chosen items places) px py 0 ≡ channel_after c (drop first (chosen items places)) px py 0
 over-same items list places zero window c px py are numbers some inside over has = refl
@@ -47,7 +48,8 @@ pub record AreSoFar (items : List DrawItem) (list : List Prepared) (n : ℕ) : T
 pub none-so-far : (items : List DrawItem) (list : List Prepared) → list ≡ [] → AreSoFar items list 0
 none-so-far items list e = record { count = ap length e; each = λ k d f small. absurd (omega arith) }
 
-pub one-more : (items : List DrawItem) (i : ℕ) (d : DrawItem) (list longer : List Prepared) (it : Prepared) → i < length items → IsPrepared (get_or items i d) it → longer ≡ list ++ it ∷ []
+pub one-more : (items : List DrawItem) (i : ℕ) (d : DrawItem) (list longer : List Prepared) (it : Prepared) → i < length items
+    → IsPrepared (get_or items i d) it → longer ≡ list ++ it ∷ []
     → AreSoFar items list i → AreSoFar items longer (i + 1)
 one-more items i d list longer it within prepared more were = record {
   count = ap length more ∙ length-append list (it ∷ []) ∙ ap (λ (n : ℕ). n + 1) were.count;
@@ -67,7 +69,8 @@ all-prepared items list n all were = record {
 }
 
 -- where the area of one has no pixel, its item doesn't cover it
-pub not-covered : (items : List DrawItem) (list : List Prepared) (n : ℕ) (d : DrawItem) (e : Prepared) (px py : ℕ) → ArePrepared items list → n < length items → px < 2 ^ 29 → py < 2 ^ 29
+pub not-covered : (items : List DrawItem) (list : List Prepared) (n : ℕ) (d : DrawItem) (e : Prepared) (px py : ℕ) → ArePrepared items list → n < length items
+    → px < 2 ^ 29 → py < 2 ^ 29
     → has_pixel (get_or list n e).area px py ≡ false → covers (get_or items n d) px py ≡ false
 not-covered items list n d e px py are within right bottom h = sym ((are.each n d e within).area px py right bottom) ∙ h
 

@@ -1,5 +1,6 @@
 -- What is found once of an item, and how it is laid on the item's pixels.
-use Rattle.std.proofs.Common.{ℕ, zero, suc, ◌+◌, ◌-◌, ◌*◌, ◌/◌, ◌%◌, ◌<◌, ◌≤◌, ◌≡◌, refl, ap, ◌∙◌, sym, subst, Bool, true, false, ◌&&◌, if◌then◌else◌, List, [], ◌∷◌, get_or, arith}
+use Rattle.std.proofs.Common.{ℕ, zero, suc, ◌+◌, ◌-◌, ◌*◌, ◌/◌, ◌%◌, ◌<◌, ◌≤◌, ◌≡◌, refl, ap, ◌∙◌, sym, subst, Bool, true, false, ◌&&◌, if◌then◌else◌, List, []}
+use Rattle.std.proofs.Common.{◌∷◌, get_or, arith}
 use Rattle.std.specs.Prelude.{slice_index}
 use Rattle.std.proofs.lemmas.Int.{ints}
 use Rattle.flat_base.proofs.lemmas.Tests.{and-left, and-right, and-true}
@@ -45,22 +46,26 @@ area-below item t area is d covered some =
     sym (covered px py (omega (arith, pixel-right area px py has, some.right)) (omega (arith, pixel-bottom area px py has, some.bottom))) ∙ has)
 
 -- a plain one
-module _ (item : DrawItem) (t : Texture) (area : Area) (steps : Steps) (is : IsTextureOf item t) (d : IsDrawable item) (covered : IsAreaOf item area) (some : IsWindow area) (plain : IsPlain t) where
+module _ (item : DrawItem) (t : Texture) (area : Area) (steps : Steps) (is : IsTextureOf item t) (d : IsDrawable item) (covered : IsAreaOf item area)
+    (some : IsWindow area) (plain : IsPlain t) where
   below : IsBelow t area
   below = area-below item t area is d covered some
 
   on-columns : (px : ℕ) → area.x0 ≤ px → px < area.x1 → is_between t.columns.low t.columns.high (centre px) ≡ true
   on-columns px low high =
-      subst (λ (b : Bool). is_between (if b then t.rows else t.columns).low (if b then t.rows else t.columns).high (centre px) ≡ true) plain.straight (below.across px low high)
+      subst (λ (b : Bool). is_between (if b then t.rows else t.columns).low (if b then t.rows else t.columns).high (centre px) ≡ true) plain.straight
+      (below.across px low high)
 
   on-rows : (py : ℕ) → area.y0 ≤ py → py < area.y1 → is_between t.rows.low t.rows.high (centre py) ≡ true
   on-rows py low high =
-      subst (λ (b : Bool). is_between (if b then t.columns else t.rows).low (if b then t.columns else t.rows).high (centre py) ≡ true) plain.straight (below.down py low high)
+      subst (λ (b : Bool). is_between (if b then t.columns else t.rows).low (if b then t.columns else t.rows).high (centre py) ≡ true) plain.straight
+      (below.down py low high)
 
   sample : IsSample t.sample
   sample = texture-sample item t is d
 
-  red-value : (px py : ℕ) → has_pixel area px py ≡ true → steps.red ≡ red_at t.index (buffer_column t.columns t.sample t.flip area.x0) → steps.rises ≡ rises_across t.columns t.flip
+  red-value : (px py : ℕ) → has_pixel area px py ≡ true → steps.red ≡ red_at t.index (buffer_column t.columns t.sample t.flip area.x0)
+      → steps.rises ≡ rises_across t.columns t.flip
       → (steps.red + stride_of steps.rises * (px - area.x0)) % 256 ≡ red_at t.index (buffer_column t.columns t.sample t.flip (if t.swap then py else px))
   red-value px py has red rises =
       let low : area.x0 ≤ px = pixel-left area px py has in
@@ -69,11 +74,13 @@ module _ (item : DrawItem) (t : Texture) (area : Area) (steps : Steps) (is : IsT
       ap (λ (n : ℕ). (n + stride_of steps.rises * (px - area.x0)) % 256) red
       ∙ ap (λ (b : Bool). (red_at t.index (buffer_column t.columns t.sample t.flip area.x0) + stride_of b * (px - area.x0)) % 256) rises
       ∙ red-step (rises_across t.columns t.flip) t.index _ _ (px - area.x0)
-      (column-step t.columns t.sample area.x0 (px - area.x0) (on-columns area.x0 (omega arith) some.columns) (on-columns (area.x0 + (px - area.x0)) (omega arith) there) t.flip (omega (arith, ints, sample.w)) plain.columns)
+      (column-step t.columns t.sample area.x0 (px - area.x0) (on-columns area.x0 (omega arith) some.columns)
+      (on-columns (area.x0 + (px - area.x0)) (omega arith) there) t.flip (omega (arith, ints, sample.w)) plain.columns)
       ∙ ap (λ (p : ℕ). red_at t.index (buffer_column t.columns t.sample t.flip p)) at
       ∙ sym (ap (λ (b : Bool). red_at t.index (buffer_column t.columns t.sample t.flip (if b then py else px))) plain.straight)
 
-  green-value : (px py : ℕ) → has_pixel area px py ≡ true → steps.green ≡ green_at (buffer_row t.rows t.sample t.flip area.y0) → steps.sinks ≡ rises_down t.rows t.flip
+  green-value : (px py : ℕ) → has_pixel area px py ≡ true → steps.green ≡ green_at (buffer_row t.rows t.sample t.flip area.y0)
+      → steps.sinks ≡ rises_down t.rows t.flip
       → (steps.green + stride_of steps.sinks * (py - area.y0)) % 256 ≡ green_at (buffer_row t.rows t.sample t.flip (if t.swap then px else py))
   green-value px py has green sinks =
       let low : area.y0 ≤ py = pixel-top area px py has in
@@ -82,7 +89,8 @@ module _ (item : DrawItem) (t : Texture) (area : Area) (steps : Steps) (is : IsT
       ap (λ (n : ℕ). (n + stride_of steps.sinks * (py - area.y0)) % 256) green
       ∙ ap (λ (b : Bool). (green_at (buffer_row t.rows t.sample t.flip area.y0) + stride_of b * (py - area.y0)) % 256) sinks
       ∙ green-step (rises_down t.rows t.flip) _ _ (py - area.y0)
-      (row-down t.rows t.sample area.y0 (py - area.y0) (on-rows area.y0 (omega arith) some.rows) (on-rows (area.y0 + (py - area.y0)) (omega arith) there) t.flip (omega (arith, ints, sample.h)) plain.rows)
+      (row-down t.rows t.sample area.y0 (py - area.y0) (on-rows area.y0 (omega arith) some.rows) (on-rows (area.y0 + (py - area.y0)) (omega arith) there) t.flip
+      (omega (arith, ints, sample.h)) plain.rows)
       ∙ ap (λ (p : ℕ). green_at (buffer_row t.rows t.sample t.flip p)) at
       ∙ sym (ap (λ (b : Bool). green_at (buffer_row t.rows t.sample t.flip (if b then px else py))) plain.straight)
 
@@ -99,13 +107,17 @@ module _ (item : DrawItem) (t : Texture) (area : Area) (steps : Steps) (is : IsT
 
 -- the tones of a fill do
 pub fill-paint : (item : DrawItem) (rgba : List ℕ) (area : Area) (red green blue : ℕ) → item.paint ≡ Fill rgba
-    → red ≡ tone item.blend item.opacity (slice_index rgba 0) → green ≡ tone item.blend item.opacity (slice_index rgba 1) → blue ≡ tone item.blend item.opacity (slice_index rgba 2)
+    → red ≡ tone item.blend item.opacity (slice_index rgba 0) → green ≡ tone item.blend item.opacity (slice_index rgba 1)
+    → blue ≡ tone item.blend item.opacity (slice_index rgba 2)
     → Paints item (mix_of item.blend item.opacity (slice_index rgba 3)) area (Even (red ∷ green ∷ blue ∷ []))
 fill-paint item rgba area red green blue fill r g b = by_channel where
   by_channel : Paints item (mix_of item.blend item.opacity (slice_index rgba 3)) area (Even (red ∷ green ∷ blue ∷ []))
-  by_channel zero px py old small has = ap (λ (n : ℕ). mixed (mix_of item.blend item.opacity (slice_index rgba 3)) n old) r ∙ fill-ink 0 item rgba px py old fill
-  by_channel (suc zero) px py old small has = ap (λ (n : ℕ). mixed (mix_of item.blend item.opacity (slice_index rgba 3)) n old) g ∙ fill-ink 1 item rgba px py old fill
-  by_channel (suc (suc zero)) px py old small has = ap (λ (n : ℕ). mixed (mix_of item.blend item.opacity (slice_index rgba 3)) n old) b ∙ fill-ink 2 item rgba px py old fill
+  by_channel zero px py old small has = ap (λ (n : ℕ). mixed (mix_of item.blend item.opacity (slice_index rgba 3)) n old) r
+      ∙ fill-ink 0 item rgba px py old fill
+  by_channel (suc zero) px py old small has = ap (λ (n : ℕ). mixed (mix_of item.blend item.opacity (slice_index rgba 3)) n old) g
+      ∙ fill-ink 1 item rgba px py old fill
+  by_channel (suc (suc zero)) px py old small has = ap (λ (n : ℕ). mixed (mix_of item.blend item.opacity (slice_index rgba 3)) n old) b
+      ∙ fill-ink 2 item rgba px py old fill
   by_channel (suc (suc (suc c))) px py old small has = absurd (omega arith)
 
 -- what replaces what is there has that blend mode
@@ -137,7 +149,8 @@ by-channels s m b F was one two now some small red red_else green green_else blu
     ∙ ap (λ (c : ℕ). if b then F c was else was) (sym e))
 
 -- a value that is another one where a test holds
-pub where-it-holds : (b : Bool) (mix : Mix) (v w old now : ℕ) → (b ≡ true → v ≡ w) → now ≡ (if b then mixed mix v old else old) → now ≡ (if b then mixed mix w old else old)
+pub where-it-holds : (b : Bool) (mix : Mix) (v w old now : ℕ) → (b ≡ true → v ≡ w) → now ≡ (if b then mixed mix v old else old)
+    → now ≡ (if b then mixed mix w old else old)
 where-it-holds true mix v w old now same e = e ∙ ap (λ (n : ℕ). mixed mix n old) (same refl)
 where-it-holds false mix v w old now same e = e
 
@@ -155,9 +168,11 @@ pub stamp-toned : (steps : Steps) (area cut : Area) (reds greens : List ℕ)
     → IsInArea area cut → cut.x1 ≤ cut.x0 + 64 → cut.y1 ≤ cut.y0 + 64 → (c px py : ℕ) → has_pixel cut px py ≡ true
     → stamped (record { cut = cut; reds = reds; greens = greens; blue = steps.blue }) c px py ≡ toned area (Stepped steps) c px py
 stamp-toned steps area cut reds greens red green within columns rows zero px py has =
-    table-step steps.red (stride_of steps.rises) area.x0 cut.x0 px reds red within.x0 (pixel-left cut px py has) (omega (arith, pixel-right cut px py has, columns))
+    table-step steps.red (stride_of steps.rises) area.x0 cut.x0 px reds red within.x0 (pixel-left cut px py has)
+    (omega (arith, pixel-right cut px py has, columns))
 stamp-toned steps area cut reds greens red green within columns rows (suc zero) px py has =
-    table-step steps.green (stride_of steps.sinks) area.y0 cut.y0 py greens green within.y0 (pixel-top cut px py has) (omega (arith, pixel-bottom cut px py has, rows))
+    table-step steps.green (stride_of steps.sinks) area.y0 cut.y0 py greens green within.y0 (pixel-top cut px py has)
+    (omega (arith, pixel-bottom cut px py has, rows))
 stamp-toned steps area cut reds greens red green within columns rows (suc (suc c)) px py has = refl
 
 -- tones, laid on what an item covers of a window, are the item's step there
@@ -166,7 +181,8 @@ laid-step : (cut k : Bool) (painted laid old now : ℕ) → (cut ≡ true → k 
 laid-step true k painted laid old now covered same e = e ∙ same refl ∙ sym (ap (λ (b : Bool). if b then painted else old) (covered refl))
 laid-step false k painted laid old now covered same e = e
 
-pub toned-step : (item : DrawItem) (mix : Mix) (area window cut : Area) (tones : Tones) (c px py old now : ℕ) → IsAreaOf item area → Paints item mix area tones → IsWindow window
+pub toned-step : (item : DrawItem) (mix : Mix) (area window cut : Area) (tones : Tones) (c px py old now : ℕ) → IsAreaOf item area → Paints item mix area tones
+    → IsWindow window
     → ((x y : ℕ) → has_pixel cut x y ≡ (has_pixel area x y && has_pixel window x y)) → c < 3
     → now ≡ (if has_pixel cut px py then mixed mix (toned area tones c px py) old else old)
     → now ≡ (if has_pixel window px py then channel_step c item px py old else old)
@@ -174,7 +190,8 @@ toned-step item mix area window cut tones c px py old now covered paints some sh
     let both : has_pixel cut px py ≡ true → (has_pixel area px py && has_pixel window px py) ≡ true = λ has. sym (shared px py) ∙ has in
     let same : has_pixel window px py ≡ true → has_pixel area px py ≡ covers item px py =
     λ has. covered px py (omega (arith, pixel-right window px py has, some.right)) (omega (arith, pixel-bottom window px py has, some.bottom)) in
-    cut-painted (has_pixel cut px py) (has_pixel area px py) (has_pixel window px py) (covers item px py) (channel_painted c item px py old) old now (shared px py) same
+    cut-painted (has_pixel cut px py) (has_pixel area px py) (has_pixel window px py) (covers item px py) (channel_painted c item px py old) old now
+    (shared px py) same
     (laid-step (has_pixel cut px py) (covers item px py) (channel_painted c item px py old) _ old now
     (λ has. sym (same (and-right (has_pixel area px py) _ (both has))) ∙ and-left _ (has_pixel window px py) (both has))
     (λ has. paints c px py old channel (and-left _ (has_pixel window px py) (both has))) e)

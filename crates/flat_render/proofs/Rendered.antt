@@ -23,5 +23,7 @@ module _ (g : Grid) (is : IsGrid g) (items drawn : List DrawItem) (same : drawn 
       ∙ ap (λ (its : List DrawItem). channel_after n its x y 0) same
 
   pub rendered : (x y : ℕ) → x < g.width → y < g.height
-      → get_or (with_items bytes new).items (place_of g 0 x y) 0 ∷ get_or (with_items bytes new).items (place_of g 1 x y) 0 ∷ get_or (with_items bytes new).items (place_of g 2 x y) 0 ∷ [] ≡ pixel items x y
-  rendered x y wide high = pixel-channels items x y _ _ _ (channel 0 x y (omega arith) wide high) (channel 1 x y (omega arith) wide high) (channel 2 x y (omega arith) wide high)
+      → get_or (with_items bytes new).items (place_of g 0 x y) 0 ∷ get_or (with_items bytes new).items (place_of g 1 x y) 0
+      ∷ get_or (with_items bytes new).items (place_of g 2 x y) 0 ∷ [] ≡ pixel items x y
+  rendered x y wide high = pixel-channels items x y _ _ _ (channel 0 x y (omega arith) wide high) (channel 1 x y (omega arith) wide high)
+      (channel 2 x y (omega arith) wide high)

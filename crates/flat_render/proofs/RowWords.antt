@@ -12,7 +12,8 @@ use Rattle.flat_render.proofs.Rows.{either, put-before, put-inside, put-after}
 use Rattle.flat_render.proofs.Runs.{run-pixel}
 
 -- a part of a line more
-pub part-more : (f : ℕ → ℕ → ℕ) (old line part : List ℕ) (a b z m : ℕ) → a ≡ m → a ≤ b → b ≤ length line → z ≡ b - a → length part ≡ z → IsChangedTo f old line m
+pub part-more : (f : ℕ → ℕ → ℕ) (old line part : List ℕ) (a b z m : ℕ) → a ≡ m → a ≤ b → b ≤ length line → z ≡ b - a → length part ≡ z
+    → IsChangedTo f old line m
     → ((i : ℕ) → a + i < b → get_or part i 0 ≡ f (a + i) (get_or old (a + i) 0)) → IsChangedTo f old (put_mid a z line part) b
 part-more f old line part a b z m here up fits wide size so_far changed = record {
   below = λ k small.
@@ -36,5 +37,6 @@ pub run-word : (p : Picture) (bytes : List ℕ) (first size n i y x : ℕ) → b
     → xrgb (get_or (take (length bytes - first) (drop first bytes)) i 0 ∷ get_or (take (length bytes - (first + size)) (drop (first + size) bytes)) i 0
     ∷ get_or (take (length bytes - (first + 2 * size)) (drop (first + 2 * size) bytes)) i 0 ∷ []) ≡ xrgb (pixel_of p x y)
 run-word p bytes first size n i y x e f s column row small at room =
-    ap xrgb ((λ j. behind first i bytes (omega arith) j ∷ behind (first + size) i bytes (omega arith) j ∷ behind (first + 2 * size) i bytes (omega arith) j ∷ [])
+    ap xrgb ((λ j. behind first i bytes (omega arith) j ∷ behind (first + size) i bytes (omega arith) j ∷ behind (first + 2 * size) i bytes (omega arith) j
+    ∷ [])
     ∙ run-pixel p bytes first size n i y x e f s column row small at)

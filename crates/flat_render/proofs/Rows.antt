@@ -1,5 +1,6 @@
 -- The rows of a tile, inked one by one.
-use Rattle.std.proofs.Common.{ℕ, ◌+◌, ◌-◌, ◌*◌, ◌/◌, ◌%◌, ◌<◌, ◌≤◌, ◌≡◌, ◌≢◌, ◌⊎◌, inl, inr, refl, ap, ◌∙◌, sym, subst, Bool, true, false, nat_lt, nat_le, if◌then◌else◌, List, ◌++◌, length, get_or, take, drop, arith}
+use Rattle.std.proofs.Common.{ℕ, ◌+◌, ◌-◌, ◌*◌, ◌/◌, ◌%◌, ◌<◌, ◌≤◌, ◌≡◌, ◌≢◌, ◌⊎◌, inl, inr, refl, ap, ◌∙◌, sym, subst, Bool, true, false, nat_lt, nat_le}
+use Rattle.std.proofs.Common.{if◌then◌else◌, List, ◌++◌, length, get_or, take, drop, arith}
 use Rattle.std.proofs.lemmas.Bool.{cases_lt, false_from_ne_true}
 use Rattle.std.proofs.lemmas.Bool.Decides.{nat_tests}
 use Rattle.std.proofs.lemmas.List.{get_or-take, get_or-drop, get_or-append_right, get_or_append_left, length-take, length-drop}
@@ -85,11 +86,13 @@ row_start tile cut py = (py - tile.top) * tile.width + (cut.x0 - tile.left)
 abbrev pub row_size : Tile → Area → ℕ → ℕ
 row_size tile cut py = (py - tile.top) * tile.width + (cut.x1 - tile.left) - row_start tile cut py
 
-module _ (tile : Tile) (cut : Area) (py : ℕ) (wide : 0 < tile.width) (within : IsInArea (tile_area tile) cut) (some : cut.x0 < cut.x1) (from : cut.y0 ≤ py) (to : py < cut.y1) where
+module _ (tile : Tile) (cut : Area) (py : ℕ) (wide : 0 < tile.width) (within : IsInArea (tile_area tile) cut) (some : cut.x0 < cut.x1) (from : cut.y0 ≤ py)
+    (to : py < cut.y1) where
   -- the row lies in the tile
   row-fits : row_start tile cut py + row_size tile cut py ≤ tile.width * tile.height
   row-fits =
-      let one_more : (py - tile.top) * tile.width + tile.width ≤ tile.height * tile.width = row_fits (py - tile.top) tile.width tile.height tile.width (omega (arith, within.y1, within.y0)) (omega arith) in
+      let one_more : (py - tile.top) * tile.width + tile.width ≤ tile.height * tile.width =
+      row_fits (py - tile.top) tile.width tile.height tile.width (omega (arith, within.y1, within.y0)) (omega arith) in
       omega (arith, one_more, within.x0, within.x1)
 
   -- a pixel of the row
@@ -106,7 +109,8 @@ module _ (tile : Tile) (cut : Area) (py : ℕ) (wide : 0 < tile.width) (within :
       omega (arith, at.0, within.y0)
 
   -- what has the row's number and columns stands in the row
-  row-has : (k : ℕ) → y_of tile k ≡ py → cut.x0 ≤ x_of tile k → x_of tile k < cut.x1 → (row_start tile cut py ≤ k) × (k < row_start tile cut py + row_size tile cut py)
+  row-has : (k : ℕ) → y_of tile k ≡ py → cut.x0 ≤ x_of tile k → x_of tile k < cut.x1
+      → (row_start tile cut py ≤ k) × (k < row_start tile cut py + row_size tile cut py)
   row-has k y x0 x1 =
       let q : k / tile.width ≡ py - tile.top = omega (arith, y) in
       let place : (py - tile.top) * tile.width + k % tile.width ≡ k = subst (λ (n : ℕ). n * tile.width + k % tile.width ≡ k) q (div-add-mod' k tile.width) in
@@ -155,7 +159,8 @@ module _ (tile : Tile) (cut : Area) (py : ℕ) (wide : 0 < tile.width) (within :
       let line_len : length line ≡ n = len ∙ simp (length-take, length-drop) (omega arith) in
       either _ _ (cases_lt k a)
       (λ before. put-before a n pixels line k fits before ∙ so_far k small
-      ∙ ap (λ (b : Bool). if b then f (x_of tile k) (y_of tile k) (get_or old k 0) else get_or old k 0) (row-others k (λ h. absurd (omega (arith, h.0, before)))))
+      ∙ ap (λ (b : Bool). if b then f (x_of tile k) (y_of tile k) (get_or old k 0) else get_or old k 0)
+      (row-others k (λ h. absurd (omega (arith, h.0, before)))))
       (λ above. either _ _ (cases_lt k (a + n))
       (λ below.
       let i : ℕ = k - a in
@@ -171,7 +176,8 @@ module _ (tile : Tile) (cut : Area) (py : ℕ) (wide : 0 < tile.width) (within :
       ∙ ap (λ (y : ℕ). f (x_of tile k) y (get_or old k 0)) (sym (row-y k above below))
       ∙ ap (λ (b : Bool). if b then f (x_of tile k) (y_of tile k) (get_or old k 0) else get_or old k 0) (sym (row-passes k above below)))
       (λ past. put-after a n pixels line k fits line_len past ∙ so_far k small
-      ∙ ap (λ (b : Bool). if b then f (x_of tile k) (y_of tile k) (get_or old k 0) else get_or old k 0) (row-others k (λ h. absurd (omega (arith, h.1, past))))))
+      ∙ ap (λ (b : Bool). if b then f (x_of tile k) (y_of tile k) (get_or old k 0) else get_or old k 0)
+      (row-others k (λ h. absurd (omega (arith, h.1, past))))))
 
 -- a loop over rows that came to its end did them all
 pub rows-done : (y0 y1 py y : ℕ) → y0 < y1 → y1 ≤ py → (y0 ≤ y1 → py ≤ y1) → is_among y0 py y ≡ is_among y0 y1 y

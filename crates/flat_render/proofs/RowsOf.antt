@@ -52,8 +52,10 @@ band-place g n c x y low =
     ap (λ (q : ℕ). (q * g.across + x / g.tile_w) * tile_bytes g + (c * tile_size g + ((n * t + y) % t * g.tile_w + x % g.tile_w))) (div-mul-add n t y low)
     ∙ ap (λ (r : ℕ). (n * g.across + x / g.tile_w) * tile_bytes g + (c * tile_size g + (r * g.tile_w + x % g.tile_w))) (mod-mul-add n t y low)
     ∙ spread n g.across (x / g.tile_w) (tile_bytes g) (c * tile_size g + (y * g.tile_w + x % g.tile_w))
-    ∙ ap (λ (q : ℕ). n * band_bytes g + ((q * g.across + x / g.tile_w) * tile_bytes g + (c * tile_size g + (y * g.tile_w + x % g.tile_w)))) (sym (small-div y t low))
-    ∙ ap (λ (r : ℕ). n * band_bytes g + ((y / t * g.across + x / g.tile_w) * tile_bytes g + (c * tile_size g + (r * g.tile_w + x % g.tile_w)))) (sym (small-mod y t low))
+    ∙ ap (λ (q : ℕ). n * band_bytes g + ((q * g.across + x / g.tile_w) * tile_bytes g + (c * tile_size g + (y * g.tile_w + x % g.tile_w))))
+    (sym (small-div y t low))
+    ∙ ap (λ (r : ℕ). n * band_bytes g + ((y / t * g.across + x / g.tile_w) * tile_bytes g + (c * tile_size g + (r * g.tile_w + x % g.tile_w))))
+    (sym (small-mod y t low))
 
 module _ (g : Grid) (is : IsGrid g) (n x y : ℕ) (there : n < g.down) (wide : x < g.width) (high : y < min g.tile_h (g.height - n * g.tile_h)) where
   low : y < g.tile_h
@@ -66,9 +68,11 @@ module _ (g : Grid) (is : IsGrid g) (n x y : ℕ) (there : n < g.down) (wide : x
   here c small = omega (arith, place-there (band_of g n) (band-is g n is there) c x y small wide high, band-bytes g n)
 
   -- a pixel of a row of tiles that was drawn
-  pub drawn-colour : (items : List DrawItem) (band : List ℕ) → length band ≡ band_bytes g → ((m : ℕ) → m < length band → get_or band m 0 ≡ drawn_at g items (n * band_bytes g + m))
+  pub drawn-colour : (items : List DrawItem) (band : List ℕ) → length band ≡ band_bytes g
+      → ((m : ℕ) → m < length band → get_or band m 0 ≡ drawn_at g items (n * band_bytes g + m))
       → colour_in (band_of g n) band x y ≡ pixel items x (n * g.tile_h + y)
-  drawn-colour items band size are = pixel-channels items x (n * g.tile_h + y) _ _ _ (channel 0 (omega arith)) (channel 1 (omega arith)) (channel 2 (omega arith))
+  drawn-colour items band size are = pixel-channels items x (n * g.tile_h + y) _ _ _ (channel 0 (omega arith)) (channel 1 (omega arith))
+      (channel 2 (omega arith))
     where
       channel : (c : ℕ) → c < 3 → get_or band (place_of (band_of g n) c x y) 0 ≡ channel_after c items x (n * g.tile_h + y) 0
       channel c small =
@@ -77,7 +81,8 @@ module _ (g : Grid) (is : IsGrid g) (n x y : ℕ) (there : n < g.down) (wide : x
           ∙ drawn-place g is c x (n * g.tile_h + y) small wide within items
 
   -- and one of a row of tiles that is a part of all bytes
-  pub copied-colour : (bytes band : List ℕ) (size part : ℕ) → size ≡ band_bytes g → part ≡ size → band ≡ take part (drop (n * size) bytes) → colour_in (band_of g n) band x y ≡ colour_in g bytes x (n * g.tile_h + y)
+  pub copied-colour : (bytes band : List ℕ) (size part : ℕ) → size ≡ band_bytes g → part ≡ size → band ≡ take part (drop (n * size) bytes)
+      → colour_in (band_of g n) band x y ≡ colour_in g bytes x (n * g.tile_h + y)
   copied-colour bytes band size part len all are = λ j. channel 0 (omega arith) j ∷ channel 1 (omega arith) j ∷ channel 2 (omega arith) j ∷ []
     where
       channel : (c : ℕ) → c < 3 → get_or band (place_of (band_of g n) c x y) 0 ≡ get_or bytes (place_of g c x (n * g.tile_h + y)) 0
@@ -90,11 +95,14 @@ module _ (g : Grid) (is : IsGrid g) (n x y : ℕ) (there : n < g.down) (wide : x
           ∙ ap (λ (k : ℕ). get_or bytes k 0) (sym (band-place g n c x y low))
 
 -- the rows of one row of tiles more
-pub rows-more : (g : Grid) (colour of : ℕ → ℕ → List ℕ) (n : ℕ) (before was now : List ℕ) → was ≡ before ++ rows_bytes colour g.width (min (n * g.tile_h) g.height)
+pub rows-more : (g : Grid) (colour of : ℕ → ℕ → List ℕ) (n : ℕ) (before was now : List ℕ)
+    → was ≡ before ++ rows_bytes colour g.width (min (n * g.tile_h) g.height)
     → ((x y : ℕ) → x < g.width → y < min g.tile_h (g.height - n * g.tile_h) → of x y ≡ colour x (n * g.tile_h + y))
-    → now ≡ was ++ rows_bytes of g.width (min g.tile_h (g.height - n * g.tile_h)) → now ≡ before ++ rows_bytes colour g.width (min ((n + 1) * g.tile_h) g.height)
+    → now ≡ was ++ rows_bytes of g.width (min g.tile_h (g.height - n * g.tile_h))
+    → now ≡ before ++ rows_bytes colour g.width (min ((n + 1) * g.tile_h) g.height)
 rows-more g colour of n before was now so_far same more =
-    run-more (λ y. row_bytes colour g.width y) (λ y. row_bytes of g.width y) (min (n * g.tile_h) g.height) (min g.tile_h (g.height - n * g.tile_h)) (min ((n + 1) * g.tile_h) g.height)
+    run-more (λ y. row_bytes colour g.width y) (λ y. row_bytes of g.width y) (min (n * g.tile_h) g.height) (min g.tile_h (g.height - n * g.tile_h))
+    (min ((n + 1) * g.tile_h) g.height)
     before was now (omega arith) so_far
     (λ y small.
     let at : n * g.tile_h + y ≡ min (n * g.tile_h) g.height + y = omega (arith, small) in
@@ -102,7 +110,8 @@ rows-more g colour of n before was now so_far same more =
     more
 
 -- all rows, when the rows of tiles are done
-pub rows-done : (g : Grid) (colour : ℕ → ℕ → List ℕ) (n : ℕ) (before now : List ℕ) → IsGrid g → n ≡ g.down → now ≡ before ++ rows_bytes colour g.width (min (n * g.tile_h) g.height)
+pub rows-done : (g : Grid) (colour : ℕ → ℕ → List ℕ) (n : ℕ) (before now : List ℕ) → IsGrid g → n ≡ g.down
+    → now ≡ before ++ rows_bytes colour g.width (min (n * g.tile_h) g.height)
     → now ≡ before ++ rows_bytes colour g.width g.height
 rows-done g colour n before now is all so_far =
     let high : g.height ≤ n * g.tile_h = omega (arith, is.bottom, ap (λ (k : ℕ). k * g.tile_h) all) in

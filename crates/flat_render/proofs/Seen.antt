@@ -9,7 +9,8 @@ use Rattle.flat_render.proofs.Channels.{pixel-channels}
 
 -- the colour of a pixel, drawn anew where a test holds, channel by channel
 pub redrawn-channels : (b : Bool) (items : List DrawItem) (px py r0 g0 b0 r1 g1 b1 : ℕ)
-    → r1 ≡ (if b then channel_after 0 items px py 0 else r0) → g1 ≡ (if b then channel_after 1 items px py 0 else g0) → b1 ≡ (if b then channel_after 2 items px py 0 else b0)
+    → r1 ≡ (if b then channel_after 0 items px py 0 else r0) → g1 ≡ (if b then channel_after 1 items px py 0 else g0)
+    → b1 ≡ (if b then channel_after 2 items px py 0 else b0)
     → r1 ∷ g1 ∷ b1 ∷ [] ≡ (if b then pixel items px py else r0 ∷ g0 ∷ b0 ∷ [])
 redrawn-channels true items px py r0 g0 b0 r1 g1 b1 e f h = pixel-channels items px py r1 g1 b1 e f h
 redrawn-channels false items px py r0 g0 b0 r1 g1 b1 e f h = rw (e, f, h) refl

@@ -1,5 +1,6 @@
 -- Pixels side by side, which lie in parts side by side where each part is one unit wide.
-use Rattle.std.proofs.Common.{ℕ, ℤ, pos, ◌+◌, ◌*◌, ◌/◌, ◌%◌, ◌-◌, ◌<◌, ◌≡◌, ◌-ℤ◌, ◌<ℤ◌, ◌≤ℤ◌, Bool, true, false, not, int_lt, int_le, unsigned_abs, if◌then◌else◌, refl, ap, ◌∙◌, sym, List, length, get_or, arith}
+use Rattle.std.proofs.Common.{ℕ, ℤ, pos, ◌+◌, ◌*◌, ◌/◌, ◌%◌, ◌-◌, ◌<◌, ◌≡◌, ◌-ℤ◌, ◌<ℤ◌, ◌≤ℤ◌, Bool, true, false, not, int_lt, int_le, unsigned_abs}
+use Rattle.std.proofs.Common.{if◌then◌else◌, refl, ap, ◌∙◌, sym, List, length, get_or, arith}
 use Rattle.std.proofs.lemmas.Int.{ints}
 use Rattle.flat_base.proofs.lemmas.Tests.{and-left, and-right}
 use Rattle.flat_base.specs.declared.shapes.IntRect.{IntRect}
@@ -22,7 +23,8 @@ IsStep false from to i = to + i ≡ from
 deeper : (low : ℤ) (p i : ℕ) → low ≤ℤ centre p → unsigned_abs (centre (p + i) -ℤ low) ≡ unsigned_abs (centre p -ℤ low) + 65536 * i
 deeper low p i h = omega (arith, ints)
 
-less-deep : (high : ℤ) (p i : ℕ) → centre (p + i) <ℤ high → unsigned_abs ((high -ℤ pos 1) -ℤ centre (p + i)) + 65536 * i ≡ unsigned_abs ((high -ℤ pos 1) -ℤ centre p)
+less-deep : (high : ℤ) (p i : ℕ) → centre (p + i) <ℤ high
+    → unsigned_abs ((high -ℤ pos 1) -ℤ centre (p + i)) + 65536 * i ≡ unsigned_abs ((high -ℤ pos 1) -ℤ centre p)
 less-deep high p i h = omega (arith, ints)
 
 unit-up : (d e i : ℕ) → e ≡ d + 65536 * i → e / 65536 ≡ d / 65536 + i
@@ -44,17 +46,20 @@ module _ (axis : Axis) (count p i : ℕ) (some : 0 < count) (units : unsigned_ab
   unit-part : (q : ℕ) → depth axis q / 65536 ≡ part_of axis count q
   unit-part q = wide-part (depth axis q) count 65536 (unsigned_abs (axis.high -ℤ axis.low)) some (omega arith) units
 
-  by-entry : (b : Bool) (q : ℕ) → int_lt (pos 0) axis.entry ≡ b → depth axis q ≡ unsigned_abs (if b then centre q -ℤ axis.low else (axis.high -ℤ pos 1) -ℤ centre q)
+  by-entry : (b : Bool) (q : ℕ) → int_lt (pos 0) axis.entry ≡ b
+      → depth axis q ≡ unsigned_abs (if b then centre q -ℤ axis.low else (axis.high -ℤ pos 1) -ℤ centre q)
   by-entry b q e = ap (λ (t : Bool). unsigned_abs (if t then centre q -ℤ axis.low else (axis.high -ℤ pos 1) -ℤ centre q)) e
 
   part-step : (b : Bool) → int_lt (pos 0) axis.entry ≡ b → IsStep b (part_of axis count p) (part_of axis count (p + i)) i
   part-step true e =
       let low : axis.low ≤ℤ centre p = int-le axis.low (centre p) (and-left _ _ here) in
-      let all : depth axis (p + i) ≡ depth axis p + 65536 * i = by-entry true (p + i) e ∙ deeper axis.low p i low ∙ ap (λ (n : ℕ). n + 65536 * i) (sym (by-entry true p e)) in
+      let all : depth axis (p + i) ≡ depth axis p + 65536 * i =
+      by-entry true (p + i) e ∙ deeper axis.low p i low ∙ ap (λ (n : ℕ). n + 65536 * i) (sym (by-entry true p e)) in
       sym (unit-part (p + i)) ∙ unit-up (depth axis p) (depth axis (p + i)) i all ∙ ap (λ (n : ℕ). n + i) (unit-part p)
   part-step false e =
       let high : centre (p + i) <ℤ axis.high = int-lt (centre (p + i)) axis.high (and-right (int_le axis.low (centre (p + i))) _ there) in
-      let all : depth axis (p + i) + 65536 * i ≡ depth axis p = ap (λ (n : ℕ). n + 65536 * i) (by-entry false (p + i) e) ∙ less-deep axis.high p i high ∙ sym (by-entry false p e) in
+      let all : depth axis (p + i) + 65536 * i ≡ depth axis p =
+      ap (λ (n : ℕ). n + 65536 * i) (by-entry false (p + i) e) ∙ less-deep axis.high p i high ∙ sym (by-entry false p e) in
       ap (λ (n : ℕ). n + i) (sym (unit-part (p + i))) ∙ unit-down (depth axis p) (depth axis (p + i)) i all ∙ unit-part p
 
   low-part : part_of axis count p < count
@@ -69,18 +74,24 @@ module _ (axis : Axis) (count p i : ℕ) (some : 0 < count) (units : unsigned_ab
   pub turned-step : IsStep (not (int_lt (pos 0) axis.entry)) (count - 1 - part_of axis count p) (count - 1 - part_of axis count (p + i)) i
   turned-step = turned (int_lt (pos 0) axis.entry) count (part_of axis count p) (part_of axis count (p + i)) i low-part high-part kept-step
 
-module _ (axis : Axis) (sample : IntRect) (p i : ℕ) (here : is_between axis.low axis.high (centre p) ≡ true) (there : is_between axis.low axis.high (centre (p + i)) ≡ true) where
+module _ (axis : Axis) (sample : IntRect) (p i : ℕ) (here : is_between axis.low axis.high (centre p) ≡ true)
+    (there : is_between axis.low axis.high (centre (p + i)) ≡ true) where
   pub column-step : (flip : ImageFlip) → 0 < unsigned_abs sample.w → unsigned_abs (axis.high -ℤ axis.low) ≡ unsigned_abs sample.w * 65536
       → IsStep (rises_across axis flip) (buffer_column axis sample flip p) (buffer_column axis sample flip (p + i)) i
-  column-step Plain some units = moved (int_lt (pos 0) axis.entry) (unsigned_abs sample.x) _ _ i (kept-step axis (unsigned_abs sample.w) p i some units here there)
-  column-step LeftRight some units = moved (not (int_lt (pos 0) axis.entry)) (unsigned_abs sample.x) _ _ i (turned-step axis (unsigned_abs sample.w) p i some units here there)
-  column-step UpDown some units = moved (int_lt (pos 0) axis.entry) (unsigned_abs sample.x) _ _ i (kept-step axis (unsigned_abs sample.w) p i some units here there)
+  column-step Plain some units = moved (int_lt (pos 0) axis.entry) (unsigned_abs sample.x) _ _ i
+      (kept-step axis (unsigned_abs sample.w) p i some units here there)
+  column-step LeftRight some units = moved (not (int_lt (pos 0) axis.entry)) (unsigned_abs sample.x) _ _ i
+      (turned-step axis (unsigned_abs sample.w) p i some units here there)
+  column-step UpDown some units = moved (int_lt (pos 0) axis.entry) (unsigned_abs sample.x) _ _ i
+      (kept-step axis (unsigned_abs sample.w) p i some units here there)
 
   pub row-down : (flip : ImageFlip) → 0 < unsigned_abs sample.h → unsigned_abs (axis.high -ℤ axis.low) ≡ unsigned_abs sample.h * 65536
       → IsStep (rises_down axis flip) (buffer_row axis sample flip p) (buffer_row axis sample flip (p + i)) i
   row-down Plain some units = moved (int_lt (pos 0) axis.entry) (unsigned_abs sample.y) _ _ i (kept-step axis (unsigned_abs sample.h) p i some units here there)
-  row-down LeftRight some units = moved (int_lt (pos 0) axis.entry) (unsigned_abs sample.y) _ _ i (kept-step axis (unsigned_abs sample.h) p i some units here there)
-  row-down UpDown some units = moved (not (int_lt (pos 0) axis.entry)) (unsigned_abs sample.y) _ _ i (turned-step axis (unsigned_abs sample.h) p i some units here there)
+  row-down LeftRight some units = moved (int_lt (pos 0) axis.entry) (unsigned_abs sample.y) _ _ i
+      (kept-step axis (unsigned_abs sample.h) p i some units here there)
+  row-down UpDown some units = moved (not (int_lt (pos 0) axis.entry)) (unsigned_abs sample.y) _ _ i
+      (turned-step axis (unsigned_abs sample.h) p i some units here there)
 
 -- the colours of the pattern at such a step
 pub red-step : (b : Bool) (index from to i : ℕ) → IsStep b from to i → (red_at index from + stride_of b * i) % 256 ≡ red_at index to

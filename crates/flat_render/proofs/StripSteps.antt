@@ -20,7 +20,8 @@ strip-more items g n band is there size drawn =
     (λ x y wide high. drawn-colour g is n x y there wide high items band size drawn) refl
 
 -- so strips grow as the rows do
-pub rows-grow : {S : Type 0} (f : S → List ℕ) (above here next : List ℕ) (old new : List S) (strip : S) → here ≡ above ++ flat_map f old → here ++ f strip ≡ next → new ≡ old ++ strip ∷ []
+pub rows-grow : {S : Type 0} (f : S → List ℕ) (above here next : List ℕ) (old new : List S) (strip : S) → here ≡ above ++ flat_map f old
+    → here ++ f strip ≡ next → new ≡ old ++ strip ∷ []
     → next ≡ above ++ flat_map f new
 rows-grow f above here next old new strip so_far more are =
     sym more ∙ ap (λ (t : List ℕ). t ++ f strip) so_far ∙ flat_map_more f above old strip ∙ ap (λ all. above ++ flat_map f all) (sym are)

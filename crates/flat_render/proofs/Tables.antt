@@ -7,7 +7,8 @@ use Rattle.flat_render.specs.Inks.{tone, mix_of, mixed}
 use Rattle.flat_render.specs.Textures.{IsTable}
 
 -- a table, read at a pixel
-pub table-read : (value : ℕ → ℕ) (from upto : ℕ) (table : List ℕ) (p : ℕ) → IsTable value from upto table → from ≤ p → p < upto → get_or table (p - from) 0 ≡ value p
+pub table-read : (value : ℕ → ℕ) (from upto : ℕ) (table : List ℕ) (p : ℕ) → IsTable value from upto table → from ≤ p → p < upto
+    → get_or table (p - from) 0 ≡ value p
 table-read value from upto table p is low high =
     let at : from + (p - from) ≡ p = omega arith in
     is.values (p - from) (omega arith) ∙ ap value at

@@ -46,6 +46,9 @@ planes-changed s m F bytes rest red green blue new_red new_green new_blue some w
     let whole : bytes ≡ red ++ (green ++ blue) = split ∙ ap (λ (xs : List ℕ). red ++ xs) split_rest in
     let was : get_or bytes m 0 ≡ get_or (red ++ (green ++ blue)) m 0 = ap (λ (xs : List ℕ). get_or xs m 0) whole in
     which-channel s m some within
-    (λ e. at-red s m some new_red new_green new_blue nrs ngs nbs e ∙ in_red k (omega (arith, low, rs)) ∙ ap (F 0 k) (sym (was ∙ at-red s m some red green blue rs gs bs e)) ∙ ap (λ (c : ℕ). F c k (get_or bytes m 0)) (sym e))
-    (λ e. at-green s m some new_red new_green new_blue nrs ngs nbs e ∙ in_green k (omega (arith, low, gs)) ∙ ap (F 1 k) (sym (was ∙ at-green s m some red green blue rs gs bs e)) ∙ ap (λ (c : ℕ). F c k (get_or bytes m 0)) (sym e))
-    (λ e. at-blue s m some new_red new_green new_blue nrs ngs nbs e ∙ in_blue k (omega (arith, low, bs)) ∙ ap (F 2 k) (sym (was ∙ at-blue s m some red green blue rs gs bs e)) ∙ ap (λ (c : ℕ). F c k (get_or bytes m 0)) (sym e))
+    (λ e. at-red s m some new_red new_green new_blue nrs ngs nbs e ∙ in_red k (omega (arith, low, rs))
+    ∙ ap (F 0 k) (sym (was ∙ at-red s m some red green blue rs gs bs e)) ∙ ap (λ (c : ℕ). F c k (get_or bytes m 0)) (sym e))
+    (λ e. at-green s m some new_red new_green new_blue nrs ngs nbs e ∙ in_green k (omega (arith, low, gs))
+    ∙ ap (F 1 k) (sym (was ∙ at-green s m some red green blue rs gs bs e)) ∙ ap (λ (c : ℕ). F c k (get_or bytes m 0)) (sym e))
+    (λ e. at-blue s m some new_red new_green new_blue nrs ngs nbs e ∙ in_blue k (omega (arith, low, bs))
+    ∙ ap (F 2 k) (sym (was ∙ at-blue s m some red green blue rs gs bs e)) ∙ ap (λ (c : ℕ). F c k (get_or bytes m 0)) (sym e))

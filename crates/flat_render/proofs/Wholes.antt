@@ -1,5 +1,6 @@
 -- Areas that are as wide as their tile: their rows stand one after another.
-use Rattle.std.proofs.Common.{ℕ, ◌+◌, ◌-◌, ◌*◌, ◌/◌, ◌%◌, ◌<◌, ◌≤◌, ◌≡◌, ap, ◌∙◌, sym, Bool, true, false, if◌then◌else◌, List, length, get_or, take, drop, arith}
+use Rattle.std.proofs.Common.{ℕ, ◌+◌, ◌-◌, ◌*◌, ◌/◌, ◌%◌, ◌<◌, ◌≤◌, ◌≡◌, ap, ◌∙◌, sym, Bool, true, false, if◌then◌else◌, List, length, get_or, take, drop}
+use Rattle.std.proofs.Common.{arith}
 use Rattle.std.proofs.lemmas.Bool.{cases_lt, false_from_ne_true}
 use Rattle.std.proofs.lemmas.List.{length-take, length-drop}
 use Rattle.std.proofs.lemmas.Nat.{div-add-mod', div_below, le-div, mod_below, mul-le, row_fits}
@@ -19,13 +20,15 @@ rows_from tile cut = (cut.y0 - tile.top) * tile.width
 abbrev pub rows_upto : Tile → Area → ℕ
 rows_upto tile cut = (cut.y1 - tile.top) * tile.width
 
-module _ (tile : Tile) (cut : Area) (wide : 0 < tile.width) (within : IsInArea (tile_area tile) cut) (some : cut.y0 < cut.y1) (whole : tile.width ≤ cut.x1 - cut.x0) where
+module _ (tile : Tile) (cut : Area) (wide : 0 < tile.width) (within : IsInArea (tile_area tile) cut) (some : cut.y0 < cut.y1)
+    (whole : tile.width ≤ cut.x1 - cut.x0) where
   pub rows-rise : rows_from tile cut ≤ rows_upto tile cut
   rows-rise = mul-le (cut.y0 - tile.top) tile.width (cut.y1 - tile.top) tile.width (omega arith) (omega arith)
 
   pub rows-fit : rows_upto tile cut ≤ tile.width * tile.height
   rows-fit =
-      let most : (cut.y1 - tile.top) * tile.width ≤ tile.height * tile.width = mul-le (cut.y1 - tile.top) tile.width tile.height tile.width (omega (arith, within.y1)) (omega arith) in
+      let most : (cut.y1 - tile.top) * tile.width ≤ tile.height * tile.width =
+      mul-le (cut.y1 - tile.top) tile.width tile.height tile.width (omega (arith, within.y1)) (omega arith) in
       omega (arith, most)
 
   row-inside : (k : ℕ) → rows_from tile cut ≤ k → k < rows_upto tile cut → has_pixel cut (x_of tile k) (y_of tile k) ≡ true
@@ -42,8 +45,10 @@ module _ (tile : Tile) (cut : Area) (wide : 0 < tile.width) (within : IsInArea (
       let low : cut.y0 - tile.top ≤ k / tile.width = omega (arith, among-low cut.y0 cut.y1 (y_of tile k) rows) in
       let high : k / tile.width < cut.y1 - tile.top = omega (arith, among-high cut.y0 cut.y1 (y_of tile k) rows, within.y0) in
       let place : k / tile.width * tile.width + k % tile.width ≡ k = div-add-mod' k tile.width in
-      let from : (cut.y0 - tile.top) * tile.width ≤ k / tile.width * tile.width = mul-le (cut.y0 - tile.top) tile.width (k / tile.width) tile.width low (omega arith) in
-      let to : k / tile.width * tile.width + tile.width ≤ (cut.y1 - tile.top) * tile.width = row_fits (k / tile.width) tile.width (cut.y1 - tile.top) tile.width high (omega arith) in
+      let from : (cut.y0 - tile.top) * tile.width ≤ k / tile.width * tile.width =
+      mul-le (cut.y0 - tile.top) tile.width (k / tile.width) tile.width low (omega arith) in
+      let to : k / tile.width * tile.width + tile.width ≤ (cut.y1 - tile.top) * tile.width =
+      row_fits (k / tile.width) tile.width (cut.y1 - tile.top) tile.width high (omega arith) in
       let rest : k % tile.width < tile.width = mod_below k tile.width wide in
       out (omega (arith, place, from), omega (arith, place, to, rest)))
 
@@ -53,13 +58,16 @@ module _ (tile : Tile) (cut : Area) (wide : 0 < tile.width) (within : IsInArea (
       → ((i : ℕ) → i < length (take (rows_upto tile cut - rows_from tile cut) (drop (rows_from tile cut) plane))
       → get_or line i 0 ≡ F (get_or (take (rows_upto tile cut - rows_from tile cut) (drop (rows_from tile cut) plane)) i 0))
       → (k : ℕ) → k < length plane
-      → get_or (put_mid (rows_from tile cut) (rows_upto tile cut - rows_from tile cut) plane line) k 0 ≡ (if has_pixel cut (x_of tile k) (y_of tile k) then F (get_or plane k 0) else get_or plane k 0)
+      → get_or (put_mid (rows_from tile cut) (rows_upto tile cut - rows_from tile cut) plane line) k 0
+      ≡ (if has_pixel cut (x_of tile k) (y_of tile k) then F (get_or plane k 0) else get_or plane k 0)
   whole-rows F plane line size len changed k small =
       let a : ℕ = rows_from tile cut in
       let n : ℕ = rows_upto tile cut - rows_from tile cut in
       let fits : a + n ≤ length plane = omega (arith, rows-rise, rows-fit, size) in
       let line_len : length line ≡ n = len ∙ simp (length-take, length-drop) (omega arith) in
-      let as_test : (b : Bool) → has_pixel cut (x_of tile k) (y_of tile k) ≡ b → (if has_pixel cut (x_of tile k) (y_of tile k) then F (get_or plane k 0) else get_or plane k 0) ≡ (if b then F (get_or plane k 0) else get_or plane k 0) =
+      let as_test : (b : Bool) → has_pixel cut (x_of tile k) (y_of tile k) ≡ b
+      → (if has_pixel cut (x_of tile k) (y_of tile k) then F (get_or plane k 0) else get_or plane k 0)
+      ≡ (if b then F (get_or plane k 0) else get_or plane k 0) =
       (λ b e. ap (λ (t : Bool). if t then F (get_or plane k 0) else get_or plane k 0) e) in
       either _ _ (cases_lt k a)
       (λ before. put-before a n plane line k fits before ∙ sym (as_test false (row-outside k (λ h. absurd (omega (arith, h.0, before))))))

@@ -1,5 +1,6 @@
 -- Windows: what is seen in them, and what isn't.
-use Rattle.std.proofs.Common.{ℕ, ℤ, ◌-◌, ◌<◌, ◌≤◌, ◌≡◌, ◌<ℤ◌, ◌≤ℤ◌, refl, ap, ◌∙◌, sym, Bool, true, false, ◌&&◌, int_lt, int_le, if◌then◌else◌, FitsSigned, w64, to_z, of_z, arith}
+use Rattle.std.proofs.Common.{ℕ, ℤ, ◌-◌, ◌<◌, ◌≤◌, ◌≡◌, ◌<ℤ◌, ◌≤ℤ◌, refl, ap, ◌∙◌, sym, Bool, true, false, ◌&&◌, int_lt, int_le, if◌then◌else◌, FitsSigned, w64}
+use Rattle.std.proofs.Common.{to_z, of_z, arith}
 use Rattle.std.proofs.lemmas.Int.{ints, to_z-of_z}
 use Rattle.std.proofs.lemmas.Bool.{false_from_ne_true}
 use Rattle.flat_base.proofs.lemmas.Tests.{and-left, and-right, and-true}
@@ -46,14 +47,16 @@ begins-after low high p upto h k =
     false_from_ne_true _ (λ e. let above : low ≤ℤ centre p = int-le low (centre p) (and-left _ _ e) in absurd (omega (arith, ints)))
 
 -- what begins by the first one's and ends after the last one's
-pub goes-across : (low high : ℤ) (p from upto : ℕ) → int_le low (centre from) ≡ true → int_le high (centre (upto - 1)) ≡ false → from ≤ p → p < upto → is_between low high (centre p) ≡ true
+pub goes-across : (low high : ℤ) (p from upto : ℕ) → int_le low (centre from) ≡ true → int_le high (centre (upto - 1)) ≡ false → from ≤ p → p < upto
+    → is_between low high (centre p) ≡ true
 goes-across low high p from upto h k above below =
     let begins : low ≤ℤ centre from = int-le low (centre from) h in
     let ends : centre (upto - 1) <ℤ high = not-by high (centre (upto - 1)) k in
     and-true (le-int low (centre p) (omega (arith, ints))) (lt-int (centre p) high (omega (arith, ints)))
 
 -- the same of bounds that are read back from their bits
-pub read-between : (low high c : ℤ) (b : Bool) → FitsSigned w64 low → FitsSigned w64 high → is_between (to_z w64 (of_z w64 low)) (to_z w64 (of_z w64 high)) c ≡ b → is_between low high c ≡ b
+pub read-between : (low high c : ℤ) (b : Bool) → FitsSigned w64 low → FitsSigned w64 high
+    → is_between (to_z w64 (of_z w64 low)) (to_z w64 (of_z w64 high)) c ≡ b → is_between low high c ≡ b
 read-between low high c b f g h =
     sym (ap (λ (z : ℤ). is_between z (to_z w64 (of_z w64 high)) c) (to_z-of_z w64 low f) ∙ ap (λ (z : ℤ). is_between low z c) (to_z-of_z w64 high g)) ∙ h
 
@@ -65,7 +68,8 @@ not-right true b h = h
 not-right false b h = refl
 
 -- a step at a pixel that an item doesn't cover
-pub step-missed : (c : ℕ) (item : DrawItem) (b : Bool) (px py was : ℕ) → (b ≡ true → covers item px py ≡ false) → was ≡ (if b then channel_step c item px py was else was)
+pub step-missed : (c : ℕ) (item : DrawItem) (b : Bool) (px py was : ℕ) → (b ≡ true → covers item px py ≡ false)
+    → was ≡ (if b then channel_step c item px py was else was)
 step-missed c item true px py was h = sym (step-none c item px py was (h refl)) where
   step-none : (c : ℕ) (item : DrawItem) (px py was : ℕ) → covers item px py ≡ false → channel_step c item px py was ≡ was
   step-none c item px py was e = rw e refl

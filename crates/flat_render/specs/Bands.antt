@@ -15,7 +15,8 @@ use Rattle.flat_render.specs.Tiles.{tile_area}
 -- some of the items give each pixel of an area what all of them give it
 pub record IsSeenIn (area : Area) (items seen : List DrawItem) : Type 0 where
   pub drawable : All IsDrawable seen
-  pub same : (c px py old : ℕ) → has_pixel area px py ≡ true → channel_after c seen px py old ≡ channel_after c items px py old
+  pub same : (c px py old : ℕ) → has_pixel area px py ≡ true
+      → channel_after c seen px py old ≡ channel_after c items px py old
 
 -- the items with some numbers
 abbrev pub chosen : List DrawItem → List ℕ → List DrawItem
@@ -27,9 +28,11 @@ pub record IsChoice (area : Area) (items : List DrawItem) (places : List ℕ) (n
   pub seen : IsSeenIn area (take n items) (chosen items places)
 
 -- a list of such numbers for each tile of a row
-pub record AreChoices (grid : Grid) (row : ℕ) (items : List DrawItem) (lists : List (Vec ℕ Global)) (n : ℕ) : Type 0 where
-  pub count : length lists ≡ grid.across
-  pub serve : (c : ℕ) (d : Vec ℕ Global) → c < grid.across → IsChoice (tile_area (tile_of grid (row * grid.across + c))) items (slice_index_or lists c d).items n
+pub record AreChoices (grid : Grid) (row : ℕ) (items : List DrawItem) (lists : List (Vec ℕ Global)) (n : ℕ) : Type 0
+  where
+    pub count : length lists ≡ grid.across
+    pub serve : (c : ℕ) (d : Vec ℕ Global) → c < grid.across
+        → IsChoice (tile_area (tile_of grid (row * grid.across + c))) items (slice_index_or lists c d).items n
 
 -- so many lists, and nothing in them
 pub record AreEmpty (n : ℕ) (lists : List (Vec ℕ Global)) : Type 0 where
@@ -40,4 +43,5 @@ pub record AreEmpty (n : ℕ) (lists : List (Vec ℕ Global)) : Type 0 where
 pub record IsNoted (n from upto : ℕ) (old lists : List (Vec ℕ Global)) : Type 0 where
   pub count : length lists ≡ length old
   pub noted : (c : ℕ) (d : Vec ℕ Global) → c < length old
-      → (slice_index_or lists c d).items ≡ (if is_among from upto c then (slice_index_or old c d).items ++ n ∷ [] else (slice_index_or old c d).items)
+      → (slice_index_or lists c d).items ≡ (if is_among from upto c then (slice_index_or old c d).items ++ n ∷ [] else
+      (slice_index_or old c d).items)

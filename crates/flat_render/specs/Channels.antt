@@ -7,7 +7,8 @@ use Rattle.flat_render.specs.Pixels.{covers, paint_colour}
 -- a channel of a pixel that an item covers, after it
 unfoldable pub channel_painted : ℕ → DrawItem → ℕ → ℕ → ℕ → ℕ
 channel_painted c item px py old =
-    laid item.blend item.opacity (slice_index (paint_colour item item.paint px py) 3) (slice_index (paint_colour item item.paint px py) c) old
+    laid item.blend item.opacity (slice_index (paint_colour item item.paint px py) 3)
+    (slice_index (paint_colour item item.paint px py) c) old
 
 -- a channel of a pixel after an item
 abbrev pub channel_step : ℕ → DrawItem → ℕ → ℕ → ℕ → ℕ

@@ -48,4 +48,5 @@ inked ink i j old = mixed ink.mix (shade_at ink.shade i j) old
 -- ink is that of a channel of an item, in an area that the item covers
 pub record IsInk (c : ℕ) (item : DrawItem) (cut : Area) (ink : Ink) : Type 0 where
   pub shade : IsShade ink.shade
-  pub paints : (px py old : ℕ) → has_pixel cut px py ≡ true → inked ink (px - cut.x0) (py - cut.y0) old ≡ channel_painted c item px py old
+  pub paints : (px py old : ℕ) → has_pixel cut px py ≡ true
+      → inked ink (px - cut.x0) (py - cut.y0) old ≡ channel_painted c item px py old

@@ -18,11 +18,13 @@ use Rattle.flat_render.specs.Pixels.{centre, buffer_column, buffer_row, column_a
 
 -- the red of a texture at a number along its columns' axis, as it is mixed
 abbrev pub texture_red : Texture → ℕ → ℕ
-texture_red texture p = tone texture.blend texture.opacity (red_at texture.index (buffer_column texture.columns texture.sample texture.flip p))
+texture_red texture p = tone texture.blend texture.opacity
+    (red_at texture.index (buffer_column texture.columns texture.sample texture.flip p))
 
 -- its green at a number along its rows' axis
 abbrev pub texture_green : Texture → ℕ → ℕ
-texture_green texture p = tone texture.blend texture.opacity (green_at (buffer_row texture.rows texture.sample texture.flip p))
+texture_green texture p = tone texture.blend texture.opacity
+    (green_at (buffer_row texture.rows texture.sample texture.flip p))
 
 -- and its blue, which is the same everywhere
 abbrev pub texture_blue : Texture → ℕ
@@ -31,9 +33,11 @@ texture_blue texture = tone texture.blend texture.opacity (blue_at texture.buffe
 -- a texture lies below the columns of pixels of an area, and below its rows
 pub record IsBelow (texture : Texture) (cut : Area) : Type 0 where
   pub across : (px : ℕ) → cut.x0 ≤ px → px < cut.x1
-      → is_between (if texture.swap then texture.rows else texture.columns).low (if texture.swap then texture.rows else texture.columns).high (centre px) ≡ true
+      → is_between (if texture.swap then texture.rows else texture.columns).low
+      (if texture.swap then texture.rows else texture.columns).high (centre px) ≡ true
   pub down : (py : ℕ) → cut.y0 ≤ py → py < cut.y1
-      → is_between (if texture.swap then texture.columns else texture.rows).low (if texture.swap then texture.columns else texture.rows).high (centre py) ≡ true
+      → is_between (if texture.swap then texture.columns else texture.rows).low
+      (if texture.swap then texture.columns else texture.rows).high (centre py) ≡ true
 
 -- values for the pixels from a first number up to a last one, which isn't among them
 pub record IsTable (value : ℕ → ℕ) (from upto : ℕ) (table : List ℕ) : Type 0 where

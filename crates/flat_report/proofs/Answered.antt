@@ -1,5 +1,6 @@
 -- What the answers to probes say in the report.
-use Rattle.std.proofs.Common.{◌≡◌, ◌≤◌, ℕ, zero, suc, ◌+◌, ◌==◌, ◌||◌, not, nat_le, Bool, true, false, cond, List, [], ◌∷◌, ◌++◌, length, map, Some, slice_get, refl, sym, ap, ◌∙◌, subst, arith, length-append}
+use Rattle.std.proofs.Common.{◌≡◌, ◌≤◌, ℕ, zero, suc, ◌+◌, ◌==◌, ◌||◌, not, nat_le, Bool, true, false, cond, List, [], ◌∷◌, ◌++◌, length, map, Some, slice_get}
+use Rattle.std.proofs.Common.{refl, sym, ap, ◌∙◌, subst, arith, length-append}
 use Rattle.std.specs.List.{flat_map, list_all, zip, range_with_len}
 use Rattle.std.proofs.lemmas.Bool.{and_parts}
 use Rattle.std.proofs.lemmas.Bool.Decides.{nat_tests}
@@ -18,7 +19,8 @@ use Rattle.flat_page.specs.Words.{number, text_of, actor_name}
 use Rattle.flat_report.specs.declared.probes.ProbeAnswer.{ProbeAnswer}
 use Rattle.flat_report.specs.Handed.{answer_line, answers_text, probe_words}
 use Rattle.flat_report.specs.Laws.{FramesAreSeen}
-use Rattle.flat_report.specs.Probes.{AreAnsweredBy, ProbesAnswered, ProbesAsk, answer_by, asked_by, asked_hits, frame_seen, frames_seen, hits_in_frame, is_asking, never_fall_from}
+use Rattle.flat_report.specs.Probes.{AreAnsweredBy, ProbesAnswered, ProbesAsk, answer_by, asked_by, asked_hits, frame_seen, frames_seen, hits_in_frame}
+use Rattle.flat_report.specs.Probes.{is_asking, never_fall_from}
 use Rattle.flat_report.specs.Report.{is_probe, never_falls, probe_lines, probe_lines_of, same_probe, seen_line, seen_words}
 use Rattle.flat_report.proofs.lemmas.Tails.{text-append}
 
@@ -30,7 +32,8 @@ none-many n is = cc
 one-less : (m n : ℕ) → suc m ≡ suc n → m ≡ n
 one-less m n is = cc
 
-pub zip-append : {A B : Type 0} (xs : List A) (ys : List B) (more : List A) (others : List B) → length ys ≡ length xs → zip (xs ++ more) (ys ++ others) ≡ zip xs ys ++ zip more others
+pub zip-append : {A B : Type 0} (xs : List A) (ys : List B) (more : List A) (others : List B) → length ys ≡ length xs
+    → zip (xs ++ more) (ys ++ others) ≡ zip xs ys ++ zip more others
 zip-append [] [] more others long = refl
 zip-append [] (y ∷ ys) more others long = absurd (none-many (length ys) (sym long))
 zip-append (x ∷ xs) [] more others long = absurd (none-many (length xs) long)
@@ -57,7 +60,8 @@ abbrev asks : Body → Bool
 asks (body.Probe asked) = true
 asks _ = false
 
-asking-lines : (n : ℕ) (lines : List ScriptLine) → list_all (λ (line : ScriptLine). is_asking line.actor line.body) lines ≡ true → list_all (λ (line : ScriptLine). asks line.body) (probe_lines_of n lines) ≡ true
+asking-lines : (n : ℕ) (lines : List ScriptLine) → list_all (λ (line : ScriptLine). is_asking line.actor line.body) lines ≡ true
+    → list_all (λ (line : ScriptLine). asks line.body) (probe_lines_of n lines) ≡ true
 asking-lines n [] ask = refl
 asking-lines n (line ∷ lines) ask =
     let parts = and_parts (is_asking line.actor line.body) (list_all (λ (line : ScriptLine). is_asking line.actor line.body) lines) ask in
@@ -70,7 +74,8 @@ asking-lines n (line ∷ lines) ask =
     of_it Display text is ask = absurd (let e : false ≡ true = is in cc)
     of_it (Session s) text is ask = absurd (let e : false ≡ true = is in cc)
 
-    by_test : (b : Bool) → is_probe n line.actor ≡ b → is_asking line.actor line.body ≡ true → list_all (λ (line : ScriptLine). asks line.body) (probe_lines_of n lines) ≡ true
+    by_test : (b : Bool) → is_probe n line.actor ≡ b → is_asking line.actor line.body ≡ true
+        → list_all (λ (line : ScriptLine). asks line.body) (probe_lines_of n lines) ≡ true
         → list_all (λ (line : ScriptLine). asks line.body) (cond b (line ∷ probe_lines_of n lines) (probe_lines_of n lines)) ≡ true
     by_test true is ask later = let here : asks line.body ≡ true = of_it line.actor line.body is ask in rw here later
     by_test false is ask later = later
@@ -129,7 +134,8 @@ apart n (Probe p) (Session s) c is other = refl
 apart n Display b c is other = absurd (let e : false ≡ true = is in cc)
 apart n (Session s) b c is other = absurd (let e : false ≡ true = is in cc)
 
-others-pass : (n : ℕ) (actor : Actor) (frame : ℕ) (others : List (ScriptLine × ℕ)) → is_probe n actor ≡ true → list_all (λ (p : ScriptLine × ℕ). not (is_probe n p.0.actor)) others ≡ true
+others-pass : (n : ℕ) (actor : Actor) (frame : ℕ) (others : List (ScriptLine × ℕ)) → is_probe n actor ≡ true
+    → list_all (λ (p : ScriptLine × ℕ). not (is_probe n p.0.actor)) others ≡ true
     → list_all (λ (next : ScriptLine × ℕ). not (same_probe actor next.0.actor) || nat_le frame next.1) others ≡ true
 others-pass n actor frame [] is pass = refl
 others-pass n actor frame (next ∷ others) is pass =
@@ -138,20 +144,23 @@ others-pass n actor frame (next ∷ others) is pass =
     rw here (others-pass n actor frame others is parts.1)
 
 -- those of a probe and those of others
-both-fall : (n : ℕ) (mine others : List (ScriptLine × ℕ)) → list_all (λ (p : ScriptLine × ℕ). is_probe n p.0.actor) mine ≡ true → list_all (λ (p : ScriptLine × ℕ). not (is_probe n p.0.actor)) others ≡ true
+both-fall : (n : ℕ) (mine others : List (ScriptLine × ℕ)) → list_all (λ (p : ScriptLine × ℕ). is_probe n p.0.actor) mine ≡ true
+    → list_all (λ (p : ScriptLine × ℕ). not (is_probe n p.0.actor)) others ≡ true
     → never_falls mine ≡ true → never_falls others ≡ true → never_falls (mine ++ others) ≡ true
 both-fall n [] others are not_are fall fall_too = fall_too
 both-fall n ((line, frame) ∷ mine) others are not_are fall fall_too =
     let is = and_parts (is_probe n line.actor) (list_all (λ (p : ScriptLine × ℕ). is_probe n p.0.actor) mine) are in
     let test : ScriptLine × ℕ → Bool = λ next. not (same_probe line.actor next.0.actor) || nat_le frame next.1 in
     let parts = and_parts (list_all test mine) (never_falls mine) fall in
-    let pass : list_all test (mine ++ others) ≡ true = list_all-append test mine others ∙ (let first = parts.0 in let second = others-pass n line.actor frame others is.0 not_are in rw (first, second) refl) in
+    let pass : list_all test (mine ++ others) ≡ true = list_all-append test mine others
+    ∙ (let first = parts.0 in let second = others-pass n line.actor frame others is.0 not_are in rw (first, second) refl) in
     rw pass (both-fall n mine others is.1 not_are parts.1 fall_too)
 
 -- ---- what is said of a line
 
 module _ (script : Script) (history : List Entry) where
-  words-said : (frame : ℕ) (text : Body) → asks text ≡ true → probe_words script (asked_by text) frame (asked_hits (hits_in_frame script.setup history frame) (asked_by text)) ≡ seen_words script history frame text
+  words-said : (frame : ℕ) (text : Body) → asks text ≡ true
+      → probe_words script (asked_by text) frame (asked_hits (hits_in_frame script.setup history frame) (asked_by text)) ≡ seen_words script history frame text
   words-said frame (body.Probe (probe.Hit x y)) ask = refl
   words-said frame (body.Probe (probe.Await n)) ask = refl
   words-said frame (body.Session said) ask = absurd (let e : false ≡ true = ask in cc)
@@ -165,7 +174,8 @@ module _ (script : Script) (history : List Entry) where
       let parts = and_parts (asks line.body) (list_all (λ (line : ScriptLine). asks line.body) lines) ask in
       let here : answer_line script (answer_by (hits_in_frame script.setup history) (line, frame)) ≡ seen_line script history (line, frame) =
       ap (λ ws. actor_name script line.actor ∷ number line.number ∷ ws) (words-said frame line.body parts.0) in
-      ap (λ l. l ∷ map (answer_line script) (map (answer_by (hits_in_frame script.setup history)) (zip lines seen))) here ∙ ap (λ ls. seen_line script history (line, frame) ∷ ls) (lines-said lines seen parts.1)
+      ap (λ l. l ∷ map (answer_line script) (map (answer_by (hits_in_frame script.setup history)) (zip lines seen))) here
+      ∙ ap (λ ls. seen_line script history (line, frame) ∷ ls) (lines-said lines seen parts.1)
 
   -- ---- all probes, from one of a number on
 
@@ -176,7 +186,8 @@ module _ (script : Script) (history : List Entry) where
   AnsweredFrom n probes = (k : ℕ) (one : List ProbeAnswer) → slice_get probes k ≡ Some one
       → AreAnsweredBy (hits_in_frame script.setup history) (frames history) (probe_lines_of (n + k) script.lines) one
 
-  this-one : (n : ℕ) (one : List ProbeAnswer) (probes : List (List ProbeAnswer)) → AnsweredFrom n (one ∷ probes) → AreAnsweredBy (hits_in_frame script.setup history) (frames history) (probe_lines_of n script.lines) one
+  this-one : (n : ℕ) (one : List ProbeAnswer) (probes : List (List ProbeAnswer)) → AnsweredFrom n (one ∷ probes)
+      → AreAnsweredBy (hits_in_frame script.setup history) (frames history) (probe_lines_of n script.lines) one
   this-one n one probes answered =
       let P : ℕ → Type 0 = λ m. AreAnsweredBy (hits_in_frame script.setup history) (frames history) (probe_lines_of m script.lines) one in
       let same : n + 0 ≡ n = omega arith in subst P same (answered 0 one refl)
@@ -186,7 +197,8 @@ module _ (script : Script) (history : List Entry) where
       let P : ℕ → Type 0 = λ m. AreAnsweredBy (hits_in_frame script.setup history) (frames history) (probe_lines_of m script.lines) other in
       let same : n + suc k ≡ n + 1 + k = omega arith in subst P same (answered (suc k) other is)
 
-  many-one : (n : ℕ) (one : List ProbeAnswer) (probes : List (List ProbeAnswer)) → AnsweredFrom n (one ∷ probes) → length (map frame_seen one) ≡ length (probe_lines_of n script.lines)
+  many-one : (n : ℕ) (one : List ProbeAnswer) (probes : List (List ProbeAnswer)) → AnsweredFrom n (one ∷ probes)
+      → length (map frame_seen one) ≡ length (probe_lines_of n script.lines)
   many-one n one probes answered = length-map one frame_seen ∙ (this-one n one probes answered).as_many
 
   many-all : (n : ℕ) (probes : List (List ProbeAnswer)) → AnsweredFrom n probes → length (frames_seen probes) ≡ length (lines_from n (length probes))
@@ -198,7 +210,8 @@ module _ (script : Script) (history : List Entry) where
       let b = length-append (probe_lines_of n script.lines) (lines_from (n + 1) (length probes)) in
       omega (arith, here, later, a, b)
 
-  within-all : (n : ℕ) (probes : List (List ProbeAnswer)) → AnsweredFrom n probes → list_all (λ frame. nat_le frame (frames history)) (frames_seen probes) ≡ true
+  within-all : (n : ℕ) (probes : List (List ProbeAnswer)) → AnsweredFrom n probes
+      → list_all (λ frame. nat_le frame (frames history)) (frames_seen probes) ≡ true
   within-all n [] answered = refl
   within-all n (one ∷ probes) answered =
       let here = (this-one n one probes answered).within in
@@ -214,7 +227,8 @@ module _ (script : Script) (history : List Entry) where
       list_all-append test (probe_lines_of k script.lines) (lines_from (k + 1) count) ∙ rw (here, later) refl
 
   split : (n : ℕ) (one : List ProbeAnswer) (probes : List (List ProbeAnswer)) → AnsweredFrom n (one ∷ probes)
-      → zip (lines_from n (suc (length probes))) (frames_seen (one ∷ probes)) ≡ zip (probe_lines_of n script.lines) (map frame_seen one) ++ zip (lines_from (n + 1) (length probes)) (frames_seen probes)
+      → zip (lines_from n (suc (length probes))) (frames_seen (one ∷ probes)) ≡ zip (probe_lines_of n script.lines) (map frame_seen one)
+      ++ zip (lines_from (n + 1) (length probes)) (frames_seen probes)
   split n one probes answered =
       zip-append (probe_lines_of n script.lines) (map frame_seen one) (lines_from (n + 1) (length probes)) (frames_seen probes) (many-one n one probes answered)
 

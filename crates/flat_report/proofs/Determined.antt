@@ -27,7 +27,8 @@ pub record Tells (before later later' : List Entry) (lost lost' : List Lost) (re
   pub behind : rest ≡ rest'
 
 -- the displays lost at one more frame, where an entry finishes it
-one-frame-more : (b : Bool) (n to : ℕ) (lost lost' : List Lost) → (b ≡ true → lost_at (suc n) lost ≡ lost_at (suc n) lost') → AgreeTo (cond b (suc n) n) to lost lost' → AgreeTo n to lost lost'
+one-frame-more : (b : Bool) (n to : ℕ) (lost lost' : List Lost) → (b ≡ true → lost_at (suc n) lost ≡ lost_at (suc n) lost')
+    → AgreeTo (cond b (suc n) n) to lost lost' → AgreeTo n to lost lost'
 one-frame-more false n to lost lost' here later = later
 one-frame-more true n to lost lost' here later = λ m from upto. by_test (m == suc n) m refl from upto
   where
@@ -38,7 +39,8 @@ one-frame-more true n to lost lost' here later = λ m from upto. by_test (m == s
 frames-one : (before : List Entry) (entry : Entry) → frames (before ▹ entry) ≡ cond (is_finish entry.kind) (suc (frames before)) (frames before)
 frames-one before entry = by_test (is_finish entry.kind)
   where
-    by_test : (b : Bool) → length (cond b (entry ∷ filter (λ (e : Entry). is_finish e.kind) before) (filter (λ (e : Entry). is_finish e.kind) before)) ≡ cond b (suc (frames before)) (frames before)
+    by_test : (b : Bool) → length (cond b (entry ∷ filter (λ (e : Entry). is_finish e.kind) before) (filter (λ (e : Entry). is_finish e.kind) before))
+        ≡ cond b (suc (frames before)) (frames before)
     by_test true = refl
     by_test false = refl
 
@@ -54,15 +56,18 @@ module _ (script : Script) (named : IsNamed script) where
   events-no-loss [] text none = none
   events-no-loss (sent ∷ sents) text none = event-no-loss script named sent.to sent.event (sheet (event_lines sents) text)
 
-  later-no-loss : (lost : List Lost) (before later : List Entry) (rest : List ℕ) → Stands script.setup script.count script.lines (onto before later) → NoLoss rest → NoLoss (later_text lost before later rest)
+  later-no-loss : (lost : List Lost) (before later : List Entry) (rest : List ℕ) → Stands script.setup script.count script.lines (onto before later)
+      → NoLoss rest → NoLoss (later_text lost before later rest)
   later-no-loss lost before [] rest standing none = none
   later-no-loss lost before (entry ∷ later) rest standing none =
       entry-no-loss script named before entry (frames before) (hits_at script.setup (to_finished before))
-      (sheet (cond (is_finish entry.kind) (shown_lines script lost before) [] ++ event_lines (posted script.setup before entry) ++ tail (entry_lines script lost) (before ▹ entry) later) rest)
+      (sheet (cond (is_finish entry.kind) (shown_lines script lost before) [] ++ event_lines (posted script.setup before entry)
+      ++ tail (entry_lines script lost) (before ▹ entry) later) rest)
       (stood script.setup script.count script.lines (before ▹ entry) later standing).legal.1
 
   -- what stands behind the lines of an entry, and the displays lost at its frame
-  frame-told : (before : List Entry) (lost lost' : List Lost) (b : Bool) (a a' : List ℕ) → list_all is_small lost ≡ true → list_all is_small lost' ≡ true → NoLoss a → NoLoss a'
+  frame-told : (before : List Entry) (lost lost' : List Lost) (b : Bool) (a a' : List ℕ) → list_all is_small lost ≡ true → list_all is_small lost' ≡ true
+      → NoLoss a → NoLoss a'
       → sheet (cond b (shown_lines script lost before) []) a ≡ sheet (cond b (shown_lines script lost' before) []) a'
       → (a ≡ a') × (b ≡ true → lost_at (suc (frames before)) lost ≡ lost_at (suc (frames before)) lost')
   frame-told before lost lost' false a a' fits fits' none none' is = (is, λ wrong. absurd (let e : false ≡ true = wrong in cc))
@@ -76,18 +81,23 @@ module _ (script : Script) (named : IsNamed script) where
 
   entry-text : (lost : List Lost) (before : List Entry) (entry : Entry) (later : List Entry) (rest : List ℕ)
       → later_text lost before (entry ∷ later) rest ≡ line_on (entry_line script (frames before) (hits_at script.setup (to_finished before)) entry)
-      (sheet (cond (is_finish entry.kind) (shown_lines script lost before) []) (sheet (event_lines (posted script.setup before entry)) (later_text lost (before ▹ entry) later rest)))
+      (sheet (cond (is_finish entry.kind) (shown_lines script lost before) [])
+      (sheet (event_lines (posted script.setup before entry)) (later_text lost (before ▹ entry) later rest)))
   entry-text lost before entry later rest =
       let shown = cond (is_finish entry.kind) (shown_lines script lost before) [] in
       let events = event_lines (posted script.setup before entry) in
       ap (line_on (entry_line script (frames before) (hits_at script.setup (to_finished before)) entry))
-      (sheet-append (shown ++ events) (tail (entry_lines script lost) (before ▹ entry) later) rest ∙ sheet-append shown events (later_text lost (before ▹ entry) later rest))
+      (sheet-append (shown ++ events) (tail (entry_lines script lost) (before ▹ entry) later) rest
+      ∙ sheet-append shown events (later_text lost (before ▹ entry) later rest))
 
   -- one entry that both have
-  same-step : (lost lost' : List Lost) (before : List Entry) (entry : Entry) (later later' : List Entry) (rest rest' : List ℕ) → list_all is_small lost ≡ true → list_all is_small lost' ≡ true → NoLoss rest → NoLoss rest'
-      → Stands script.setup script.count script.lines (onto before (entry ∷ later)) → Stands script.setup script.count script.lines (onto before (entry ∷ later'))
+  same-step : (lost lost' : List Lost) (before : List Entry) (entry : Entry) (later later' : List Entry) (rest rest' : List ℕ) → list_all is_small lost ≡ true
+      → list_all is_small lost' ≡ true → NoLoss rest → NoLoss rest'
+      → Stands script.setup script.count script.lines (onto before (entry ∷ later))
+      → Stands script.setup script.count script.lines (onto before (entry ∷ later'))
       → later_text lost before (entry ∷ later) rest ≡ later_text lost' before (entry ∷ later') rest'
-      → (later_text lost (before ▹ entry) later rest ≡ later_text lost' (before ▹ entry) later' rest' → Tells (before ▹ entry) later later' lost lost' rest rest')
+      → (later_text lost (before ▹ entry) later rest ≡ later_text lost' (before ▹ entry) later' rest'
+      → Tells (before ▹ entry) later later' lost lost' rest rest')
       → Tells before (entry ∷ later) (entry ∷ later') lost lost' rest rest'
   same-step lost lost' before entry later later' rest rest' fits fits' none none' standing standing' is further =
       let sents = posted script.setup before entry in
@@ -96,7 +106,8 @@ module _ (script : Script) (named : IsNamed script) where
       let a = sheet (event_lines sents) text in
       let a' = sheet (event_lines sents) text' in
       let line = entry_line script (frames before) (hits_at script.setup (to_finished before)) entry in
-      let behind = line-same line (sheet (cond (is_finish entry.kind) (shown_lines script lost before) []) a) (sheet (cond (is_finish entry.kind) (shown_lines script lost' before) []) a')
+      let behind = line-same line (sheet (cond (is_finish entry.kind) (shown_lines script lost before) []) a)
+      (sheet (cond (is_finish entry.kind) (shown_lines script lost' before) []) a')
       (sym (entry-text lost before entry later rest) ∙ is ∙ entry-text lost' before entry later' rest') in
       let no_a : NoLoss a = events-no-loss sents text (later-no-loss lost (before ▹ entry) later rest standing none) in
       let no_a' : NoLoss a' = events-no-loss sents text' (later-no-loss lost' (before ▹ entry) later' rest' standing' none') in
@@ -113,7 +124,8 @@ module _ (script : Script) (named : IsNamed script) where
   acting before entry legal = acts script entry.kind entry.actor legal.may.acts
 
   -- later entries are told by their text
-  pub later-told : (lost lost' : List Lost) (before later later' : List Entry) (rest rest' : List ℕ) → list_all is_small lost ≡ true → list_all is_small lost' ≡ true
+  pub later-told : (lost lost' : List Lost) (before later later' : List Entry) (rest rest' : List ℕ) → list_all is_small lost ≡ true
+      → list_all is_small lost' ≡ true
       → NoEntry script rest → NoEntry script rest' → NoLoss rest → NoLoss rest'
       → Stands script.setup script.count script.lines (onto before later) → Stands script.setup script.count script.lines (onto before later')
       → later_text lost before later rest ≡ later_text lost' before later' rest' → Tells before later later' lost lost' rest rest'
@@ -134,7 +146,9 @@ module _ (script : Script) (named : IsNamed script) where
       let names = entry-actors script named (frames before) (frames before) hits hits entry entry' _ _ of_entry of_entry' is in
       let actor = same-actor script named entry.actor entry'.actor of_entry of_entry' names in
       let same : entry ≡ entry' = one-more script.setup script.count script.lines before entry entry' actor here here' in
-      subst (λ (e : Entry). Stands script.setup script.count script.lines (onto before (e ∷ later')) → later_text lost before (entry ∷ later) rest ≡ later_text lost' before (e ∷ later') rest' → Tells before (entry ∷ later) (e ∷ later') lost lost' rest rest')
+      subst (λ (e : Entry). Stands script.setup script.count script.lines (onto before (e ∷ later'))
+      → later_text lost before (entry ∷ later) rest ≡ later_text lost' before (e ∷ later') rest'
+      → Tells before (entry ∷ later) (e ∷ later') lost lost' rest rest')
       same
       (λ standing'' is''. same-step lost lost' before entry later later' rest rest' fits fits' none none' standing standing'' is''
       (λ behind. later-told lost lost' (before ▹ entry) later later' rest rest' fits fits' end end' none none' standing standing'' behind))

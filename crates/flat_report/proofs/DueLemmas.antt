@@ -38,13 +38,18 @@ module _ {A : Type 0} (ready unsquashable : A → Bool) where
       let there : Q true = subst R (sym calm.0) some in
       subst P (sym (take_while-cons ready y (earlier ++ x ∷ later))) (subst Q (sym first.0) there)
 
-due-taken : (setup : Setup) (before : List Entry) (entry : Entry) (time : ℕ) (s : SessionNo) (earlier : List Published) (present : Published) → entry.kind ≡ Begin time → IsDue setup before time s earlier present
+due-taken : (setup : Setup) (before : List Entry) (entry : Entry) (time : ℕ) (s : SessionNo) (earlier : List Published) (present : Published)
+    → entry.kind ≡ Begin time → IsDue setup before time s earlier present
     → taken setup before s + length earlier < taken setup (before ▹ entry) s
 due-taken setup before entry time s earlier present is due =
-    let through = taken-through (λ (p : Published). is_ready time (is_signalled setup before) p.args) is_unsquashable earlier present due.later due.ready due.squashable in
-    let W : List Published → Type 0 = λ ps. taken setup before s + length earlier < taken setup before s + length (ready_prefix time (is_signalled setup before) ps) in
-    let C : Bool → Type 0 = λ b. taken setup before s + length earlier < taken setup before s + length (cond b [] (ready_prefix time (is_signalled setup before) (waiting setup before s))) in
-    let K : Kind → Type 0 = λ k. taken setup before s + length earlier < taken setup before s + length (takes k (is_signalled setup before) (is_closed s before) (waiting setup before s)) in
+    let through = taken-through (λ (p : Published). is_ready time (is_signalled setup before) p.args) is_unsquashable earlier present due.later due.ready
+    due.squashable in
+    let W : List Published → Type 0 = λ ps. taken setup before s + length earlier < taken setup before s + length
+    (ready_prefix time (is_signalled setup before) ps) in
+    let C : Bool → Type 0 = λ b. taken setup before s + length earlier < taken setup before s + length
+    (cond b [] (ready_prefix time (is_signalled setup before) (waiting setup before s))) in
+    let K : Kind → Type 0 = λ k. taken setup before s + length earlier < taken setup before s + length
+    (takes k (is_signalled setup before) (is_closed s before) (waiting setup before s)) in
     let some : W (earlier ++ present ∷ due.later) = omega (arith, through) in
     subst K (sym is) (subst C (sym due.is_open) (subst W (sym due.waits) some))
 

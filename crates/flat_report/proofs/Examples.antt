@@ -11,7 +11,9 @@ use Rattle.flat_scene.specs.declared.script.DisplayLine.TheVariants as display
 use Rattle.flat_scene.specs.declared.script.Line.TheVariants as line
 use Rattle.flat_scene.specs.History.{◌▹◌}
 use Rattle.flat_places.specs.declared.script.Script.{Script}
-use Rattle.flat_rules.proofs.lemmas.Runs.{one_fill_one_frame-setup, one_fill_one_frame-history, one_fill_one_frame-lines, view_without_root_then_poll-setup, view_without_root_then_poll-history, view_without_root_then_poll-lines, second_present_before_a_frame_closes-setup, second_present_before_a_frame_closes-history, second_present_before_a_frame_closes-lines}
+use Rattle.flat_rules.proofs.lemmas.Runs.{one_fill_one_frame-setup, one_fill_one_frame-history, one_fill_one_frame-lines, view_without_root_then_poll-setup}
+use Rattle.flat_rules.proofs.lemmas.Runs.{view_without_root_then_poll-history, view_without_root_then_poll-lines, second_present_before_a_frame_closes-setup}
+use Rattle.flat_rules.proofs.lemmas.Runs.{second_present_before_a_frame_closes-history, second_present_before_a_frame_closes-lines}
 use Rattle.flat_rules.proofs.lemmas.Samples.{s, p, by, present, session_line, display_line}
 use Rattle.flat_rules.proofs.lemmas.ShellRun.{shell_with_two_apps-setup, shell_with_two_apps-history, shell_with_two_apps-lines}
 use Rattle.flat_report.specs.Report.{report_lines}
@@ -161,7 +163,8 @@ second_present_before_a_frame_closes-script = record {
   count = 9;
 }
 
-second_present_before_a_frame_closes-report : map line_of (report_lines second_present_before_a_frame_closes-script second_present_before_a_frame_closes-history [] []) ≡
+second_present_before_a_frame_closes-report : map line_of
+    (report_lines second_present_before_a_frame_closes-script second_present_before_a_frame_closes-history [] []) ≡
     codes "report flatland 1"
     ∷ codes "A 6 CreateView ok"
     ∷ codes "A 7 Present 1 credits 0"

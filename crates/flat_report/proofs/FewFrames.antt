@@ -1,5 +1,6 @@
 -- A history has no more frames than its script has lines.
-use Rattle.std.proofs.Common.{◌≡◌, ℕ, suc, ◌+◌, ◌<◌, ◌≤◌, nat_lt, Bool, true, false, cond, List, [], ◌∷◌, length, filter, refl, sym, ap, ◌∙◌, arith, length-append}
+use Rattle.std.proofs.Common.{◌≡◌, ℕ, suc, ◌+◌, ◌<◌, ◌≤◌, nat_lt, Bool, true, false, cond, List, [], ◌∷◌, length, filter, refl, sym, ap, ◌∙◌, arith}
+use Rattle.std.proofs.Common.{length-append}
 use Rattle.std.proofs.lemmas.Bool.Decides.{nat_tests}
 use Rattle.flat_base.specs.declared.ids.Actor.{Actor}
 use Rattle.flat_base.specs.declared.ids.Actor.TheVariants.{Display, Session, Probe}
@@ -40,7 +41,8 @@ after-twice m n [] less = refl
 after-twice m n (l ∷ ls) less = by_test (nat_lt m l.0) (nat_lt n l.0) refl refl (after-twice m n ls less)
   where
     by_test : (b c : Bool) → nat_lt m l.0 ≡ b → nat_lt n l.0 ≡ c → filter (λ l. nat_lt n l.0) (filter (λ l. nat_lt m l.0) ls) ≡ filter (λ l. nat_lt n l.0) ls
-        → filter (λ l. nat_lt n l.0) (cond b (l ∷ filter (λ l. nat_lt m l.0) ls) (filter (λ l. nat_lt m l.0) ls)) ≡ cond c (l ∷ filter (λ l. nat_lt n l.0) ls) (filter (λ l. nat_lt n l.0) ls)
+        → filter (λ l. nat_lt n l.0) (cond b (l ∷ filter (λ l. nat_lt m l.0) ls) (filter (λ l. nat_lt m l.0) ls))
+        ≡ cond c (l ∷ filter (λ l. nat_lt n l.0) ls) (filter (λ l. nat_lt n l.0) ls)
     by_test true true low high later = rw high (ap (λ ks. l ∷ ks) later)
     by_test true false low high later = rw high later
     by_test false true low high later = absurd (let wrong : false ≡ true = grind (arith, nat_tests) in cc)
@@ -48,7 +50,8 @@ after-twice m n (l ∷ ls) less = by_test (nat_lt m l.0) (nat_lt n l.0) refl ref
 
 -- ---- the entries of the display
 
-one-less : (ls unread : List (ℕ × DisplayLine)) (last line : ℕ) (number : ℕ) (text : DisplayLine) (later : List (ℕ × DisplayLine)) → filter (λ l. nat_lt last l.0) ls ≡ (number, text) ∷ later → line ≡ number
+one-less : (ls unread : List (ℕ × DisplayLine)) (last line : ℕ) (number : ℕ) (text : DisplayLine) (later : List (ℕ × DisplayLine))
+    → filter (λ l. nat_lt last l.0) ls ≡ (number, text) ∷ later → line ≡ number
     → length (filter (λ l. nat_lt line l.0) ls) + 1 ≤ length (filter (λ l. nat_lt last l.0) ls)
 one-less ls unread last line number text later is here =
     let first : nat_lt last number ≡ true = first-passes (λ l. nat_lt last l.0) ls (number, text) later is in
@@ -67,7 +70,8 @@ first-taken ls [] last entry is first = absurd first
 first-taken ls ((number, text) ∷ later) last entry is first = one-less ls [] last entry.line number text later is first.line
 
 entries-few : (ls : List (ℕ × DisplayLine)) (entries : List Entry) → FollowsDisplay ls entries → length entries + length (unread_lines entries ls) ≤ length ls
-entries-few ls [] follows = let few : length (unread_lines (let none : List Entry = [] in none) ls) ≤ length ls = kept-few (λ l. nat_lt 0 l.0) ls in omega (arith, few)
+entries-few ls [] follows = let few : length (unread_lines (let none : List Entry = [] in none) ls) ≤ length ls =
+    kept-few (λ l. nat_lt 0 l.0) ls in omega (arith, few)
 entries-few ls (before ▹ entry) follows =
     let earlier = entries-few ls before follows.0 in
     let here = first-taken ls (unread_lines before ls) (last_line before) entry refl follows.1 in
@@ -95,10 +99,12 @@ finish-display setup _ (Session s) may is = absurd (cc)
 
 frames-few : (setup : Setup) (history : List Entry) → Legal setup history → frames history ≤ length (by_display history)
 frames-few setup [] legal = omega arith
-frames-few setup (before ▹ entry) legal = by_test (is_finish entry.kind) (is_display entry.actor) (finish-display setup entry.kind entry.actor legal.1.may.acts) (frames-few setup before legal.0)
+frames-few setup (before ▹ entry) legal = by_test (is_finish entry.kind) (is_display entry.actor) (finish-display setup entry.kind entry.actor legal.1.may.acts)
+    (frames-few setup before legal.0)
   where
     by_test : (b c : Bool) → (b ≡ true → c ≡ true) → frames before ≤ length (by_display before)
-        → length (cond b (entry ∷ filter (λ (e : Entry). is_finish e.kind) before) (filter (λ (e : Entry). is_finish e.kind) before)) ≤ length (cond c (entry ∷ by_display before) (by_display before))
+        → length (cond b (entry ∷ filter (λ (e : Entry). is_finish e.kind) before) (filter (λ (e : Entry). is_finish e.kind) before)) ≤ length
+        (cond c (entry ∷ by_display before) (by_display before))
     by_test true true so less = omega (arith, less)
     by_test true false so less = absurd (let wrong : false ≡ true = so refl in cc)
     by_test false true so less = omega (arith, less)

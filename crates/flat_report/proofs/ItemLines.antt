@@ -1,5 +1,6 @@
 -- The lines of stretches, one behind another.
-use Rattle.std.proofs.Common.{◌≡◌, ℕ, zero, suc, ◌+◌, ◌-◌, ◌≤◌, List, [], ◌∷◌, ◌++◌, length, map, take, Some, None, sym, ap, ◌∙◌, subst, arith, append-nil, take-add}
+use Rattle.std.proofs.Common.{◌≡◌, ℕ, zero, suc, ◌+◌, ◌-◌, ◌≤◌, List, [], ◌∷◌, ◌++◌, length, map, take, Some, None, sym, ap, ◌∙◌, subst, arith, append-nil}
+use Rattle.std.proofs.Common.{take-add}
 use Rattle.std.specs.Prelude.{slice_get}
 use Rattle.std.specs.Arc.{arc_value}
 use Rattle.std.proofs.lemmas.List.{map-append, take_all}
@@ -17,7 +18,8 @@ pub text-behind : (xs ys : List (List Word)) → text_of (xs ++ ys) ≡ text_of 
 text-behind xs ys = flat_map-append (λ words. line_of words ++ 10 ∷ []) xs ys
 
 -- one stretch more of which something holds
-each-more : (P : Stretch → Type 0) (xs : List Stretch) (x : Stretch) → ((k : ℕ) (s : Stretch) → slice_get xs k ≡ Some s → P s) → P x → (k : ℕ) (s : Stretch) → slice_get (xs ++ x ∷ []) k ≡ Some s → P s
+each-more : (P : Stretch → Type 0) (xs : List Stretch) (x : Stretch) → ((k : ℕ) (s : Stretch) → slice_get xs k ≡ Some s → P s) → P x → (k : ℕ) (s : Stretch)
+    → slice_get (xs ++ x ∷ []) k ≡ Some s → P s
 each-more P [] x have holds zero s at = let one : x ≡ s = cc in subst P one holds
 each-more P [] x have holds (suc k) s at = absurd (let wrong : None ≡ Some s = at in cc)
 each-more P (y ∷ xs) x have holds zero s at = have zero s at
@@ -38,14 +40,16 @@ module _ (script : Script) (items : List DrawItem) where
   items-behind : (xs ys : List DrawItem) → items_text script (xs ++ ys) ≡ items_text script xs ++ items_text script ys
   items-behind xs ys = ap text_of (map-append (item_line script) xs ys) ∙ text-behind (map (item_line script) xs) (map (item_line script) ys)
 
-  pub stretch-more : (old new : List Stretch) (next : Stretch) → next.start ≤ next.end → AreSoFar next.start old → arc_value next.lines ≡ items_text script (stretch_items items next) → new ≡ old ++ next ∷ [] → AreSoFar next.end new
+  pub stretch-more : (old new : List Stretch) (next : Stretch) → next.start ≤ next.end → AreSoFar next.start old
+      → arc_value next.lines ≡ items_text script (stretch_items items next) → new ≡ old ++ next ∷ [] → AreSoFar next.end new
   stretch-more old new next order so_far lines push = record {
     each =
         let P : Stretch → Type 0 = λ s. arc_value s.lines ≡ items_text script (stretch_items items s) in
         subst (λ (xs : List Stretch). (k : ℕ) (s : Stretch) → slice_get xs k ≡ Some s → P s) (sym push) (each-more P old next so_far.each lines);
     all =
         let far : next.start + (next.end - next.start) ≡ next.end = omega (arith, order) in
-        let taken : take next.end items ≡ take next.start items ++ stretch_items items next = ap (λ (n : ℕ). take n items) (sym far) ∙ take-add next.start (next.end - next.start) items in
+        let taken : take next.end items ≡ take next.start items ++ stretch_items items next =
+        ap (λ (n : ℕ). take n items) (sym far) ∙ take-add next.start (next.end - next.start) items in
         ap stretches_text push
         ∙ flat_map-append (λ stretch. arc_value stretch.lines) old (next ∷ [])
         ∙ ap (λ t. stretches_text old ++ t) (append-nil (arc_value next.lines) ∙ lines)

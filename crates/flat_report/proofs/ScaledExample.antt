@@ -23,7 +23,8 @@ use Rattle.flat_page.specs.Words.{line_of}
 abbrev dpr_of_two-history : List Entry
 dpr_of_two-history = []
     ▹ by (Session (s 1)) 6 ((call.CreateView (p 0)) ∷ []) (kind.View (p 0)) reply.Done
-    ▹ by (Session (s 1)) 12 ((call.CreateTransform (t 1)) ∷ (call.SetRootTransform (t 1)) ∷ (call.CreateFilledRect (c 2)) ∷ (call.SetSolidFill (c 2) 255 0 0 255 10 10) ∷ (call.SetContent (t 1) (c 2)) ∷ []) (kind.Present (present 0 [] [])) (reply.Presented 1 0)
+    ▹ by (Session (s 1)) 12 ((call.CreateTransform (t 1)) ∷ (call.SetRootTransform (t 1)) ∷ (call.CreateFilledRect (c 2))
+    ∷ (call.SetSolidFill (c 2) 255 0 0 255 10 10) ∷ (call.SetContent (t 1) (c 2)) ∷ []) (kind.Present (present 0 [] [])) (reply.Presented 1 0)
     ▹ by Display 13 [] (kind.Dpr 131072) reply.Done
     ▹ by (Session (s 1)) 14 [] (kind.Get watch.Layout) (reply.Now (tell.Layout (layout 100 100 0 0 0 0)))
     ▹ by Display 15 [] (kind.Begin 1000) reply.Done

@@ -24,18 +24,20 @@ module _ (s : SessionNo) (event : Event) where
   two-first : first_posts 0 (post 0 ∷ post 0 ∷ post 1 ∷ []) ≡ 2
   two-first = refl
 
-  module _ (script : Script) (lost : List Lost) (text : List ℕ) (answers : List HitAnswer) (probes : List (List ProbeAnswer)) (actor : Actor) (reply : Reply) where
-    abbrev done : Entry
-    done = record { line = 5; actor = actor; calls = []; kind = Finish; reply = reply }
+  module _ (script : Script) (lost : List Lost) (text : List ℕ) (answers : List HitAnswer) (probes : List (List ProbeAnswer)) (actor : Actor) (reply : Reply)
+    where
+      abbrev done : Entry
+      done = record { line = 5; actor = actor; calls = []; kind = Finish; reply = reply }
 
-    abbrev poll : Entry
-    poll = record { line = 6; actor = actor; calls = []; kind = Poll; reply = reply }
+      abbrev poll : Entry
+      poll = record { line = 6; actor = actor; calls = []; kind = Poll; reply = reply }
 
-    -- a done has the text of a frame and its two posts, and a poll after it has what is left; behind it stand the answers to probes
-    in-turn : handed_entries script lost probes 0 0 (text ∷ []) answers (post 0 ∷ post 0 ∷ post 1 ∷ []) (done ∷ poll ∷ [])
-        ≡ handed_text script lost 0 (text ∷ []) answers (post 0 ∷ post 0 ∷ []) done ++ (handed_text script lost 1 [] answers (post 1 ∷ []) poll ++ (answers_text script probes ++ text_of (end_line 2 1 ∷ [])))
-    in-turn = refl
+      -- a done has the text of a frame and its two posts, and a poll after it has what is left; behind it stand the answers to probes
+      in-turn : handed_entries script lost probes 0 0 (text ∷ []) answers (post 0 ∷ post 0 ∷ post 1 ∷ []) (done ∷ poll ∷ [])
+          ≡ handed_text script lost 0 (text ∷ []) answers (post 0 ∷ post 0 ∷ []) done
+          ++ (handed_text script lost 1 [] answers (post 1 ∷ []) poll ++ (answers_text script probes ++ text_of (end_line 2 1 ∷ [])))
+      in-turn = refl
 
-    -- between the line of a done and its events stand the text of the frame and the displays that were lost at it
-    shown : handed_text script [] 0 (text ∷ []) answers [] done ≡ text_of (entry_line script 0 (λ x y. first_hits answers) done ∷ []) ++ (text ++ []) ++ []
-    shown = refl
+      -- between the line of a done and its events stand the text of the frame and the displays that were lost at it
+      shown : handed_text script [] 0 (text ∷ []) answers [] done ≡ text_of (entry_line script 0 (λ x y. first_hits answers) done ∷ []) ++ (text ++ []) ++ []
+      shown = refl

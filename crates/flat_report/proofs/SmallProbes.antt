@@ -86,9 +86,12 @@ some-is is = cc
 watched : ProbesAnswered watched-script one_fill_one_frame-history (of-p ∷ of-q ∷ [])
 watched = record { count = refl; each = each }
   where
-    each : (n : ℕ) (one : List ProbeAnswer) → slice_get (of-p ∷ of-q ∷ []) n ≡ Some one → AreAnsweredBy (hits_in_frame watched-setup one_fill_one_frame-history) 1 (probe_lines_of n watched-script.lines) one
-    each zero one is = subst (AreAnsweredBy (hits_in_frame watched-setup one_fill_one_frame-history) 1 (probe_lines_of 0 watched-script.lines)) (some-is is) of-p-are
-    each (suc zero) one is = subst (AreAnsweredBy (hits_in_frame watched-setup one_fill_one_frame-history) 1 (probe_lines_of 1 watched-script.lines)) (some-is is) of-q-are
+    each : (n : ℕ) (one : List ProbeAnswer) → slice_get (of-p ∷ of-q ∷ []) n ≡ Some one
+        → AreAnsweredBy (hits_in_frame watched-setup one_fill_one_frame-history) 1 (probe_lines_of n watched-script.lines) one
+    each zero one is = subst (AreAnsweredBy (hits_in_frame watched-setup one_fill_one_frame-history) 1 (probe_lines_of 0 watched-script.lines)) (some-is is)
+        of-p-are
+    each (suc zero) one is = subst (AreAnsweredBy (hits_in_frame watched-setup one_fill_one_frame-history) 1 (probe_lines_of 1 watched-script.lines))
+        (some-is is) of-q-are
     each (suc (suc n)) one is = absurd (let e : None ≡ Some one = is in cc)
 
 all-ask : ProbesAsk watched-script
@@ -127,6 +130,7 @@ unfolding digits
 watched-report = refl
 
 -- and so do the lines of the answers
-lines-of-p : map (λ one. line_of (answer_line watched-script one)) of-p ≡ codes "P 15 hit 5 5 frame 0" ∷ codes "P 17 hit 5 5 frame 1 A 0" ∷ codes "P 18 await frame 1" ∷ []
+lines-of-p : map (λ one. line_of (answer_line watched-script one)) of-p ≡ codes "P 15 hit 5 5 frame 0" ∷ codes "P 17 hit 5 5 frame 1 A 0"
+    ∷ codes "P 18 await frame 1" ∷ []
 unfolding digits
 lines-of-p = refl

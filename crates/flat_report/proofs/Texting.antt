@@ -19,8 +19,10 @@ frame-parts script frame =
     let aparts = map (apart_line script) frame.tree.apart in
     ap text_of (append_assoc items views aparts) ∙ text-behind items (views ++ aparts)
 
-pub one-text-more : (script : Script) (frames : List FrameOut) (frame : FrameOut) (old new : FrameTexts) (text : List ℕ) → AreTexts script frames old → new.texts.items ≡ old.texts.items ++ text ∷ []
-    → text ≡ stretches_text new.last.stretches.items ++ tree_text script frame.tree → new.last.frame ≡ Some frame → HaveLines script frame.items new.last.stretches.items → AreTexts script (frames ++ frame ∷ []) new
+pub one-text-more : (script : Script) (frames : List FrameOut) (frame : FrameOut) (old new : FrameTexts) (text : List ℕ) → AreTexts script frames old
+    → new.texts.items ≡ old.texts.items ++ text ∷ []
+    → text ≡ stretches_text new.last.stretches.items ++ tree_text script frame.tree → new.last.frame ≡ Some frame
+    → HaveLines script frame.items new.last.stretches.items → AreTexts script (frames ++ frame ∷ []) new
 one-text-more script frames frame old new text were push is last lines = record {
   texts =
       push

@@ -1,5 +1,6 @@
 -- The report tells the whole run.
-use Rattle.std.proofs.Common.{◌≡◌, ℕ, ◌<◌, ◌^◌, ◌==◌, ◌&&◌, nat_le, true, List, [], ◌∷◌, ◌++◌, length, reverse, map, codes, refl, subst, sym, ap, ◌∙◌, arith, append-nil}
+use Rattle.std.proofs.Common.{◌≡◌, ℕ, ◌<◌, ◌^◌, ◌==◌, ◌&&◌, nat_le, true, List, [], ◌∷◌, ◌++◌, length, reverse, map, codes, refl, subst, sym, ap, ◌∙◌, arith}
+use Rattle.std.proofs.Common.{append-nil}
 use Rattle.std.specs.List.{list_all, zip}
 use Rattle.std.proofs.lemmas.Bool.Decides.{nat_tests}
 use Rattle.std.proofs.lemmas.List.{reverse-reverse}
@@ -40,16 +41,19 @@ module _ (script : Script) where
 
   history-tail : (lost : List Lost) (history : List Entry) → history_lines script lost history ≡ tail (entry_lines script lost) [] (reverse history)
   history-tail lost history =
-      ap (history_lines script lost) (sym (from-oldest history)) ∙ grows (history_lines script lost) (entry_lines script lost) (λ before entry. refl) [] (reverse history)
+      ap (history_lines script lost) (sym (from-oldest history))
+      ∙ grows (history_lines script lost) (entry_lines script lost) (λ before entry. refl) [] (reverse history)
 
   report-text : (history : List Entry) (lost : List Lost) (seen : List ℕ)
-      → report script history lost seen ≡ line_on (codes "report" ∷ codes "flatland" ∷ number script.version ∷ []) (sheet (tail (entry_lines script lost) [] (reverse history)) (ending history seen))
+      → report script history lost seen ≡ line_on (codes "report" ∷ codes "flatland" ∷ number script.version ∷ [])
+      (sheet (tail (entry_lines script lost) [] (reverse history)) (ending history seen))
   report-text history lost seen =
       let told = history_lines script lost history in
       let seen_lines = map (seen_line script history) (zip (probe_lines script) seen) in
       let end : List (List Word) = (codes "report" ∷ codes "ends" ∷ last_words history) ∷ [] in
       text-is (report_lines script history lost seen)
-      ∙ ap (line_on (codes "report" ∷ codes "flatland" ∷ number script.version ∷ [])) (sheet-append (told ++ seen_lines) end [] ∙ sheet-append told seen_lines (last_text history)
+      ∙ ap (line_on (codes "report" ∷ codes "flatland" ∷ number script.version ∷ []))
+      (sheet-append (told ++ seen_lines) end [] ∙ sheet-append told seen_lines (last_text history)
       ∙ ap (λ (ls : List (List Word)). sheet ls (ending history seen)) (history-tail lost history))
 
   -- What is seen by the probes, as the law asks it.
@@ -59,46 +63,62 @@ module _ (script : Script) where
 
   sees : (history : List Entry) (lost : List Lost) (seen : List ℕ) → IsRun script history lost seen → Sees history seen
   sees history lost seen run =
-      let two = (and_parts ((length seen == length (probe_lines script)) && list_all (λ f. nat_le f (frames history)) seen) (never_falls (zip (probe_lines script) seen)) run.seeing).0 in
+      let two = (and_parts ((length seen == length (probe_lines script)) && list_all (λ f. nat_le f (frames history)) seen)
+      (never_falls (zip (probe_lines script) seen)) run.seeing).0 in
       let parts = and_parts (length seen == length (probe_lines script)) (list_all (λ f. nat_le f (frames history)) seen) two in
       let count = parts.0 in
       record { long = grind (arith, nat_tests); low = parts.1 }
 
   module _ (kept : Kept (2 ^ 32) script) where
-    standing : (history : List Entry) (lost : List Lost) (seen : List ℕ) → IsRun script history lost seen → Stands script.setup script.count script.lines (onto [] (reverse history))
+    standing : (history : List Entry) (lost : List Lost) (seen : List ℕ) → IsRun script history lost seen
+        → Stands script.setup script.count script.lines (onto [] (reverse history))
     standing history lost seen run =
-        subst (λ (h : List Entry). Stands script.setup script.count script.lines h) (sym (from-oldest history)) (stands script.setup script.count script.lines history run.legal run.interleaves)
+        subst (λ (h : List Entry). Stands script.setup script.count script.lines h) (sym (from-oldest history))
+        (stands script.setup script.count script.lines history run.legal run.interleaves)
 
     no-entry : (history : List Entry) (seen : List ℕ) → NoEntry script (ending history seen)
     no-entry history seen =
-        seen-no-entry script kept.named history (probe_lines script) seen (last_text history) (probe-lines-are script kept.spoken) (end-no-entry script kept.named (last_words history) [])
+        seen-no-entry script kept.named history (probe_lines script) seen (last_text history) (probe-lines-are script kept.spoken)
+        (end-no-entry script kept.named (last_words history) [])
 
     no-loss : (history : List Entry) (seen : List ℕ) → NoLoss (ending history seen)
     no-loss history seen =
-        seen-no-loss script kept.named history (probe_lines script) seen (last_text history) (probe-lines-are script kept.spoken) (end-no-loss script kept.named (codes "ends" ∷ last_words history) [])
+        seen-no-loss script kept.named history (probe_lines script) seen (last_text history) (probe-lines-are script kept.spoken)
+        (end-no-loss script kept.named (codes "ends" ∷ last_words history) [])
 
-    history-told : (history history' : List Entry) (lost lost' : List Lost) (seen seen' : List ℕ) → IsRun script history lost seen → IsRun script history' lost' seen'
-        → report script history lost seen ≡ report script history' lost' seen' → Tells [] (reverse history) (reverse history') lost lost' (ending history seen) (ending history' seen')
+    history-told : (history history' : List Entry) (lost lost' : List Lost) (seen seen' : List ℕ) → IsRun script history lost seen
+        → IsRun script history' lost' seen'
+        → report script history lost seen ≡ report script history' lost' seen'
+        → Tells [] (reverse history) (reverse history') lost lost' (ending history seen) (ending history' seen')
     history-told history history' lost lost' seen seen' run run' is =
         let first : List Word = codes "report" ∷ codes "flatland" ∷ number script.version ∷ [] in
-        let behind = line-same first (sheet (tail (entry_lines script lost) [] (reverse history)) (ending history seen)) (sheet (tail (entry_lines script lost') [] (reverse history')) (ending history' seen'))
+        let behind = line-same first (sheet (tail (entry_lines script lost) [] (reverse history)) (ending history seen))
+        (sheet (tail (entry_lines script lost') [] (reverse history')) (ending history' seen'))
         (sym (report-text history lost seen) ∙ is ∙ report-text history' lost' seen') in
         later-told script kept.named lost lost' [] (reverse history) (reverse history') (ending history seen) (ending history' seen') run.numbered run'.numbered
-        (no-entry history seen) (no-entry history' seen') (no-loss history seen) (no-loss history' seen') (standing history lost seen run) (standing history' lost' seen' run') behind
+        (no-entry history seen) (no-entry history' seen') (no-loss history seen) (no-loss history' seen') (standing history lost seen run)
+        (standing history' lost' seen' run') behind
 
     -- where the history is one, the probes saw the same frames
-    same-seen : (history : List Entry) (lost lost' : List Lost) (seen seen' : List ℕ) → IsRun script history lost seen → IsRun script history lost' seen' → ending history seen ≡ ending history seen' → seen ≡ seen'
+    same-seen : (history : List Entry) (lost lost' : List Lost) (seen seen' : List ℕ) → IsRun script history lost seen → IsRun script history lost' seen'
+        → ending history seen ≡ ending history seen' → seen ≡ seen'
     same-seen history lost lost' seen seen' run run' is =
         let of = sees history lost seen run in
         let of' = sees history lost' seen' run' in
         let few = kept.few in
-        let low : frames history < 2 ^ 64 = omega (arith, few, few-frames script.setup script.count script.lines history (stands script.setup script.count script.lines history run.legal run.interleaves)) in
-        seen-told script history script.setup.probes (frames history) (probe_lines script) seen seen' (last_text history) (last_text history) low (probe-lines-are script kept.spoken) of.long of'.long of.low of'.low is
+        let low : frames history < 2 ^ 64 = omega (
+          arith,
+          few,
+          few-frames script.setup script.count script.lines history (stands script.setup script.count script.lines history run.legal run.interleaves),
+        ) in
+        seen-told script history script.setup.probes (frames history) (probe_lines script) seen seen' (last_text history) (last_text history) low
+        (probe-lines-are script kept.spoken) of.long of'.long of.low of'.low is
 
     same-lost : (history : List Entry) (lost lost' : List Lost) (seen seen' : List ℕ) → IsRun script history lost seen → IsRun script history lost' seen'
         → Tells [] (reverse history) (reverse history) lost lost' (ending history seen) (ending history seen') → lost ≡ lost'
     same-lost history lost lost' seen seen' run run' told =
-        losses-same history lost lost' run.loss run'.loss (λ n from upto. told.losses n from (let same : frames (onto [] (reverse history)) ≡ frames history = ap frames (from-oldest history) in omega (arith, upto, same)))
+        losses-same history lost lost' run.loss run'.loss (λ n from upto. told.losses n from
+        (let same : frames (onto [] (reverse history)) ≡ frames history = ap frames (from-oldest history) in omega (arith, upto, same)))
 
     one-history : (history : List Entry) (lost lost' : List Lost) (seen seen' : List ℕ) → IsRun script history lost seen → IsRun script history lost' seen'
         → report script history lost seen ≡ report script history lost' seen' → (lost ≡ lost') × (seen ≡ seen')
@@ -109,13 +129,16 @@ module _ (script : Script) where
     same-history : (history history' : List Entry) → reverse history ≡ reverse history' → history ≡ history'
     same-history history history' is = sym (from-oldest history) ∙ ap (onto []) is ∙ from-oldest history'
 
-    whole-told : (history history' : List Entry) (lost lost' : List Lost) (seen seen' : List ℕ) → IsRun script history lost seen → IsRun script history' lost' seen'
+    whole-told : (history history' : List Entry) (lost lost' : List Lost) (seen seen' : List ℕ) → IsRun script history lost seen
+        → IsRun script history' lost' seen'
         → report script history lost seen ≡ report script history' lost' seen' → (history ≡ history') × (lost ≡ lost') × (seen ≡ seen')
     whole-told history history' lost lost' seen seen' run run' is =
         let same = same-history history history' (history-told history history' lost lost' seen seen' run run' is).entries in
-        let lists = subst (λ (h : List Entry). IsRun script h lost' seen' → report script history lost seen ≡ report script h lost' seen' → (lost ≡ lost') × (seen ≡ seen')) same
+        let lists = subst (λ (h : List Entry). IsRun script h lost' seen' → report script history lost seen ≡ report script h lost' seen'
+        → (lost ≡ lost') × (seen ≡ seen')) same
         (λ run'' is''. one-history history lost lost' seen seen' run run'' is'') run' is in
         (same, lists.0, lists.1)
 
 pub reports-determine : ReportsDetermineHistories
-reports-determine bytes script read history history' lost lost' seen seen' run run' is = whole-told script (read-kept bytes script read) history history' lost lost' seen seen' run run' is
+reports-determine bytes script read history history' lost lost' seen seen' run run' is =
+    whole-told script (read-kept bytes script read) history history' lost lost' seen seen' run run' is

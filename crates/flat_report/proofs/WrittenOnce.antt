@@ -1,5 +1,6 @@
 -- A script has one history in written order: of two, each next entry is the same.
-use Rattle.std.proofs.Common.{◌≡◌, ℕ, zero, suc, ◌+◌, ◌<◌, ◌≤◌, ◌==◌, Bool, true, false, cond, ◌&&◌, not, List, [], ◌∷◌, ◌++◌, reverse, map, slice_index, refl, subst, sym, ap, ◌∙◌, arith, append-nil}
+use Rattle.std.proofs.Common.{◌≡◌, ℕ, zero, suc, ◌+◌, ◌<◌, ◌≤◌, ◌==◌, Bool, true, false, cond, ◌&&◌, not, List, [], ◌∷◌, ◌++◌, reverse, map, slice_index, refl}
+use Rattle.std.proofs.Common.{subst, sym, ap, ◌∙◌, arith, append-nil}
 use Rattle.std.specs.List.{AllByRecursion, list_any}
 use Rattle.std.specs.List.Sorted.{IsStrictlyIncreasing}
 use Rattle.std.proofs.lemmas.Bool.{and_parts, eq-eqb, eqb-true}
@@ -14,7 +15,8 @@ use Rattle.flat_scene.specs.declared.script.ScriptLine.{ScriptLine}
 use Rattle.flat_scene.specs.declared.setup.Setup.{Setup}
 use Rattle.flat_scene.specs.Frames.{sessions_to}
 use Rattle.flat_scene.specs.History.{◌▹◌, own, is_end, is_session, is_display}
-use Rattle.flat_scene.specs.Interleave.{Interleaves, IsFirstLine, IsNext, IsReading, IsWritten, by_display, display_lines, is_ended_once, next_of, session_lines, unread_lines}
+use Rattle.flat_scene.specs.Interleave.{Interleaves, IsFirstLine, IsNext, IsReading, IsWritten, by_display, display_lines, is_ended_once, next_of}
+use Rattle.flat_scene.specs.Interleave.{session_lines, unread_lines}
 use Rattle.flat_scene.specs.Setups.{is_declared}
 use Rattle.flat_rules.specs.Legal.{Legal, session_may}
 use Rattle.flat_report.specs.Laws.{WrittenHistoriesAreOne}
@@ -145,10 +147,14 @@ rest-actors x xs a others is = cc
 of-sessions : (xs : List Entry) (ss : List SessionNo) → actors xs ≡ map Session ss → AreOfSessions xs
 of-sessions [] ss is = tt
 of-sessions (x ∷ xs) [] is = absurd (cc)
-of-sessions (x ∷ xs) (t ∷ ss) is = (ap is_display (first-actor x xs (Session t) (map Session ss) is), of-sessions xs ss (rest-actors x xs (Session t) (map Session ss) is))
+of-sessions (x ∷ xs) (t ∷ ss) is = (
+  ap is_display (first-actor x xs (Session t) (map Session ss) is),
+  of-sessions xs ss (rest-actors x xs (Session t) (map Session ss) is),
+)
 
 -- entries of later sessions are none of this one
-none-later : (s : SessionNo) (k n : ℕ) (xs : List Entry) (ss : List SessionNo) (before : List Entry) → actors xs ≡ map Session ss → s.0 ≤ k → Between k n ss → own s (onto before xs) ≡ own s before
+none-later : (s : SessionNo) (k n : ℕ) (xs : List Entry) (ss : List SessionNo) (before : List Entry) → actors xs ≡ map Session ss → s.0 ≤ k → Between k n ss
+    → own s (onto before xs) ≡ own s before
 none-later s k n [] ss before is low rise = refl
 none-later s k n (x ∷ xs) [] before is low rise = absurd (cc)
 none-later s k n (x ∷ xs) (t ∷ ss) before is low rise =
@@ -170,8 +176,10 @@ ends-are setup k (x ∷ xs) (t ∷ ss) before is rise ended =
     let top = between-top t.0 setup.sessions ss rise.1 in
     let some : 1 ≤ t.0 = omega (arith, rise.0) in
     let declared : is_declared setup t ≡ true = grind (arith, nat_tests, top, some) in
-    let once : is_ended_once (own t before ▹ x) ≡ true = subst (λ (h : List Entry). is_ended_once h ≡ true) (alone ∙ mine) (ended t declared) in
-    ((and_parts (is_end x.kind) (not (list_any (λ (older : Entry). is_end older.kind) (own t before))) once).0, ends-are setup t.0 xs ss (before ▹ x) rest rise.1 ended)
+    let once : is_ended_once (own t before ▹ x) ≡ true = subst (λ (h : List Entry). is_ended_once h ≡ true) (alone ∙ mine) (ended t declared) in (
+      (and_parts (is_end x.kind) (not (list_any (λ (older : Entry). is_end older.kind) (own t before))) once).0,
+      ends-are setup t.0 xs ss (before ▹ x) rest rise.1 ended,
+    )
 
 module _ (setup : Setup) (count : ℕ) (lines : List ScriptLine) where
   -- the next entry of a session after some entries
@@ -188,7 +196,8 @@ module _ (setup : Setup) (count : ℕ) (lines : List ScriptLine) where
   -- ---- a session's next entry
 
   -- behind Ends alone comes none that is no End
-  end-next : (s : SessionNo) (e : Entry) (before ends : List Entry) → is_declared setup s ≡ true → is_end e.kind ≡ false → is_ended_once (own s before) ≡ false → AreEnds ends
+  end-next : (s : SessionNo) (e : Entry) (before ends : List Entry) → is_declared setup s ≡ true → is_end e.kind ≡ false → is_ended_once (own s before) ≡ false
+      → AreEnds ends
       → IsNextOf s before e → StandsHere (onto before ends) → is_ended_once (own s (onto before ends)) ≡ true → ⊥
   end-next s e before [] declared kind unended are next standing ended = no_both (is_ended_once (own s before)) unended ended
   end-next s e before (x ∷ ends) declared kind unended are next standing ended =
@@ -199,14 +208,17 @@ module _ (setup : Setup) (count : ℕ) (lines : List ScriptLine) where
     where
       by_actor : (b : Bool) → is_session s x.actor ≡ b → (is_session s x.actor ≡ false → ⊥) → ⊥
       by_actor true mine further =
-          let here : IsNextOf s before x = session-next setup count lines s before x mine ((stood setup count lines (before ▹ x) ends standing).sessions s declared) in
+          let here : IsNextOf s before x = session-next setup count lines s before x mine
+          ((stood setup count lines (before ▹ x) ends standing).sessions s declared) in
           no_both (is_end e.kind) kind (ap is_end (next.kind ∙ sym here.kind) ∙ are.0)
       by_actor false other further = further other
 
   -- it stands on a line above that from which the others rise
-  later-session : (s : SessionNo) (e : Entry) (m : ℕ) (before rising ends : List Entry) → is_declared setup s ≡ true → is_end e.kind ≡ false → is_ended_once (own s before) ≡ false → NoEnds rising → AreEnds ends → RisesFrom m rising
+  later-session : (s : SessionNo) (e : Entry) (m : ℕ) (before rising ends : List Entry) → is_declared setup s ≡ true → is_end e.kind ≡ false
+      → is_ended_once (own s before) ≡ false → NoEnds rising → AreEnds ends → RisesFrom m rising
       → IsNextOf s before e → StandsHere (onto before (rising ++ ends)) → is_ended_once (own s (onto before (rising ++ ends))) ≡ true → m < e.line
-  later-session s e m before [] ends declared kind unended none are rises next standing ended = absurd (end-next s e before ends declared kind unended are next standing ended)
+  later-session s e m before [] ends declared kind unended none are rises next standing ended =
+      absurd (end-next s e before ends declared kind unended are next standing ended)
   later-session s e m before (x ∷ rising) ends declared kind unended none are rises next standing ended =
       by_actor (is_session s x.actor) refl
       (λ other. later-session s e x.line (before ▹ x) rising ends declared kind
@@ -215,19 +227,23 @@ module _ (setup : Setup) (count : ℕ) (lines : List ScriptLine) where
     where
       by_actor : (b : Bool) → is_session s x.actor ≡ b → (is_session s x.actor ≡ false → x.line < e.line) → m < e.line
       by_actor true mine further =
-          let here : IsNextOf s before x = session-next setup count lines s before x mine ((stood setup count lines (before ▹ x) (rising ++ ends) standing).sessions s declared) in
+          let here : IsNextOf s before x = session-next setup count lines s before x mine
+          ((stood setup count lines (before ▹ x) (rising ++ ends) standing).sessions s declared) in
           let same : x.line ≡ e.line = here.line ∙ sym next.line in
           omega (arith, rises.0, same)
       by_actor false other further = let above = further other in omega (arith, rises.0, above)
 
   -- ---- the display's next entry
 
-  end-shown : (e : Entry) (before ends : List Entry) → AreOfSessions ends → IsNextShown before e → unread_lines (by_display (onto before ends)) (display_lines lines) ≡ [] → ⊥
+  end-shown : (e : Entry) (before ends : List Entry) → AreOfSessions ends → IsNextShown before e
+      → unread_lines (by_display (onto before ends)) (display_lines lines) ≡ [] → ⊥
   end-shown e before [] of next read = subst (λ (ls : List (ℕ × DisplayLine)). IsFirstLine ls e) read next
   end-shown e before (x ∷ ends) of next read =
-      end-shown e (before ▹ x) ends of.1 (subst (λ (h : List Entry). IsFirstLine (unread_lines h (display_lines lines)) e) (sym (display-other before x of.0)) next) read
+      end-shown e (before ▹ x) ends of.1 (subst (λ (h : List Entry). IsFirstLine (unread_lines h (display_lines lines)) e) (sym (display-other before x of.0))
+      next) read
 
-  later-shown : (e : Entry) (m : ℕ) (before rising ends : List Entry) → AreOfSessions ends → RisesFrom m rising → IsNextShown before e → StandsHere (onto before (rising ++ ends))
+  later-shown : (e : Entry) (m : ℕ) (before rising ends : List Entry) → AreOfSessions ends → RisesFrom m rising → IsNextShown before e
+      → StandsHere (onto before (rising ++ ends))
       → unread_lines (by_display (onto before (rising ++ ends))) (display_lines lines) ≡ [] → m < e.line
   later-shown e m before [] ends of rises next standing read = absurd (end-shown e before ends of next read)
   later-shown e m before (x ∷ rising) ends of rises next standing read =
@@ -237,7 +253,8 @@ module _ (setup : Setup) (count : ℕ) (lines : List ScriptLine) where
     where
       by_actor : (b : Bool) → is_display x.actor ≡ b → (is_display x.actor ≡ false → x.line < e.line) → m < e.line
       by_actor true mine further =
-          let here : IsNextShown before x = display-next setup count lines before x (is-display x.actor mine) (stood setup count lines (before ▹ x) (rising ++ ends) standing).display in
+          let here : IsNextShown before x = display-next setup count lines before x (is-display x.actor mine)
+          (stood setup count lines (before ▹ x) (rising ++ ends) standing).display in
           let same : x.line ≡ e.line = (same-first setup count lines (unread_lines (by_display before) (display_lines lines)) x e here next).0 in
           omega (arith, rises.0, same)
       by_actor false other further = let above = further other in omega (arith, rises.0, above)
@@ -271,46 +288,60 @@ module _ (setup : Setup) (count : ℕ) (lines : List ScriptLine) where
   here before rising ends x part = stood setup count lines (before ▹ x) (rising ++ ends) part.standing
 
   -- the next entry of one who doesn't come next stands on a later line than that which does
-  later-line : (actor : Actor) (e x : Entry) (before rising ends : List Entry) → e.actor ≡ actor → is_end e.kind ≡ false → StandsHere (before ▹ e) → is_of actor x.actor ≡ false → Part before (x ∷ rising) ends → x.line < e.line
+  later-line : (actor : Actor) (e x : Entry) (before rising ends : List Entry) → e.actor ≡ actor → is_end e.kind ≡ false → StandsHere (before ▹ e)
+      → is_of actor x.actor ≡ false → Part before (x ∷ rising) ends → x.line < e.line
   later-line (Session s) e x before rising ends is kind standing other part =
       let mine : is_session s e.actor ≡ true = ap (is_session s) is ∙ eq-eqb s.0 s.0 refl in
-      let declared : is_declared setup s ≡ true = (and_parts (session_may e.kind) (is_declared setup s) (acts-at setup count lines (Session s) e is standing.legal.1.may.acts)).1 in
+      let declared : is_declared setup s ≡ true = (and_parts (session_may e.kind) (is_declared setup s)
+      (acts-at setup count lines (Session s) e is standing.legal.1.may.acts)).1 in
       let next : IsNextOf s before e = session-next setup count lines s before e mine (standing.sessions s declared) in
       later-session s e x.line (before ▹ x) rising ends declared kind (not-ended s (before ▹ x) (part.none.0, part.earlier)) part.none.1 part.are part.rises
-      (subst (λ (h : List Entry). IsNext (next_of setup count h (session_lines s lines)) e) (sym (own-other s before x other)) next) part.standing (part.ended s declared)
+      (subst (λ (h : List Entry). IsNext (next_of setup count h (session_lines s lines)) e) (sym (own-other s before x other)) next) part.standing
+      (part.ended s declared)
   later-line Display e x before rising ends is kind standing other part =
       let next : IsNextShown before e = display-next setup count lines before e is standing.display in
       later-shown e x.line (before ▹ x) rising ends part.of part.rises
       (subst (λ (h : List Entry). IsFirstLine (unread_lines h (display_lines lines)) e) (sym (display-other before x other)) next) part.standing part.read
-  later-line (Probe p) e x before rising ends is kind standing other part = absurd (no-probe setup count lines e.kind p (acts-at setup count lines (Probe p) e is standing.legal.1.may.acts))
+  later-line (Probe p) e x before rising ends is kind standing other part =
+      absurd (no-probe setup count lines e.kind p (acts-at setup count lines (Probe p) e is standing.legal.1.may.acts))
 
   -- no entry but an End comes where the other has Ends alone
-  none-left : (actor : Actor) (e : Entry) (before ends : List Entry) → e.actor ≡ actor → is_end e.kind ≡ false → StandsHere (before ▹ e) → Part before [] ends → ⊥
+  none-left : (actor : Actor) (e : Entry) (before ends : List Entry) → e.actor ≡ actor → is_end e.kind ≡ false → StandsHere (before ▹ e) → Part before [] ends
+      → ⊥
   none-left (Session s) e before ends is kind standing part =
       let mine : is_session s e.actor ≡ true = ap (is_session s) is ∙ eq-eqb s.0 s.0 refl in
-      let declared : is_declared setup s ≡ true = (and_parts (session_may e.kind) (is_declared setup s) (acts-at setup count lines (Session s) e is standing.legal.1.may.acts)).1 in
-      end-next s e before ends declared kind (not-ended s before part.earlier) part.are (session-next setup count lines s before e mine (standing.sessions s declared)) part.standing (part.ended s declared)
-  none-left Display e before ends is kind standing part = end-shown e before ends part.of (display-next setup count lines before e is standing.display) part.read
-  none-left (Probe p) e before ends is kind standing part = no-probe setup count lines e.kind p (acts-at setup count lines (Probe p) e is standing.legal.1.may.acts)
+      let declared : is_declared setup s ≡ true = (and_parts (session_may e.kind) (is_declared setup s)
+      (acts-at setup count lines (Session s) e is standing.legal.1.may.acts)).1 in
+      end-next s e before ends declared kind (not-ended s before part.earlier) part.are
+      (session-next setup count lines s before e mine (standing.sessions s declared)) part.standing (part.ended s declared)
+  none-left Display e before ends is kind standing part =
+      end-shown e before ends part.of (display-next setup count lines before e is standing.display) part.read
+  none-left (Probe p) e before ends is kind standing part =
+      no-probe setup count lines e.kind p (acts-at setup count lines (Probe p) e is standing.legal.1.may.acts)
 
-  same-turn : (before rising rising' ends ends' : List Entry) (e e' : Entry) → Part before (e ∷ rising) ends → Part before (e' ∷ rising') ends' → e.actor ≡ e'.actor
+  same-turn : (before rising rising' ends ends' : List Entry) (e e' : Entry) → Part before (e ∷ rising) ends → Part before (e' ∷ rising') ends'
+      → e.actor ≡ e'.actor
   same-turn before rising rising' ends ends' e e' part part' = by_test (is_of e.actor e'.actor) refl
     where
       by_test : (b : Bool) → is_of e.actor e'.actor ≡ b → e.actor ≡ e'.actor
       by_test true is = is-of-same e.actor e'.actor is
       by_test false is =
           let one : e'.line < e.line = later-line e.actor e e' before rising' ends' refl part.none.0 (here before rising ends e part) is part' in
-          let two : e.line < e'.line = later-line e'.actor e' e before rising ends refl part'.none.0 (here before rising' ends' e' part') (is-of-turned e.actor e'.actor is) part in
+          let two : e.line < e'.line = later-line e'.actor e' e before rising ends refl part'.none.0 (here before rising' ends' e' part')
+          (is-of-turned e.actor e'.actor is) part in
           absurd (omega (arith, one, two))
 
   same-rising : (before rising rising' ends ends' : List Entry) → Part before rising ends → Part before rising' ends' → rising ≡ rising'
   same-rising before [] [] ends ends' part part' = refl
   same-rising before (e ∷ rising) [] ends ends' part part' = absurd (none-left e.actor e before ends' refl part.none.0 (here before rising ends e part) part')
-  same-rising before [] (e' ∷ rising') ends ends' part part' = absurd (none-left e'.actor e' before ends refl part'.none.0 (here before rising' ends' e' part') part)
+  same-rising before [] (e' ∷ rising') ends ends' part part' =
+      absurd (none-left e'.actor e' before ends refl part'.none.0 (here before rising' ends' e' part') part)
   same-rising before (e ∷ rising) (e' ∷ rising') ends ends' part part' =
-      let same : e ≡ e' = one-more setup count lines before e e' (same-turn before rising rising' ends ends' e e' part part') (here before rising ends e part) (here before rising' ends' e' part') in
+      let same : e ≡ e' = one-more setup count lines before e e' (same-turn before rising rising' ends ends' e e' part part') (here before rising ends e part)
+      (here before rising' ends' e' part') in
       subst (λ (x : Entry). Part before (x ∷ rising') ends' → e ∷ rising ≡ x ∷ rising') same
-      (λ part''. ap (λ (xs : List Entry). e ∷ xs) (same-rising (before ▹ e) rising rising' ends ends' (part-later before rising ends e part) (part-later before rising' ends' e part''))) part'
+      (λ part''. ap (λ (xs : List Entry). e ∷ xs) (same-rising (before ▹ e) rising rising' ends ends' (part-later before rising ends e part)
+      (part-later before rising' ends' e part''))) part'
 
   -- entries of the same actors, in their order, are the same
   same-ends : (before ends ends' : List Entry) → StandsHere (onto before ends) → StandsHere (onto before ends') → actors ends ≡ actors ends' → ends ≡ ends'
@@ -320,7 +351,8 @@ module _ (setup : Setup) (count : ℕ) (lines : List ScriptLine) where
   same-ends before (x ∷ ends) (y ∷ ends') standing standing' is =
       let actor : x.actor ≡ y.actor = first-actor x ends y.actor (actors ends') is in
       let rest : actors ends ≡ actors ends' = rest-actors x ends y.actor (actors ends') is in
-      let same : x ≡ y = one-more setup count lines before x y actor (stood setup count lines (before ▹ x) ends standing) (stood setup count lines (before ▹ y) ends' standing') in
+      let same : x ≡ y = one-more setup count lines before x y actor (stood setup count lines (before ▹ x) ends standing)
+      (stood setup count lines (before ▹ y) ends' standing') in
       subst (λ (z : Entry). StandsHere (onto (before ▹ z) ends') → x ∷ ends ≡ z ∷ ends') same
       (λ standing''. ap (λ (zs : List Entry). x ∷ zs) (same-ends (before ▹ x) ends ends' standing standing'' rest)) standing'
 
@@ -330,8 +362,10 @@ module _ (setup : Setup) (count : ℕ) (lines : List ScriptLine) where
   from-parts history written =
       ap (onto []) (sym written.parts) ∙ onto-reverse [] (reverse history) ∙ append-nil (reverse (reverse history)) ∙ reverse-reverse history
 
-  ended-all : (history : List Entry) → Interleaves setup count lines history → (s : SessionNo) → is_declared setup s ≡ true → is_ended_once (own s history) ≡ true
-  ended-all history interleaves s declared = (session-at (λ s. IsReading setup count (session_lines s lines) (own s history)) setup.sessions s.0 least most interleaves.sessions).ended
+  ended-all : (history : List Entry) → Interleaves setup count lines history → (s : SessionNo) → is_declared setup s ≡ true
+      → is_ended_once (own s history) ≡ true
+  ended-all history interleaves s declared = (session-at (λ s. IsReading setup count (session_lines s lines) (own s history)) setup.sessions s.0 least most
+      interleaves.sessions).ended
     where
       least : 1 ≤ s.0
       least = grind (arith, nat_tests)
@@ -339,13 +373,15 @@ module _ (setup : Setup) (count : ℕ) (lines : List ScriptLine) where
       most : s.0 ≤ setup.sessions
       most = grind (arith, nat_tests)
 
-  part-of : (history : List Entry) → Legal setup history → Interleaves setup count lines history → (written : IsWritten setup history) → Part [] written.rising written.ends
+  part-of : (history : List Entry) → Legal setup history → Interleaves setup count lines history → (written : IsWritten setup history)
+      → Part [] written.rising written.ends
   part-of history legal interleaves written =
       let is : history ≡ onto [] (written.rising ++ written.ends) = sym (from-parts history written) in
       let ended : (s : SessionNo) → is_declared setup s ≡ true → is_ended_once (own s (onto [] (written.rising ++ written.ends))) ≡ true =
       subst (λ (h : List Entry). (s : SessionNo) → is_declared setup s ≡ true → is_ended_once (own s h) ≡ true) is (ended-all history interleaves) in
       let ended' : (s : SessionNo) → is_declared setup s ≡ true → is_ended_once (own s (onto (onto [] written.rising) written.ends)) ≡ true =
-      subst (λ (h : List Entry). (s : SessionNo) → is_declared setup s ≡ true → is_ended_once (own s h) ≡ true) (onto-append [] written.rising written.ends) ended in
+      subst (λ (h : List Entry). (s : SessionNo) → is_declared setup s ≡ true → is_ended_once (own s h) ≡ true) (onto-append [] written.rising written.ends)
+      ended in
       record {
         standing = subst (λ (h : List Entry). StandsHere h) is (stands setup count lines history legal interleaves);
         ended = ended;
@@ -357,17 +393,20 @@ module _ (setup : Setup) (count : ℕ) (lines : List ScriptLine) where
         of = of-sessions written.ends (sessions_to setup.sessions) written.in_order;
       }
 
-  same-parts : (rising rising' ends ends' : List Entry) → Part [] rising ends → Part [] rising' ends' → actors ends ≡ actors ends' → rising ++ ends ≡ rising' ++ ends'
+  same-parts : (rising rising' ends ends' : List Entry) → Part [] rising ends → Part [] rising' ends' → actors ends ≡ actors ends'
+      → rising ++ ends ≡ rising' ++ ends'
   same-parts rising rising' ends ends' part part' is =
       let one : rising ≡ rising' = same-rising [] rising rising' ends ends' part part' in
       let S : List Entry → Type 0 = λ h. StandsHere h in
-      let standing : S (onto (onto [] rising') ends) = subst S (onto-append [] rising' ends) (subst (λ (r : List Entry). S (onto [] (r ++ ends))) one part.standing) in
+      let standing : S (onto (onto [] rising') ends) = subst S (onto-append [] rising' ends)
+      (subst (λ (r : List Entry). S (onto [] (r ++ ends))) one part.standing) in
       let standing' : S (onto (onto [] rising') ends') = subst S (onto-append [] rising' ends') part'.standing in
       let two : ends ≡ ends' = same-ends (onto [] rising') ends ends' standing standing' is in
       λ i. one i ++ two i
 
 pub written-once : WrittenHistoriesAreOne
 written-once setup count lines history history' legal legal' interleaves interleaves' written written' =
-    let same = same-parts setup count lines written.rising written'.rising written.ends written'.ends (part-of setup count lines history legal interleaves written) (part-of setup count lines history' legal' interleaves' written')
+    let same = same-parts setup count lines written.rising written'.rising written.ends written'.ends
+    (part-of setup count lines history legal interleaves written) (part-of setup count lines history' legal' interleaves' written')
     (written.in_order ∙ sym written'.in_order) in
     sym (from-parts setup count lines history written) ∙ ap (onto []) same ∙ from-parts setup count lines history' written'

@@ -29,13 +29,15 @@ use Rattle.flat_places.specs.Forms.{Word}
 
 -- the answer to an entry that asks for a point, where the last finished frame has this number and these hits
 abbrev pub answer_to : Entry → ℕ → (ℤ → ℤ → List Hit) → Kind → List HitAnswer
-answer_to entry n hits (kind.Hit x y) = (record { actor = entry.actor; line = entry.line; frame = record { 0 = n }; hits = hits x y }) ∷ []
+answer_to entry n hits (kind.Hit x y) = (record
+    { actor = entry.actor; line = entry.line; frame = record { 0 = n }; hits = hits x y }) ∷ []
 answer_to entry n hits _ = []
 
 -- the answers to all points that the compositor asked for, in order
 abbrev pub answers_of : Setup → List Entry → List HitAnswer
 answers_of setup [] = []
-answers_of setup (before ▹ entry) = answers_of setup before ++ answer_to entry (frames before) (hits_at setup (to_finished before)) entry.kind
+answers_of setup (before ▹ entry) = answers_of setup before
+    ++ answer_to entry (frames before) (hits_at setup (to_finished before)) entry.kind
 
 -- the hits of the first answer
 abbrev pub first_hits : List HitAnswer → List Hit
@@ -81,7 +83,8 @@ probe_words script (probe.Await n) frame hits = codes "await" ∷ codes "frame" 
 
 -- the line of an answer
 abbrev pub answer_line : Script → ProbeAnswer → List Word
-answer_line script answer = actor_name script answer.actor ∷ number answer.line ∷ probe_words script answer.asked (frame_seen answer) answer.hits
+answer_line script answer = actor_name script answer.actor ∷ number answer.line
+    ∷ probe_words script answer.asked (frame_seen answer) answer.hits
 
 -- the text of all probes' answers, probe by probe
 abbrev pub answers_text : Script → List (List ProbeAnswer) → List ℕ
@@ -90,13 +93,18 @@ answers_text script probes = flat_map (λ one. text_of (map (answer_line script)
 -- the text of the entries from a place on, by what is left there of what is handed in: each entry takes its own posts
 -- from the front, a `done` the text of a frame, and a point an answer; behind them the probes' answers, and the last
 -- line
-abbrev pub handed_entries : Script → List Lost → List (List ProbeAnswer) → ℕ → ℕ → List (List ℕ) → List HitAnswer → List Post → List Entry → List ℕ
-handed_entries script lost probes place finished texts answers posts [] = answers_text script probes ++ text_of (end_line place finished ∷ [])
+abbrev pub handed_entries : Script → List Lost → List (List ProbeAnswer) → ℕ → ℕ → List (List ℕ) → List HitAnswer
+    → List Post → List Entry → List ℕ
+handed_entries script lost probes place finished texts answers posts [] =
+    answers_text script probes ++ text_of (end_line place finished ∷ [])
 handed_entries script lost probes place finished texts answers posts (entry ∷ later) =
     handed_text script lost finished texts answers (take (first_posts place posts) posts) entry
-    ++ handed_entries script lost probes (place + 1) (finished + cond (is_finish entry.kind) 1 0) (texts_after entry.kind texts) (answers_after entry.kind answers) (drop (first_posts place posts) posts) later
+    ++ handed_entries script lost probes (place + 1) (finished + cond (is_finish entry.kind) 1 0)
+    (texts_after entry.kind texts) (answers_after entry.kind answers) (drop (first_posts place posts) posts) later
 
 -- the text of all that is handed in: the entries, the oldest first, their posts, the texts of frames, the displays
 -- that were lost, the answers to points, and those to the probes
-abbrev pub handed_report : Script → List Entry → List Post → List (List ℕ) → List Lost → List HitAnswer → List (List ProbeAnswer) → List ℕ
-handed_report script entries posts texts lost answers probes = text_of (title_line script.version ∷ []) ++ handed_entries script lost probes 0 0 texts answers posts entries
+abbrev pub handed_report : Script → List Entry → List Post → List (List ℕ) → List Lost → List HitAnswer
+    → List (List ProbeAnswer) → List ℕ
+handed_report script entries posts texts lost answers probes =
+    text_of (title_line script.version ∷ []) ++ handed_entries script lost probes 0 0 texts answers posts entries

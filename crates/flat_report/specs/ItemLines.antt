@@ -24,7 +24,8 @@ stretches_text = flat_map (λ stretch. arc_value stretch.lines)
 
 -- Stretches have the lines of a frame's items: each those of its own, and all together those of all.
 pub record HaveLines (script : Script) (items : List DrawItem) (stretches : List Stretch) : Type 0 where
-  pub each : (k : ℕ) (stretch : Stretch) → slice_get stretches k ≡ Some stretch → arc_value stretch.lines ≡ items_text script (stretch_items items stretch)
+  pub each : (k : ℕ) (stretch : Stretch) → slice_get stretches k ≡ Some stretch
+      → arc_value stretch.lines ≡ items_text script (stretch_items items stretch)
   pub all : stretches_text stretches ≡ items_text script items
 
 -- the draw items of a frame, if there is one

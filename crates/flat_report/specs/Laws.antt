@@ -24,7 +24,8 @@ use Rattle.flat_report.specs.Due.{TakesDue}
 -- no rule asks for a script's version, so the script has the same runs if its version is another
 abbrev pub VersionsHaveOneRun : Type 0
 VersionsHaveOneRun =
-    (script : Script) (version : ℕ) (history : List Entry) (lost : List Lost) (seen : List ℕ) → IsRun script history lost seen
+    (script : Script) (version : ℕ) (history : List Entry) (lost : List Lost) (seen : List ℕ)
+    → IsRun script history lost seen
     → IsRun (with_version script version) history lost seen
 
 -- two runs of a script that is read from a text, with the same report, are one

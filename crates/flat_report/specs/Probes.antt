@@ -70,7 +70,8 @@ seen_last answers = seen_last_from 0 (map frame_seen answers)
 
 -- Lines of one probe are answered, each by a frame up to the last one, and never by an earlier frame than the line
 -- before.
-pub record AreAnsweredBy (hits : ℕ → ℤ → ℤ → List Hit) (last : ℕ) (lines : List ScriptLine) (answers : List ProbeAnswer) : Type 0 where
+pub record AreAnsweredBy (hits : ℕ → ℤ → ℤ → List Hit) (last : ℕ) (lines : List ScriptLine)
+    (answers : List ProbeAnswer) : Type 0 where
   pub as_many : length answers ≡ length lines
   pub are : answers ≡ map (answer_by hits) (zip lines (map frame_seen answers))
   pub within : list_all (λ frame. nat_le frame last) (map frame_seen answers) ≡ true

@@ -23,16 +23,21 @@ kept-there shown slots (suc before) slot kept are some few is found =
     = get_or_default slots before None slot (omega (arith, are.size)) ∙ ap (λ (k : ℕ). get_or slots k slot) (sym at) ∙ sym is ∙ sym found in
     slot-like (suc before) (state_of shown (suc before)) (get_or slots before None) (Some kept) same (are.each before)
 
-slot-at : (shown : Shown) (slots : List (Option Kept)) (before : ℕ) (slot : Option Kept) → AreSlots shown slots → before < length slots → IsSlot (suc before) (slice_index_or shown before None) slot
-    → (k : ℕ) → ((k == before) ≡ true) × (k ≡ before) ⊎ ((k == before) ≡ false) × (k ≢ before) → IsSlot (suc k) (slice_index_or shown k None) (slice_index_or (slice_set slots before slot) k None)
+slot-at : (shown : Shown) (slots : List (Option Kept)) (before : ℕ) (slot : Option Kept) → AreSlots shown slots → before < length slots
+    → IsSlot (suc before) (slice_index_or shown before None) slot
+    → (k : ℕ) → ((k == before) ≡ true) × (k ≡ before) ⊎ ((k == before) ≡ false) × (k ≢ before)
+    → IsSlot (suc k) (slice_index_or shown k None) (slice_index_or (slice_set slots before slot) k None)
 slot-at shown slots before slot are within is k (inl p) =
     let P : ℕ → Type 0 = λ k. IsSlot (suc k) (slice_index_or shown k None) (slice_index_or (slice_set slots before slot) k None) in
-    subst P (sym p.1) (slot-like (suc before) (slice_index_or shown before None) slot (get_or (slice_set slots before slot) before None) (sym (get_or-set_same slots before slot None within)) is)
+    subst P (sym p.1) (slot-like (suc before) (slice_index_or shown before None) slot (get_or (slice_set slots before slot) before None)
+    (sym (get_or-set_same slots before slot None within)) is)
 slot-at shown slots before slot are within is k (inr p) =
-    slot-like (suc k) (slice_index_or shown k None) (get_or slots k None) (get_or (slice_set slots before slot) k None) (sym (get_or-set_other slots before k slot None p.1)) (are.each k)
+    slot-like (suc k) (slice_index_or shown k None) (get_or slots k None) (get_or (slice_set slots before slot) k None)
+    (sym (get_or-set_other slots before k slot None p.1)) (are.each k)
 
 -- the slot of a session was filled, or emptied
-pub slot-set : (shown : Shown) (slots : List (Option Kept)) (s : ℕ) (slot : Option Kept) → AreSlots shown slots → 0 < s → s ≤ length shown → IsSlot s (state_of shown s) slot
+pub slot-set : (shown : Shown) (slots : List (Option Kept)) (s : ℕ) (slot : Option Kept) → AreSlots shown slots → 0 < s → s ≤ length shown
+    → IsSlot s (state_of shown s) slot
     → AreSlots shown (slice_set slots (s - 1) slot)
 slot-set shown slots zero slot are some few is = absurd (omega arith)
 slot-set shown slots (suc before) slot are some few is =
@@ -49,20 +54,23 @@ fitted-each : (changed : SessionSet) (old new : Shown) (was is : List (Option Ke
 fitted-each changed old new was is are same k within (inl none) = slot-like (suc k) (slice_index_or new k None) None (slice_index_or is k None) (sym none) tt
 fitted-each changed old new was is are same k within (inr kept) =
     let P : Option Tree → Type 0 = λ state. IsSlot (suc k) state (slice_index_or is k None) in
-    subst P (same (suc k) (omega arith) kept.0) (slot-like (suc k) (slice_index_or old k None) (slice_index_or was k None) (slice_index_or is k None) (sym kept.1) (are.each k))
+    subst P (same (suc k) (omega arith) kept.0) (slot-like (suc k) (slice_index_or old k None) (slice_index_or was k None) (slice_index_or is k None)
+    (sym kept.1) (are.each k))
 
 inside-or-past : (k n : ℕ) → (k < n) ⊎ (n ≤ k)
 inside-or-past k zero = inr (omega arith)
 inside-or-past zero (suc n) = inl (omega arith)
 inside-or-past (suc k) (suc n) = elim (inside-or-past k n) [ inl low ↦ inl (omega arith) | inr high ↦ inr (omega arith) ]
 
-fitted-at : (changed : SessionSet) (old new : Shown) (was is : List (Option Kept)) → AreSlots old was → AreSame changed old new → AreFitted changed was is (length new)
+fitted-at : (changed : SessionSet) (old new : Shown) (was is : List (Option Kept)) → AreSlots old was → AreSame changed old new
+    → AreFitted changed was is (length new)
     → (k : ℕ) → (k < length new) ⊎ (length new ≤ k) → IsSlot (suc k) (slice_index_or new k None) (slice_index_or is k None)
 fitted-at changed old new was is are same fitted k (inl within) = fitted-each changed old new was is are same k within (fitted.each k)
 fitted-at changed old new was is are same fitted k (inr past) =
     slot-like (suc k) (slice_index_or new k None) None (slice_index_or is k None) (sym (get_or_past is k None (omega (arith, fitted.size)))) tt
 
 -- the slots that were fitted are those of what is shown now
-pub fitted-slots : (changed : SessionSet) (old new : Shown) (was is : List (Option Kept)) → AreSlots old was → AreSame changed old new → AreFitted changed was is (length new) → AreSlots new is
+pub fitted-slots : (changed : SessionSet) (old new : Shown) (was is : List (Option Kept)) → AreSlots old was → AreSame changed old new
+    → AreFitted changed was is (length new) → AreSlots new is
 fitted-slots changed old new was is are same fitted =
     record { size = fitted.size; each = λ k. fitted-at changed old new was is are same fitted k (inside-or-past k (length new)) }

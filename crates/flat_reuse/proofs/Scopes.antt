@@ -21,7 +21,8 @@ pub rect-same : (a b : Rect) → Decides (rect.it a b) (a ≡ b)
 rect-same a b =
     Decides-like _ (λ p. rect-of a b p.0 p.1.0 p.1.1.0 p.1.1.1)
     (λ e. (ap (λ (r : Rect). r.x0) e, (ap (λ (r : Rect). r.y0) e, (ap (λ (r : Rect). r.x1) e, ap (λ (r : Rect). r.y1) e))))
-    (Decides-and _ _ (Decides-int_eq a.x0 b.x0) (Decides-and _ _ (Decides-int_eq a.y0 b.y0) (Decides-and _ _ (Decides-int_eq a.x1 b.x1) (Decides-int_eq a.y1 b.y1))))
+    (Decides-and _ _ (Decides-int_eq a.x0 b.x0) (Decides-and _ _ (Decides-int_eq a.y0 b.y0)
+    (Decides-and _ _ (Decides-int_eq a.x1 b.x1) (Decides-int_eq a.y1 b.y1))))
 
 abbrev matrix_at : Bool → ℤ → ℤ → ℤ → ℤ → Matrix
 matrix_at swap a b x y = record { swap = swap; a = a; b = b; x = x; y = y }
@@ -36,4 +37,5 @@ pub matrix-same : (m n : Matrix) → Decides (matrix.it m n) (m ≡ n)
 matrix-same m n =
     Decides-like _ (λ p. matrix-of m n p.0 p.1.0 p.1.1.0 p.1.1.1.0 p.1.1.1.1)
     (λ e. (ap (λ (r : Matrix). r.swap) e, (ap (λ (r : Matrix). r.a) e, (ap (λ (r : Matrix). r.b) e, (ap (λ (r : Matrix). r.x) e, ap (λ (r : Matrix). r.y) e)))))
-    (Decides-and _ _ (booleans_Decides m.swap n.swap) (Decides-and _ _ (Decides-int_eq m.a n.a) (Decides-and _ _ (Decides-int_eq m.b n.b) (Decides-and _ _ (Decides-int_eq m.x n.x) (Decides-int_eq m.y n.y)))))
+    (Decides-and _ _ (booleans_Decides m.swap n.swap) (Decides-and _ _ (Decides-int_eq m.a n.a)
+    (Decides-and _ _ (Decides-int_eq m.b n.b) (Decides-and _ _ (Decides-int_eq m.x n.x) (Decides-int_eq m.y n.y)))))

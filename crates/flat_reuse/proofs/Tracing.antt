@@ -1,5 +1,6 @@
 -- The steps of the walk that collects what the nodes of a session give.
-use Rattle.std.proofs.Common.{ℕ, ◌+◌, ◌*◌, ◌<◌, ◌≤◌, ◌≡◌, refl, sym, ap, ◌∙◌, Bool, true, false, cond, nat_lt, List, [], ◌∷◌, ◌++◌, length, Some, All, slice_get, get_or, arith}
+use Rattle.std.proofs.Common.{ℕ, ◌+◌, ◌*◌, ◌<◌, ◌≤◌, ◌≡◌, refl, sym, ap, ◌∙◌, Bool, true, false, cond, nat_lt, List, [], ◌∷◌, ◌++◌, length, Some, All}
+use Rattle.std.proofs.Common.{slice_get, get_or, arith}
 use Rattle.std.proofs.lemmas.Bool.Decides.{nat_tests}
 use Rattle.std.proofs.lemmas.List.{append_assoc, append-nil}
 use Rattle.std.proofs.lemmas.List.Elements.{All-nil, All-cons, All-append, All-push, All-pop, All-get_or}
@@ -28,7 +29,8 @@ use Rattle.flat_reuse.specs.Tracing.{pushed, span_pieces, still_given, span_work
 
 -- ---- one more span, which comes first
 
-pub given-more : (s : ℕ) (ns : List FlatNode) (left : List Span) (span : Span) → still_given s ns (left ++ span ∷ []) ≡ span_pieces s ns span ++ still_given s ns left
+pub given-more : (s : ℕ) (ns : List FlatNode) (left : List Span) (span : Span)
+    → still_given s ns (left ++ span ∷ []) ≡ span_pieces s ns span ++ still_given s ns left
 given-more s ns [] span = sym (append-nil (span_pieces s ns span))
 given-more s ns (x ∷ left) span =
     ap (λ (ps : List Piece). ps ++ span_pieces s ns x) (given-more s ns left span)
@@ -45,7 +47,8 @@ none-given s ns span is none =
     let low : span.end ≤ span.next = grind (arith, nat_tests) in
     ap (λ (nodes : Children). pieces s nodes (space_of span.scope)) (stretch-none ns span.next span.end is.stretch low)
 
-given-pushed : (s : ℕ) (ns : List FlatNode) (left : List Span) (span : Span) → IsSpan ns span → still_given s ns (pushed left span) ≡ span_pieces s ns span ++ still_given s ns left
+given-pushed : (s : ℕ) (ns : List FlatNode) (left : List Span) (span : Span) → IsSpan ns span
+    → still_given s ns (pushed left span) ≡ span_pieces s ns span ++ still_given s ns left
 given-pushed s ns left span is = by_test (nat_lt span.next span.end) refl
   where
     by_test : (b : Bool) → nat_lt span.next span.end ≡ b → still_given s ns (cond b (left ++ span ∷ []) left) ≡ span_pieces s ns span ++ still_given s ns left
@@ -121,7 +124,8 @@ pieces-first s outer here n children rest inner = rw inner refl
 
 span-first : (s : ℕ) (ns : List FlatNode) (span : Span) (n : FlatNode) (scope : Scope) → IsFirst ns span.next span.end n
     → space_of scope ≡ node_space (space_of span.scope) (as_node n Empty)
-    → span_pieces s ns span ≡ node_pieces s (space_of scope) (as_node n Empty) ++ (span_pieces s ns (below_span span n scope) ++ span_pieces s ns (after_span span n))
+    → span_pieces s ns span ≡ node_pieces s (space_of scope) (as_node n Empty)
+    ++ (span_pieces s ns (below_span span n scope) ++ span_pieces s ns (after_span span n))
 span-first s ns span n scope parts inner =
     ap (λ (nodes : Children). pieces s nodes (space_of span.scope)) parts.trees
     ∙ pieces-first s (space_of span.scope) (space_of scope) n (forest_in ns 0 (span.next + 1) n.end) (forest_in ns 0 n.end span.end) inner
@@ -143,7 +147,8 @@ goes-first s ns old span n scope new is some at whole h =
     ∙ ap (λ (ps : List Piece). span_pieces s ns below ++ ps) (given-pushed s ns old.left.items after is_after) in
     record {
       given = rw (h.pieces, still, span-first s ns span n scope parts h.scope_is)
-          (four-lists old.pieces (node_pieces s (space_of scope) (as_node n Empty)) (span_pieces s ns below) (span_pieces s ns after) (still_given s ns old.left.items));
+          (four-lists old.pieces (node_pieces s (space_of scope) (as_node n Empty)) (span_pieces s ns below) (span_pieces s ns after)
+          (still_given s ns old.left.items));
       whole = rw h.left (whole-pushed ns (pushed old.left.items after) below (whole-pushed ns old.left.items after whole is_after) is_below);
     }
 
@@ -154,16 +159,20 @@ work-first s ns old span n scope new is some at h =
     let parts : IsFirst ns span.next span.end n = stretch-first ns span.next span.end n is.stretch some at in
     let one = work-pushed ns old.left.items (after_span span n) in
     let two = work-pushed ns (pushed old.left.items (after_span span n)) (below_span span n scope) in
-    let all : work ns new.left.items ≤ work ns old.left.items + span_work ns (after_span span n) + span_work ns (below_span span n scope) = rw h.left (omega (arith, one, two)) in
-    let count : node_count (forest_in ns 0 span.next span.end) ≡ 1 + node_count (forest_in ns 0 (span.next + 1) n.end) + node_count (forest_in ns 0 n.end span.end)
+    let all : work ns new.left.items ≤ work ns old.left.items + span_work ns (after_span span n) + span_work ns (below_span span n scope) =
+    rw h.left (omega (arith, one, two)) in
+    let count : node_count (forest_in ns 0 span.next span.end)
+    ≡ 1 + node_count (forest_in ns 0 (span.next + 1) n.end) + node_count (forest_in ns 0 n.end span.end)
     = ap node_count parts.trees in
     omega (arith, all, count)
 
 -- ---- an empty span
 
-pub goes-empty : (s : ℕ) (ns : List FlatNode) (old : Trace) (span : Span) → IsSpan ns span → span.end ≤ span.next → All (IsSpan ns) old.left.items → GoesOn s ns old span old
+pub goes-empty : (s : ℕ) (ns : List FlatNode) (old : Trace) (span : Span) → IsSpan ns span → span.end ≤ span.next → All (IsSpan ns) old.left.items
+    → GoesOn s ns old span old
 goes-empty s ns old span is low whole =
-    let none : span_pieces s ns span ≡ [] = ap (λ (nodes : Children). pieces s nodes (space_of span.scope)) (stretch-none ns span.next span.end is.stretch low) in
+    let none : span_pieces s ns span ≡ [] = ap (λ (nodes : Children). pieces s nodes (space_of span.scope))
+    (stretch-none ns span.next span.end is.stretch low) in
     record { given = rw none refl; whole = whole }
 
 -- ---- the walk from its beginning to its end

@@ -24,4 +24,5 @@ pub record AreSlots (shown : Shown) (slots : List (Option Kept)) : Type 0 where
 -- There are so many slots, and what is kept in one was kept there before, of a session outside a set.
 pub record AreFitted (changed : SessionSet) (old new : List (Option Kept)) (sessions : ℕ) : Type 0 where
   pub size : length new ≡ sessions
-  pub each : (k : ℕ) → (slice_index_or new k None ≡ None) ⊎ ((slice_index_or changed.has k false ≡ false) × (slice_index_or new k None ≡ slice_index_or old k None))
+  pub each : (k : ℕ) → (slice_index_or new k None ≡ None)
+      ⊎ ((slice_index_or changed.has k false ≡ false) × (slice_index_or new k None ≡ slice_index_or old k None))

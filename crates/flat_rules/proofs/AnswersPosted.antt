@@ -1,5 +1,6 @@
 -- What a watcher answers to a held get is among the events of its listener.
-use Rattle.std.proofs.Common.{◌≡◌, ◌∙◌, ℕ, zero, suc, ◌+◌, ◌≤◌, ◌<◌, Bool, true, false, cond, ◌&&◌, ◌==◌, nat_lt, List, [], ◌∷◌, ◌++◌, length, refl, sym, ap, subst, arith, Option, Some, None, add-one, inl, inr}
+use Rattle.std.proofs.Common.{◌≡◌, ◌∙◌, ℕ, zero, suc, ◌+◌, ◌≤◌, ◌<◌, Bool, true, false, cond, ◌&&◌, ◌==◌, nat_lt, List, [], ◌∷◌, ◌++◌, length, refl, sym, ap}
+use Rattle.std.proofs.Common.{subst, arith, Option, Some, None, add-one, inl, inr}
 use Rattle.std.specs.Prelude.{◌⊎◌, flat_map, option_map, option_and_then, slice_get}
 use Rattle.std.specs.List.{list_all, Contains}
 use Rattle.std.specs.Result.{result_ok}
@@ -74,7 +75,8 @@ abbrev pair_no : ℕ → PairNo
 pair_no n = record { 0 = n }
 
 -- a pair that passes a test is among those that do
-in-where : (test : PairDecl → Bool) (number : ℕ) (pairs : List PairDecl) (i j : ℕ) (pair : PairDecl) → j ≡ number + i → slice_get pairs i ≡ Some pair → test pair ≡ true
+in-where : (test : PairDecl → Bool) (number : ℕ) (pairs : List PairDecl) (i j : ℕ) (pair : PairDecl) → j ≡ number + i → slice_get pairs i ≡ Some pair
+    → test pair ≡ true
     → In (pair_no j) (pairs_where test number pairs)
 in-where test number [] i j pair at found passes = cc
 in-where test number (one ∷ pairs) zero j pair at found passes =
@@ -82,9 +84,11 @@ in-where test number (one ∷ pairs) zero j pair at found passes =
     let here : test one ≡ true = ap test same ∙ passes in
     let place : number ≡ j = omega (arith, at) in
     rw here (inl (ap pair_no place))
-in-where test number (one ∷ pairs) (suc i) j pair at found passes = by_test (in-where test (number + 1) pairs i j pair (omega (arith, at)) found passes) (test one)
+in-where test number (one ∷ pairs) (suc i) j pair at found passes =
+    by_test (in-where test (number + 1) pairs i j pair (omega (arith, at)) found passes) (test one)
   where
-    by_test : In (pair_no j) (pairs_where test (number + 1) pairs) → (b : Bool) → In (pair_no j) (cond b (pair_no number ∷ pairs_where test (number + 1) pairs) (pairs_where test (number + 1) pairs))
+    by_test : In (pair_no j) (pairs_where test (number + 1) pairs) → (b : Bool)
+        → In (pair_no j) (cond b (pair_no number ∷ pairs_where test (number + 1) pairs) (pairs_where test (number + 1) pairs))
     by_test later true = inr later
     by_test later false = later
 
@@ -103,7 +107,8 @@ module _ (setup : Setup) where
   viewport-pair : (p : PairNo) (s : SessionNo) → viewport_owner setup p ≡ Some (Session s) → In p (viewports_of setup s)
   viewport-pair p s is = by_pair (slice_get setup.pairs p.0) refl is
     where
-      by_pair : (o : Option PairDecl) → slice_get setup.pairs p.0 ≡ o → option_map (λ (pair : PairDecl). pair.viewport) o ≡ Some (Session s) → In p (viewports_of setup s)
+      by_pair : (o : Option PairDecl) → slice_get setup.pairs p.0 ≡ o → option_map (λ (pair : PairDecl). pair.viewport) o ≡ Some (Session s)
+          → In p (viewports_of setup s)
       by_pair None at h = cc
       by_pair (Some pair) at h =
           let same : pair.viewport ≡ Session s = cc in
@@ -152,7 +157,8 @@ module _ (setup : Setup) where
       by_serial m None found = cc
       by_serial m (Some serial) found = at-serial (made_passes (was_used before)) d.contents serial m all found
 
-  use-of-entry : (p : PairNo) (n : ℕ) (before : List Entry) (e : Entry) → Legal setup (before ▹ e) → (get : Watch) → e.kind ≡ Get get → (actor : Actor) → e.actor ≡ actor
+  use-of-entry : (p : PairNo) (n : ℕ) (before : List Entry) (e : Entry) → Legal setup (before ▹ e) → (get : Watch) → e.kind ≡ Get get → (actor : Actor)
+      → e.actor ≡ actor
       → watcher_of setup before actor e.calls get ≡ Some (child_of p n) → IsUse p n before
   use-of-entry p n before e legal get kind Display by is = cc
   use-of-entry p n before e legal get kind (Probe q) by is = cc
@@ -172,10 +178,12 @@ module _ (setup : Setup) where
           all-append (call_passes (was_used before)) (calls s before) e.calls (calls-used setup s before legal.0 opened)
           (no-links (was_used before) e.calls (not-true _ may.links))
 
-      by_draft : (o : Option Draft) → result_ok (draft_of setup (calls s before ++ e.calls)) ≡ o → option_and_then (λ d. watcher_in setup before d get) o ≡ Some (child_of p n) → IsUse p n before
+      by_draft : (o : Option Draft) → result_ok (draft_of setup (calls s before ++ e.calls)) ≡ o
+          → option_and_then (λ d. watcher_in setup before d get) o ≡ Some (child_of p n) → IsUse p n before
       by_draft None made h = cc
       by_draft (Some d) made h =
-          use-of-get p n before d (draft-passes (was_used before) setup (calls s before ++ e.calls) all_calls d (ok-is setup (draft_of setup (calls s before ++ e.calls)) d made)) get h
+          use-of-get p n before d (draft-passes (was_used before) setup (calls s before ++ e.calls) all_calls d
+          (ok-is setup (draft_of setup (calls s before ++ e.calls)) d made)) get h
 
   settled-waits : (listens : Bool) (now : Option Told) (w : Watching) (get : Watch) → (settled listens now w).waits ≡ Some get → w.waits ≡ Some get
   settled-waits false now w get is = is
@@ -185,14 +193,17 @@ module _ (setup : Setup) where
       by_answer None h = h
       by_answer (Some value) h = absurd (let wrong : None ≡ Some get = h in cc)
 
-  pub held-use : (p : PairNo) (n : ℕ) (history : List Entry) → Legal setup history → (get : Watch) → (watching setup (child_of p n) history).waits ≡ Some get → IsUse p n history
+  pub held-use : (p : PairNo) (n : ℕ) (history : List Entry) → Legal setup history → (get : Watch) → (watching setup (child_of p n) history).waits ≡ Some get
+      → IsUse p n history
   held-use p n [] legal get is = cc
   held-use p n (before ▹ e) legal get is =
       use-more p n before e
       (by_waits (λ held h. held-use p n before legal.0 held h) (watching setup (child_of p n) before).waits refl
-      (settled-waits (is_open setup (listener setup (child_of p n)) (before ▹ e)) (told setup (before ▹ e) (child_of p n)) (asking (asked setup (child_of p n) before e) (watching setup (child_of p n) before)) get is))
+      (settled-waits (is_open setup (listener setup (child_of p n)) (before ▹ e)) (told setup (before ▹ e) (child_of p n))
+      (asking (asked setup (child_of p n) before e) (watching setup (child_of p n) before)) get is))
     where
-      by_waits : ((held : Watch) → (watching setup (child_of p n) before).waits ≡ Some held → IsUse p n before) → (o : Option Watch) → (watching setup (child_of p n) before).waits ≡ o
+      by_waits : ((held : Watch) → (watching setup (child_of p n) before).waits ≡ Some held → IsUse p n before) → (o : Option Watch)
+          → (watching setup (child_of p n) before).waits ≡ o
           → option_or o (asked setup (child_of p n) before e) ≡ Some get → IsUse p n before
       by_waits earlier (Some held) waits h = earlier held waits
       by_waits earlier None waits h =
@@ -227,7 +238,8 @@ module _ (setup : Setup) where
   statuses before e s = flat_map (λ p. told_event setup p (status_of p) before e) (views_of setup s)
 
   abbrev children : List Entry → Entry → SessionNo → List Event
-  children before e s = flat_map (λ p. flat_map (λ n. told_event setup p (child_of p n) before e) (up_to (length (viewport_uses p before)))) (viewports_of setup s)
+  children before e s = flat_map (λ p. flat_map (λ n. told_event setup p (child_of p n) before e) (up_to (length (viewport_uses p before))))
+      (viewports_of setup s)
 
   abbrev ended : List Entry → Entry → SessionNo → List Event
   ended before e s = cond (is_finish e.kind) (at_finish setup before s) []
@@ -235,18 +247,25 @@ module _ (setup : Setup) where
   abbrev begun : List Entry → Entry → SessionNo → List Event
   begun before e s = cond (is_begin e.kind) (at_begin setup before e s) []
 
-  news-has : (before : List Entry) (e : Entry) → Legal setup before → (watcher : Watcher) (s : SessionNo) → listener setup watcher ≡ Some (Session s) → (y : Event)
+  news-has : (before : List Entry) (e : Entry) → Legal setup before → (watcher : Watcher) (s : SessionNo) → listener setup watcher ≡ Some (Session s)
+      → (y : Event)
       → told_event setup (pair_watched watcher) watcher before e ≡ y ∷ [] → In y (news_for setup before e s)
   news-has before e legal (layout_of p) s hears y is =
-      in-first y (layouts before e s) (statuses before e s) (children before e s) (ended before e s) (begun before e s) (in-flat (λ q. told_event setup q (layout_of q) before e) p y (alone y _ is) (views_of setup s) (view-pair p s (session-of (view_owner setup p) s hears)))
+      in-first y (layouts before e s) (statuses before e s) (children before e s) (ended before e s) (begun before e s)
+      (in-flat (λ q. told_event setup q (layout_of q) before e) p y (alone y _ is) (views_of setup s)
+      (view-pair p s (session-of (view_owner setup p) s hears)))
   news-has before e legal (status_of p) s hears y is =
-      in-second y (layouts before e s) (statuses before e s) (children before e s) (ended before e s) (begun before e s) (in-flat (λ q. told_event setup q (status_of q) before e) p y (alone y _ is) (views_of setup s) (view-pair p s (session-of (view_owner setup p) s hears)))
+      in-second y (layouts before e s) (statuses before e s) (children before e s) (ended before e s) (begun before e s)
+      (in-flat (λ q. told_event setup q (status_of q) before e) p y (alone y _ is) (views_of setup s)
+      (view-pair p s (session-of (view_owner setup p) s hears)))
   news-has before e legal (child_of p n) s hears y is =
-      let held = answers-held p (watching setup (child_of p n) before).waits (answer (told setup (before ▹ e) (child_of p n)) (watching setup (child_of p n) before)) y is in
+      let held = answers-held p (watching setup (child_of p n) before).waits
+      (answer (told setup (before ▹ e) (child_of p n)) (watching setup (child_of p n) before)) y is in
       let is_use : IsUse p n before = held-use p n before legal held.0 held.1 in
       in-third y (layouts before e s) (statuses before e s) (children before e s) (ended before e s) (begun before e s)
       (in-flat (λ q. flat_map (λ k. told_event setup q (child_of q k) before e) (up_to (length (viewport_uses q before)))) p y
-      (in-flat (λ k. told_event setup p (child_of p k) before e) n y (alone y _ is) (up_to (length (viewport_uses p before))) (in-up-to n (length (viewport_uses p before)) is_use.0 is_use.1))
+      (in-flat (λ k. told_event setup p (child_of p k) before e) n y (alone y _ is) (up_to (length (viewport_uses p before)))
+      (in-up-to n (length (viewport_uses p before)) is_use.0 is_use.1))
       (viewports_of setup s) (viewport-pair p s hears))
 
 pub answers-are-posted : AnswersArePosted

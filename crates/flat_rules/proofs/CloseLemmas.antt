@@ -17,7 +17,8 @@ use Rattle.flat_rules.proofs.lemmas.Quiet.{closed-quiet}
 pub refusal-closes : RefusalCloses
 refusal-closes before entry refused = record { itself = λ s mine. rw (mine, refused) refl; others = λ s other. closes-own s before entry other }
 
-pub close-refused : (setup : Setup) (before : List Entry) (actor : Actor) (carries : List Call) (kind : Kind) → is_close kind ≡ true → closes (reply_to setup before actor carries kind) ≡ true
+pub close-refused : (setup : Setup) (before : List Entry) (actor : Actor) (carries : List Call) (kind : Kind) → is_close kind ≡ true
+    → closes (reply_to setup before actor carries kind) ≡ true
 close-refused setup before actor carries (Close None) is = refl
 close-refused setup before actor carries (Close (Some reason)) is = refl
 close-refused setup before actor carries _ is = absurd (let h : false ≡ true = is in cc)

@@ -1,5 +1,6 @@
 -- Credits and waiting presents.
-use Rattle.std.proofs.Common.{◌≡◌, subst, ℕ, ◌+◌, ◌-◌, ◌<◌, ◌≤◌, Bool, true, false, cond, List, [], ◌++◌, length, drop, refl, ap, arith, inl, inr, ◌⊎◌, length-append}
+use Rattle.std.proofs.Common.{◌≡◌, subst, ℕ, ◌+◌, ◌-◌, ◌<◌, ◌≤◌, Bool, true, false, cond, List, [], ◌++◌, length, drop, refl, ap, arith, inl, inr, ◌⊎◌}
+use Rattle.std.proofs.Common.{length-append}
 use Rattle.std.specs.Prelude.{◌==◌, nat_lt}
 use Rattle.std.proofs.lemmas.Grind.{common_steps}
 use Rattle.std.proofs.lemmas.List.{length-drop}
@@ -78,16 +79,31 @@ changes setup before e legal s = by_owner (is_session s e.actor) refl
             ⊎ ((length (published e.kind e.reply (calls s before ++ e.calls)) ≡ 1) × (0 < credits setup before s))
             → Changes (length (presents s before)) (length (presents s (before ▹ e))) (taken setup before s) (taken setup (before ▹ e) s)
         by_kind (inl none) =
-            inl (omega (arith, ap length (presents-own s before e mine), length-append (presents s before) (published e.kind e.reply (calls s before ++ e.calls)), none), omega arith)
+            inl (
+              omega (
+                arith,
+                ap length (presents-own s before e mine),
+                length-append (presents s before) (published e.kind e.reply (calls s before ++ e.calls)),
+                none,
+              ),
+              omega arith,
+            )
         by_kind (inr (one, credit)) =
-            let still = takes-nothing e.kind e.reply (calls s before ++ e.calls) (is_signalled setup before) (is_closed s before) (drop (taken setup before s) (presents s before)) one in
+            let still = takes-nothing e.kind e.reply (calls s before ++ e.calls) (is_signalled setup before) (is_closed s before)
+            (drop (taken setup before s) (presents s before)) one in
             inr (
-              omega (arith, ap length (presents-own s before e mine), length-append (presents s before) (published e.kind e.reply (calls s before ++ e.calls)), one),
+              omega (
+                arith,
+                ap length (presents-own s before e mine),
+                length-append (presents s before) (published e.kind e.reply (calls s before ++ e.calls)),
+                one,
+              ),
               omega (arith, still),
               omega (arith, credit, length-drop (taken setup before s) (presents s before)),
             )
 
-few-wait : (setup : Setup) (s : SessionNo) (history : List Entry) → Legal setup history → length (presents s history) - taken setup history s ≤ most (taken setup history s)
+few-wait : (setup : Setup) (s : SessionNo) (history : List Entry) → Legal setup history
+    → length (presents s history) - taken setup history s ≤ most (taken setup history s)
 few-wait setup s [] legal = omega arith
 few-wait setup s (before ▹ e) legal =
     adds-up (length (presents s before)) (length (presents s (before ▹ e))) (taken setup before s) (taken setup (before ▹ e) s)

@@ -25,20 +25,23 @@ rest-of : (x y : Entry) (xs ys : List Entry) → x ∷ xs ≡ y ∷ ys → xs �
 rest-of x y xs ys same = cc
 
 module _ (setup : Setup) where
-  reply-same : (before before' : List Entry) (e e' : Entry) → lined before ≡ lined before' → but_reply e ≡ but_reply e' → LegalEntry setup before e → LegalEntry setup before' e' → e.reply ≡ e'.reply
+  reply-same : (before before' : List Entry) (e e' : Entry) → lined before ≡ lined before' → but_reply e ≡ but_reply e' → LegalEntry setup before e
+      → LegalEntry setup before' e' → e.reply ≡ e'.reply
   reply-same before before' e e' earlier same legal legal' =
       let asked : reply_to setup (lined before) e.actor e.calls e.kind ≡ reply_to setup (lined before') e'.actor e'.calls e'.kind =
       λ i. reply_to setup (earlier i) (same i).actor (same i).calls (same i).kind in
       legal.reply ∙ sym (reply-lined setup before e.actor e.calls e.kind) ∙ asked ∙ reply-lined setup before' e'.actor e'.calls e'.kind ∙ sym legal'.reply
 
   -- two such histories are equal but for lines
-  pub alike-but-lines : (history history' : List Entry) → Legal setup history → Legal setup history' → map but_reply history ≡ map but_reply history' → lined history ≡ lined history'
+  pub alike-but-lines : (history history' : List Entry) → Legal setup history → Legal setup history' → map but_reply history ≡ map but_reply history'
+      → lined history ≡ lined history'
   alike-but-lines [] [] legal legal' same = refl
   alike-but-lines [] (before' ▹ e') legal legal' same = cc
   alike-but-lines (before ▹ e) [] legal legal' same = cc
   alike-but-lines (before ▹ e) (before' ▹ e') legal legal' same =
       let one : but_reply e ≡ but_reply e' = first-of (but_reply e) (but_reply e') (map but_reply before) (map but_reply before') same in
-      let earlier : lined before ≡ lined before' = alike-but-lines before before' legal.0 legal'.0 (rest-of (but_reply e) (but_reply e') (map but_reply before) (map but_reply before') same) in
+      let earlier : lined before ≡ lined before' = alike-but-lines before before' legal.0 legal'.0
+      (rest-of (but_reply e) (but_reply e') (map but_reply before) (map but_reply before') same) in
       let this : but_line e ≡ but_line e' = shared-parts e e' one (reply-same before before' e e' earlier one legal.1 legal'.1) in
       λ i. this i ∷ earlier i
 

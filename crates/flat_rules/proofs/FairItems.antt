@@ -1,5 +1,6 @@
 -- What is drawn of fair trees can be drawn.
-use Rattle.std.proofs.Common.{◌≡◌, ℕ, zero, suc, ◌+◌, ◌*◌, ◌≤◌, Bool, true, false, ◌&&◌, ◌||◌, ◌==◌, not, List, [], ◌∷◌, ◌++◌, length, refl, subst, arith, Option, Some, None}
+use Rattle.std.proofs.Common.{◌≡◌, ℕ, zero, suc, ◌+◌, ◌*◌, ◌≤◌, Bool, true, false, ◌&&◌, ◌||◌, ◌==◌, not, List, [], ◌∷◌, ◌++◌, length, refl, subst, arith}
+use Rattle.std.proofs.Common.{Option, Some, None}
 use Rattle.std.specs.Prelude.{ℤ, pos, negsuc, ◌≤ℤ◌, int_lt, if◌then◌else◌}
 use Rattle.std.specs.Int.{is_negative}
 use Rattle.std.specs.List.{list_all, All}
@@ -66,7 +67,8 @@ module _ (led : ℕ → JoinedTree) (each : (q : ℕ) (outer : Space) → is_dim
   fair-linked here (Some (content.Image serial buffers index sample w h blend flip opacity)) dim = refl
   fair-linked here (Some (content.Viewport serial pair props)) dim = each pair.0 (linked_space here (Some (content.Viewport serial pair props))) dim
 
-  fair-nodes : (s : ℕ) (outer : Space) (nodes : Children) → is_dim outer.opacity ≡ true → are_fair nodes ≡ true → are_placed (placed_in outer (joined_nodes led s nodes))
+  fair-nodes : (s : ℕ) (outer : Space) (nodes : Children) → is_dim outer.opacity ≡ true → are_fair nodes ≡ true
+      → are_placed (placed_in outer (joined_nodes led s nodes))
   fair-nodes s outer Empty dim fair = refl
   fair-nodes s outer (first serial scale turn place clip opacity hits what children rest) dim fair =
       let n : Node = record {
@@ -80,7 +82,8 @@ module _ (led : ℕ → JoinedTree) (each : (q : ℕ) (outer : Space) → is_dim
         content = what;
         children = children;
       } in
-      let here : (is_dim opacity && is_fair_content what) ≡ true = and-left (is_dim opacity && is_fair_content what) (are_fair children && are_fair rest) fair in
+      let here : (is_dim opacity && is_fair_content what) ≡ true =
+      and-left (is_dim opacity && is_fair_content what) (are_fair children && are_fair rest) fair in
       let others : (are_fair children && are_fair rest) ≡ true = and-right (is_dim opacity && is_fair_content what) (are_fair children && are_fair rest) fair in
       let inner : Space = node_space outer n in
       let inner_dim : is_dim inner.opacity ≡ true = seen-dim outer.opacity opacity dim (and-left (is_dim opacity) (is_fair_content what) here) in
@@ -89,7 +92,8 @@ module _ (led : ℕ → JoinedTree) (each : (q : ℕ) (outer : Space) → is_dim
       let after : List Placed = placed_in outer (joined_nodes led s rest) in
       and_from _ _ (and_from _ _ inner_dim (and-right (is_dim opacity) (is_fair_content what) here))
       (all-append is_fair_at linked (below ++ after) (fair-linked inner what inner_dim)
-      (all-append is_fair_at below after (fair-nodes s inner children inner_dim (and-left (are_fair children) (are_fair rest) others)) (fair-nodes s outer rest dim (and-right (are_fair children) (are_fair rest) others))))
+      (all-append is_fair_at below after (fair-nodes s inner children inner_dim (and-left (are_fair children) (are_fair rest) others))
+      (fair-nodes s outer rest dim (and-right (are_fair children) (are_fair rest) others))))
 
 abbrev are_states : Shown → Bool
 are_states shown = list_all (λ state. are_fair (nodes_of state)) shown
@@ -111,7 +115,8 @@ module _ (shown : Shown) (fair : are_states shown ≡ true) where
       → ((q : ℕ) (outer : Space) → is_dim outer.opacity ≡ true → are_placed (placed_in outer (led_to shown views q)))
       → (outer : Space) → is_dim outer.opacity ≡ true → are_placed (placed_in outer (viewed (led_to shown views) found))
   fair-viewed views p None e each outer dim = refl
-  fair-viewed views p (Some viewer) e each outer dim = fair-nodes (led_to shown views) each viewer.session outer viewer.nodes dim (viewer-fair 1 shown p viewer fair e)
+  fair-viewed views p (Some viewer) e each outer dim =
+      fair-nodes (led_to shown views) each viewer.session outer viewer.nodes dim (viewer-fair 1 shown p viewer fair e)
 
   fair-led : (views p : ℕ) (outer : Space) → is_dim outer.opacity ≡ true → are_placed (placed_in outer (led_to shown views p))
   fair-led zero p outer dim = refl
@@ -187,13 +192,18 @@ draws at (Some p) paintable = by_test (has_no_point (visible_rect at p.w p.h) ||
       blend = p.blend;
     }))
     by_test true = tt
-    by_test false = record { visible = shared-within (mapped_rect at.matrix (sized_rect p.w p.h)) at.clip; opacity = paintable.opacity; sample = paintable.sample }
+    by_test false = record {
+      visible = shared-within (mapped_rect at.matrix (sized_rect p.w p.h)) at.clip;
+      opacity = paintable.opacity;
+      sample = paintable.sample;
+    }
 
 items-drawable : (placed : List Placed) → are_placed placed → All IsDrawable (items_of placed)
 items-drawable [] fair = All-nil IsDrawable
 items-drawable (at ∷ placed) fair =
     by_item (items-drawable placed (and-right (is_fair_at at) (list_all is_fair_at placed) fair)) (node_item at) refl
-    (draws at (painting_of at.opacity at.content) (paints at.opacity at.content (and-left (is_dim at.opacity) (is_fair_content at.content) here) (and-right (is_dim at.opacity) (is_fair_content at.content) here)))
+    (draws at (painting_of at.opacity at.content) (paints at.opacity at.content (and-left (is_dim at.opacity) (is_fair_content at.content) here)
+    (and-right (is_dim at.opacity) (is_fair_content at.content) here)))
   where
     here : is_fair_at at ≡ true
     here = and-left (is_fair_at at) (list_all is_fair_at placed) fair
@@ -203,4 +213,5 @@ items-drawable (at ∷ placed) fair =
     by_item rest (Some item) is may = rw is (All-cons IsDrawable item (items_of placed) may rest)
 
 pub items-are-drawable : ItemsAreDrawable
-items-are-drawable setup history = items-drawable (placed_nodes (setup_at setup history) (shown_states setup history)) (fair-placed (shown_states setup history) (states-fair setup history) (setup_at setup history))
+items-are-drawable setup history = items-drawable (placed_nodes (setup_at setup history) (shown_states setup history))
+    (fair-placed (shown_states setup history) (states-fair setup history) (setup_at setup history))

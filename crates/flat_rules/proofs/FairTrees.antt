@@ -49,12 +49,14 @@ shown-fair serial (a_viewport pair props) fair = refl
 more-fair : (n : Node) (rest : Children) → is_fair_node n ≡ true → are_fair rest ≡ true → are_fair (more n rest) ≡ true
 more-fair n rest here after = grind arith
 
-each-fair : (f : ℕ → Option Node) → ((k : ℕ) (n : Node) → f k ≡ Some n → is_fair_node n ≡ true) → (ks : List ℕ) (all : Children) → each f ks ≡ Some all → are_fair all ≡ true
+each-fair : (f : ℕ → Option Node) → ((k : ℕ) (n : Node) → f k ≡ Some n → is_fair_node n ≡ true) → (ks : List ℕ) (all : Children) → each f ks ≡ Some all
+    → are_fair all ≡ true
 each-fair f fair [] all is = let empty : Empty ≡ all = cc in subst (λ (c : Children). are_fair c ≡ true) empty refl
 each-fair f fair (k ∷ ks) all is = one-more (fair k) (λ rest e. each-fair f fair ks rest e) (f k) refl (each f ks) refl is
   where
     one-more : ((n : Node) → f k ≡ Some n → is_fair_node n ≡ true) → ((rest : Children) → each f ks ≡ Some rest → are_fair rest ≡ true)
-        → (n : Option Node) → f k ≡ n → (rest : Option Children) → each f ks ≡ rest → option_and_then (λ m. option_map (more m) rest) n ≡ Some all → are_fair all ≡ true
+        → (n : Option Node) → f k ≡ n → (rest : Option Children) → each f ks ≡ rest → option_and_then (λ m. option_map (more m) rest) n ≡ Some all
+        → are_fair all ≡ true
     one-more here later None e rest e2 h = cc
     one-more here later (Some n) e None e2 h = cc
     one-more here later (Some n) e (Some rest) e2 h =
@@ -73,13 +75,15 @@ module _ (draft : Draft) (fair : IsFair draft) where
       by_made None is = refl
       by_made (Some m) is = shown-fair serial m (at-serial is_fair_made draft.contents serial m fair.contents is)
 
-  node-fair : (is_root : Bool) (k : ℕ) (t : Transform) (all : Children) → is_fair_transform t ≡ true → are_fair all ≡ true → is_fair_node (node draft is_root k t all) ≡ true
+  node-fair : (is_root : Bool) (k : ℕ) (t : Transform) (all : Children) → is_fair_transform t ≡ true → are_fair all ≡ true
+      → is_fair_node (node draft is_root k t all) ≡ true
   node-fair is_root k t all dim below = let held : is_fair_content (content_held draft t.content) ≡ true = held-fair t.content in rw (dim, held, below) refl
 
   within-fair : (levels : ℕ) (is_root : Bool) (k : ℕ) (n : Node) → node_within levels draft is_root k ≡ Some n → is_fair_node n ≡ true
   within-fair zero is_root k n is = cc
   within-fair (suc levels) is_root k n is =
-      of_transform (λ ks all e. each-fair (node_within levels draft false) (λ k' n' e'. within-fair levels false k' n' e') ks all e) (of_serial draft.transforms k) refl is
+      of_transform (λ ks all e. each-fair (node_within levels draft false) (λ k' n' e'. within-fair levels false k' n' e') ks all e)
+      (of_serial draft.transforms k) refl is
     where
       of_children : (t : Transform) → is_fair_transform t ≡ true → (all : Option Children) → ((c : Children) → all ≡ Some c → are_fair c ≡ true)
           → option_map (node draft is_root k t) all ≡ Some n → is_fair_node n ≡ true
@@ -89,9 +93,11 @@ module _ (draft : Draft) (fair : IsFair draft) where
           subst (λ (m : Node). is_fair_node m ≡ true) same (node-fair is_root k t all dim (below all refl))
 
       of_transform : ((ks : List ℕ) (all : Children) → each (node_within levels draft false) ks ≡ Some all → are_fair all ≡ true)
-          → (t : Option Transform) → of_serial draft.transforms k ≡ t → option_and_then (λ t. option_map (node draft is_root k t) (each (node_within levels draft false) t.children)) t ≡ Some n → is_fair_node n ≡ true
+          → (t : Option Transform) → of_serial draft.transforms k ≡ t
+          → option_and_then (λ t. option_map (node draft is_root k t) (each (node_within levels draft false) t.children)) t ≡ Some n → is_fair_node n ≡ true
       of_transform below None e h = cc
-      of_transform below (Some t) e h = of_children t (at-serial is_fair_transform draft.transforms k t fair.transforms e) (each (node_within levels draft false) t.children) (below t.children) h
+      of_transform below (Some t) e h = of_children t (at-serial is_fair_transform draft.transforms k t fair.transforms e)
+          (each (node_within levels draft false) t.children) (below t.children) h
 
   all-fair : (all : Children) → all_nodes draft ≡ Some all → are_fair all ≡ true
   all-fair = each-fair (node_within PATH_NODES_MAX draft true) (λ k n e. within-fair PATH_NODES_MAX true k n e) _

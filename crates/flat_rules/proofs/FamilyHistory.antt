@@ -16,7 +16,8 @@ use Rattle.flat_scene.specs.Draft.{Draft}
 use Rattle.flat_scene.specs.Family.{only, is_kept, keeps}
 use Rattle.flat_scene.specs.Laws.{IsClosedFamily}
 use Rattle.flat_scene.specs.History.{◌▹◌}
-use Rattle.flat_rules.specs.Legal.{Legal, LegalEntry, MayEnter, owns_in_kind, value_of, reply_to, reply_to_get, reply_to_present, session_may, may_act, goes_on, keeps_time, has_draft, draft_with, has_tree, has_watcher}
+use Rattle.flat_rules.specs.Legal.{Legal, LegalEntry, MayEnter, owns_in_kind, value_of, reply_to, reply_to_get, reply_to_present, session_may, may_act, goes_on}
+use Rattle.flat_rules.specs.Legal.{keeps_time, has_draft, draft_with, has_tree, has_watcher}
 use Rattle.flat_rules.specs.Local.{pair_watched}
 use Rattle.flat_rules.specs.Watch.{Watcher, watcher_of}
 use Rattle.flat_rules.proofs.FramesLocal.{took-only, credits-only, signalled-only}
@@ -34,7 +35,8 @@ module _ (setup : Setup) (of_family : SessionNo → Bool) (closed : IsClosedFami
 
     -- ---- replies
 
-    present-same : (actor : Actor) (args : _) → keeps of_family (Present args) actor ≡ true → reply_to_present setup (only of_family before) actor ≡ reply_to_present setup before actor
+    present-same : (actor : Actor) (args : _) → keeps of_family (Present args) actor ≡ true
+        → reply_to_present setup (only of_family before) actor ≡ reply_to_present setup before actor
     present-same (Session s) args kept = rw (own-only setup of_family s kept before, took-only setup of_family closed before legal.0 s kept) refl
     present-same Display args kept = refl
     present-same (Probe p) args kept = refl
@@ -42,10 +44,14 @@ module _ (setup : Setup) (of_family : SessionNo → Bool) (closed : IsClosedFami
     get-same-by : (watcher : Option Watcher) → ((w : Watcher) → watcher ≡ Some w → IsFamilyPair setup of_family closed (pair_watched w))
         → reply_to_get setup (only of_family before) watcher ≡ reply_to_get setup before watcher
     get-same-by None pair = refl
-    get-same-by (Some w) pair = rw (watching-only setup of_family closed w (pair w refl) before legal.0, told-only setup of_family closed w (pair w refl) before legal.0) refl
+    get-same-by (Some w) pair = rw (
+      watching-only setup of_family closed w (pair w refl) before legal.0,
+      told-only setup of_family closed w (pair w refl) before legal.0,
+    ) refl
 
     get-same : (get : Watch) → is_kept of_family e ≡ true
-        → reply_to_get setup (only of_family before) (watcher_of setup (only of_family before) e.actor e.calls get) ≡ reply_to_get setup before (watcher_of setup before e.actor e.calls get)
+        → reply_to_get setup (only of_family before) (watcher_of setup (only of_family before) e.actor e.calls get)
+        ≡ reply_to_get setup before (watcher_of setup before e.actor e.calls get)
     get-same get kept =
         rw (asked-kept-by setup of_family closed before e legal e.actor refl kept get)
         (get-same-by (watcher_of setup before e.actor e.calls get) (λ w is. watcher-pair setup of_family closed before e legal e.actor refl get kept w is))
@@ -59,14 +65,18 @@ module _ (setup : Setup) (of_family : SessionNo → Bool) (closed : IsClosedFami
     value-same s mine (asks.Fence f) may owns = rw (signalled-only setup of_family closed before legal.0 s f mine owns) refl
     value-same s mine (asks.Presents t n) may owns = absurd (let h : false ≡ true = may in cc)
 
-    reply-by : is_kept of_family e ≡ true → (actor : Actor) → e.actor ≡ actor → (kind : Kind) → e.kind ≡ kind → may_act setup kind actor ≡ true → keeps of_family kind actor ≡ true
+    reply-by : is_kept of_family e ≡ true → (actor : Actor) → e.actor ≡ actor → (kind : Kind) → e.kind ≡ kind → may_act setup kind actor ≡ true
+        → keeps of_family kind actor ≡ true
         → reply_to setup (only of_family before) actor e.calls kind ≡ reply_to setup before actor e.calls kind
     reply-by whole actor by (Present args) is may kept = present-same actor args kept
     reply-by whole actor by (Get get) is may kept =
-        subst (λ (a : Actor). reply_to_get setup (only of_family before) (watcher_of setup (only of_family before) a e.calls get) ≡ reply_to_get setup before (watcher_of setup before a e.calls get)) by
+        subst (λ (a : Actor). reply_to_get setup (only of_family before) (watcher_of setup (only of_family before) a e.calls get)
+        ≡ reply_to_get setup before (watcher_of setup before a e.calls get)) by
         (get-same get whole)
-    reply-by whole (Session s) by (View p) is may kept = rw (views-only setup of_family closed p (pair-of-view setup of_family closed p s kept (owns-here s by (View p) is)) before legal.0) refl
-    reply-by whole (Session s) by (Viewport p props) is may kept = rw (token-only setup of_family closed p (pair-of-viewport setup of_family closed p s kept (owns-here s by (Viewport p props) is)) before legal.0) refl
+    reply-by whole (Session s) by (View p) is may kept =
+        rw (views-only setup of_family closed p (pair-of-view setup of_family closed p s kept (owns-here s by (View p) is)) before legal.0) refl
+    reply-by whole (Session s) by (Viewport p props) is may kept =
+        rw (token-only setup of_family closed p (pair-of-viewport setup of_family closed p s kept (owns-here s by (Viewport p props) is)) before legal.0) refl
     reply-by whole (Session s) by Poll is may kept = rw (unread-only setup of_family closed s kept before legal.0) refl
     reply-by whole (Session s) by (Wait c) is may kept = rw (value-same s kept c (grind arith) (owns-here s by (Wait c) is)) refl
     reply-by whole Display by (View p) is may kept = absurd (let h : false ≡ true = kept in cc)
@@ -101,18 +111,21 @@ module _ (setup : Setup) (of_family : SessionNo → Bool) (closed : IsClosedFami
     times-same Finish = frame-open-only setup of_family closed before legal.0
     times-same _ = refl
 
-    draft-same : (kind : Kind) (actor : Actor) (carries : List Call) → keeps of_family kind actor ≡ true → draft_with setup (only of_family before) actor carries ≡ draft_with setup before actor carries
+    draft-same : (kind : Kind) (actor : Actor) (carries : List Call) → keeps of_family kind actor ≡ true
+        → draft_with setup (only of_family before) actor carries ≡ draft_with setup before actor carries
     draft-same kind (Session s) carries kept = rw (own-only setup of_family s kept before) refl
     draft-same kind Display carries kept = refl
     draft-same kind (Probe p) carries kept = refl
 
-    drafted-same : (kind : Kind) (actor : Actor) (carries : List Call) → keeps of_family kind actor ≡ true → has_draft setup (only of_family before) actor carries kind ≡ has_draft setup before actor carries kind
+    drafted-same : (kind : Kind) (actor : Actor) (carries : List Call) → keeps of_family kind actor ≡ true
+        → has_draft setup (only of_family before) actor carries kind ≡ has_draft setup before actor carries kind
     drafted-same (Close reason) (Session s) carries kept = rw (own-only setup of_family s kept before) refl
     drafted-same _ (Session s) carries kept = rw (own-only setup of_family s kept before) refl
     drafted-same kind Display carries kept = refl
     drafted-same kind (Probe p) carries kept = refl
 
-    watcher-same : (kind : Kind) → is_kept of_family e ≡ true → has_watcher setup (only of_family before) e.actor e.calls kind ≡ has_watcher setup before e.actor e.calls kind
+    watcher-same : (kind : Kind) → is_kept of_family e ≡ true
+        → has_watcher setup (only of_family before) e.actor e.calls kind ≡ has_watcher setup before e.actor e.calls kind
     watcher-same (Get get) kept = rw (asked-kept-by setup of_family closed before e legal e.actor refl kept get) refl
     watcher-same _ kept = refl
 
@@ -140,6 +153,7 @@ module _ (setup : Setup) (of_family : SessionNo → Bool) (closed : IsClosedFami
   legal-only [] legal = tt
   legal-only (before ▹ e) legal = by_side (legal-only before legal.0) (is_kept of_family e) refl
     where
-      by_side : Legal setup (only of_family before) → (k : Bool) → is_kept of_family e ≡ k → Legal setup (cond k (only of_family before ▹ e) (only of_family before))
+      by_side : Legal setup (only of_family before) → (k : Bool) → is_kept of_family e ≡ k
+          → Legal setup (cond k (only of_family before ▹ e) (only of_family before))
       by_side earlier true kept = (earlier, entry-only before e legal kept)
       by_side earlier false out = earlier

@@ -28,11 +28,13 @@ module _ (setup : Setup) (of_family : SessionNo → Bool) (closed : IsClosedFami
   moments-quiet [] legal = refl
   moments-quiet (before ▹ e) legal = by_side (moments-quiet before legal.0) (is_kept of_family e) refl
     where
-      by_side : list_all (is_quiet of_family) (moments setup t before) ≡ true → (k : Bool) → is_kept of_family e ≡ k → list_all (is_quiet of_family) (moments setup t (before ▹ e)) ≡ true
+      by_side : list_all (is_quiet of_family) (moments setup t before) ≡ true → (k : Bool) → is_kept of_family e ≡ k
+          → list_all (is_quiet of_family) (moments setup t (before ▹ e)) ≡ true
       by_side earlier true kept = rw (kept, earlier) refl
       by_side earlier false out = rw (out, events-dropped setup of_family closed before e legal out t mine, earlier) refl
 
-pub closed-family-law : (setup : Setup) (of_family : SessionNo → Bool) → IsClosedFamily setup of_family → (history : List Entry) → Legal setup history → IsFamilyLaw setup of_family history
+pub closed-family-law : (setup : Setup) (of_family : SessionNo → Bool) → IsClosedFamily setup of_family → (history : List Entry) → Legal setup history
+    → IsFamilyLaw setup of_family history
 closed-family-law setup of_family closed history legal = record {
   legal = legal-only setup of_family closed history legal;
   events = λ t mine. moments-only setup of_family closed t mine history legal;

@@ -31,12 +31,14 @@ none-asked (Some get) none = absurd (let h : true ≡ false = none in cc)
 abbrev standing : Option Told → Watch → Option Told → Watching
 standing last get first = answered_by first (record { last = last; waits = Some get })
 
-step : (last : Option Told) (get : Watch) (first now : Option Told) → settled true now (standing last get first) ≡ standing last get (option_or first (news now last))
+step : (last : Option Told) (get : Watch) (first now : Option Told)
+    → settled true now (standing last get first) ≡ standing last get (option_or first (news now last))
 step last get (Some value) now = refl
 step last get None now = refl
 
 event-step : (p : PairNo) (last : Option Told) (get : Watch) (first now : Option Told)
-    → event_of p (standing last get first).waits (answer now (standing last get first)) ≡ event_of p (Some get) (cond (is_some first) None (option_or first (news now last)))
+    → event_of p (standing last get first).waits (answer now (standing last get first))
+    ≡ event_of p (Some get) (cond (is_some first) None (option_or first (news now last)))
 event-step p last get (Some value) now = refl
 event-step p last get None now = refl
 
@@ -60,7 +62,8 @@ module _ (setup : Setup) where
   meant-by watcher None is = absurd (let h : false ≡ true = is in cc)
   meant-by watcher (Some u) is = let same : watcher ≡ u = same-is watcher u is in ap (λ (w : Watcher). let o : Option Watcher = Some w in o) (sym same)
 
-  by-test : (watcher : Watcher) (get asks : Watch) (before : List Entry) (entry : Entry) (b : Bool) → is_watcher setup watcher (watcher_of setup before entry.actor entry.calls asks) ≡ b
+  by-test : (watcher : Watcher) (get asks : Watch) (before : List Entry) (entry : Entry) (b : Bool)
+      → is_watcher setup watcher (watcher_of setup before entry.actor entry.calls asks) ≡ b
       → entry.kind ≡ Get asks → cond b (Some asks) None ≡ Some get → IsGet setup watcher get before entry
   by-test watcher get asks before entry true is kind so =
       let same : asks ≡ get = cc in
@@ -70,7 +73,8 @@ module _ (setup : Setup) where
       }
   by-test watcher get asks before entry false is kind so = cc
 
-  pub is-get : (watcher : Watcher) (get : Watch) (before : List Entry) (entry : Entry) (kind : Kind) → entry.kind ≡ kind → asked_in setup watcher before entry kind ≡ Some get
+  pub is-get : (watcher : Watcher) (get : Watch) (before : List Entry) (entry : Entry) (kind : Kind) → entry.kind ≡ kind
+      → asked_in setup watcher before entry kind ≡ Some get
       → IsGet setup watcher get before entry
   is-get watcher get before entry (Get asks) is so =
       by-test watcher get asks before entry (is_watcher setup watcher (watcher_of setup before entry.actor entry.calls asks)) refl is so
@@ -80,24 +84,29 @@ module _ (setup : Setup) where
   get-still watcher get entry is = record { no_finish = rw is refl; no_view = rw is refl; no_viewport = rw is refl }
 
   -- the reply to such an entry
-  get-reply : (before : List Entry) (entry : Entry) → Legal setup (before ▹ entry) → (watcher : Watcher) (get : Watch) → asked setup watcher before entry ≡ Some get
+  get-reply : (before : List Entry) (entry : Entry) → Legal setup (before ▹ entry) → (watcher : Watcher) (get : Watch)
+      → asked setup watcher before entry ≡ Some get
       → entry.reply ≡ got (is_some (watching setup watcher before).waits) (news (told setup (before ▹ entry) watcher) (watching setup watcher before).last)
   get-reply before entry legal watcher get so =
       let is : IsGet setup watcher get before entry = is-get watcher get before entry entry.kind refl so in
-      let still : told setup (before ▹ entry) watcher ≡ told setup before watcher = told-same setup watcher before entry (get-still watcher get entry is.kind) in
+      let still : told setup (before ▹ entry) watcher ≡ told setup before watcher =
+      told-same setup watcher before entry (get-still watcher get entry is.kind) in
       legal.1.reply ∙ ap (reply_to setup before entry.actor entry.calls) is.kind ∙ ap (reply_to_get setup before) is.meant
       ∙ ap (λ (now : Option Told). got (is_some (watching setup watcher before).waits) (news now (watching setup watcher before).last)) (sym still)
 
   -- ---- all later entries
 
-  heard-before : (watcher : Watcher) (history : List Entry) (next : Entry) → is_heard setup watcher (history ▹ next) ≡ true → is_heard setup watcher history ≡ true
+  heard-before : (watcher : Watcher) (history : List Entry) (next : Entry) → is_heard setup watcher (history ▹ next) ≡ true
+      → is_heard setup watcher history ≡ true
   heard-before watcher history next heard = open-before setup (listener setup watcher) history next heard
 
   -- an entry that is no get of the watcher
   unasked-step : (watcher : Watcher) (history : List Entry) (next : Entry) → asked setup watcher history next ≡ None
-      → watching setup watcher (history ▹ next) ≡ settled (is_heard setup watcher (history ▹ next)) (told setup (history ▹ next) watcher) (watching setup watcher history)
+      → watching setup watcher (history ▹ next) ≡ settled (is_heard setup watcher (history ▹ next)) (told setup (history ▹ next) watcher)
+      (watching setup watcher history)
   unasked-step watcher history next none =
-      ap (λ (get : Option Watch). settled (is_heard setup watcher (history ▹ next)) (told setup (history ▹ next) watcher) (asking get (watching setup watcher history))) none
+      ap (λ (get : Option Watch). settled (is_heard setup watcher (history ▹ next)) (told setup (history ▹ next) watcher)
+      (asking get (watching setup watcher history))) none
       ∙ ap (settled (is_heard setup watcher (history ▹ next)) (told setup (history ▹ next) watcher)) (asking-none (watching setup watcher history))
 
   module _ (watcher : Watcher) (get : Watch) (last : Option Told) (before : List Entry) (entry : Entry) (so : asked setup watcher before entry ≡ Some get)
@@ -111,16 +120,20 @@ module _ (setup : Setup) where
     holds (later ▹ next) none heard =
         let history : List Entry = later ++ (before ▹ entry) in
         let earlier : watching setup watcher history ≡ standing last get (first_news setup watcher last (before ▹ entry) later) =
-        holds later (none-left (is_asked setup watcher (before ▹ entry) later) (is_some (asked setup watcher history next)) none) (heard-before watcher history next heard) in
+        holds later (none-left (is_asked setup watcher (before ▹ entry) later) (is_some (asked setup watcher history next)) none)
+        (heard-before watcher history next heard) in
         let unasked : asked setup watcher history next ≡ None =
-        none-asked (asked setup watcher history next) (none-right (is_asked setup watcher (before ▹ entry) later) (is_some (asked setup watcher history next)) none) in
+        none-asked (asked setup watcher history next) (none-right (is_asked setup watcher (before ▹ entry) later) (is_some (asked setup watcher history next))
+        none) in
         unasked-step watcher history next unasked
         ∙ (λ i. settled (heard i) (told setup (history ▹ next) watcher) (earlier i))
         ∙ step last get (first_news setup watcher last (before ▹ entry) later) (told setup (history ▹ next) watcher)
 
-    event : (later : List Entry) (next : Entry) (p : PairNo) → is_asked setup watcher (before ▹ entry) later ≡ false → is_heard setup watcher (later ++ (before ▹ entry)) ≡ true
+    event : (later : List Entry) (next : Entry) (p : PairNo) → is_asked setup watcher (before ▹ entry) later ≡ false
+        → is_heard setup watcher (later ++ (before ▹ entry)) ≡ true
         → told_event setup p watcher (later ++ (before ▹ entry)) next
-        ≡ event_of p (Some get) (cond (is_some (first_news setup watcher last (before ▹ entry) later)) None (first_news setup watcher last (before ▹ entry) (later ▹ next)))
+        ≡ event_of p (Some get) (cond (is_some (first_news setup watcher last (before ▹ entry) later)) None
+        (first_news setup watcher last (before ▹ entry) (later ▹ next)))
     event later next p none heard =
         ap (λ (w : Watching). event_of p w.waits (answer (told setup ((later ▹ next) ++ (before ▹ entry)) watcher) w)) (holds later none heard)
         ∙ event-step p last get (first_news setup watcher last (before ▹ entry) later) (told setup ((later ▹ next) ++ (before ▹ entry)) watcher)
@@ -147,7 +160,8 @@ unasked-stays setup watcher from (later ▹ next) free none =
     let unasked : asked setup watcher history next ≡ None =
     none-asked (asked setup watcher history next) (none-right (is_asked setup watcher from later) (is_some (asked setup watcher history next)) none) in
     unasked-step setup watcher history next unasked
-    ∙ rests (is_heard setup watcher (history ▹ next)) (told setup (history ▹ next) watcher) (watching setup watcher history) (ap (λ (w : Watching). w.waits) earlier ∙ free)
+    ∙ rests (is_heard setup watcher (history ▹ next)) (told setup (history ▹ next) watcher) (watching setup watcher history)
+    (ap (λ (w : Watching). w.waits) earlier ∙ free)
     ∙ earlier
 
 pub nothing-is-answered-at-first : NothingIsAnsweredAtFirst

@@ -33,24 +33,28 @@ among-sessions : (g : SessionNo → List Published) (ss : List SessionNo) (f : F
     → is_among (flat_map (λ s. flat_map (λ (present : Published). present.args.release) (g s)) ss) f ≡ list_any (λ s. is_released_by (g s) f) ss
 among-sessions g [] f = refl
 among-sessions g (s ∷ ss) f =
-    list_any-append (λ (other : FenceNo). other.0 == f.0) (flat_map (λ (present : Published). present.args.release) (g s)) (flat_map (λ t. flat_map (λ (present : Published). present.args.release) (g t)) ss)
+    list_any-append (λ (other : FenceNo). other.0 == f.0) (flat_map (λ (present : Published). present.args.release) (g s))
+    (flat_map (λ t. flat_map (λ (present : Published). present.args.release) (g t)) ss)
     ∙ rw (among-presents (g s) f, among-sessions g ss f) refl
 
 module _ (setup : Setup) (of_family : SessionNo → Bool) (closed : IsClosedFamily setup of_family) where
   pub presents-only : (t : SessionNo) → of_family t ≡ true → (history : List Entry) → presents t (only of_family history) ≡ presents t history
   presents-only t mine history = rw (own-only setup of_family t mine history) refl
 
-  pub took-only : (history : List Entry) → Legal setup history → (s : SessionNo) → of_family s ≡ true → taken setup (only of_family history) s ≡ taken setup history s
+  pub took-only : (history : List Entry) → Legal setup history → (s : SessionNo) → of_family s ≡ true
+      → taken setup (only of_family history) s ≡ taken setup history s
   took-only history legal s mine = (frames-local setup of_family closed history legal).took s mine
 
-  pub credits-only : (history : List Entry) → Legal setup history → (s : SessionNo) → of_family s ≡ true → credits setup (only of_family history) s ≡ credits setup history s
+  pub credits-only : (history : List Entry) → Legal setup history → (s : SessionNo) → of_family s ≡ true
+      → credits setup (only of_family history) s ≡ credits setup history s
   credits-only history legal s mine = rw (own-only setup of_family s mine history, took-only history legal s mine) refl
 
   pub signalled-only : (history : List Entry) → Legal setup history → (s : SessionNo) (f : FenceNo) → of_family s ≡ true → owns_fence setup s f ≡ true
       → is_signalled setup (only of_family history) f ≡ is_signalled setup history f
   signalled-only history legal s f mine owns = (frames-local setup of_family closed history legal).signalled f (record { s = s; mine = mine; owns = owns })
 
-  pub going-only : (history : List Entry) → Legal setup history → (s : SessionNo) → of_family s ≡ true → going setup (only of_family history) s ≡ going setup history s
+  pub going-only : (history : List Entry) → Legal setup history → (s : SessionNo) → of_family s ≡ true
+      → going setup (only of_family history) s ≡ going setup history s
   going-only history legal s mine = (frames-local setup of_family closed history legal).goes s mine
 
   pub releases-only : (history : List Entry) → Legal setup history → (s : SessionNo) (f : FenceNo) → of_family s ≡ true → owns_fence setup s f ≡ true

@@ -39,7 +39,8 @@ state-at P f n (suc k) none here = within-or-past P f None n k none here
 -- ---- two ways of leading on
 
 -- nodes are joined in the same way where their pairs lead to the same
-linked-same : (o : ℕ → Bool) (led led' : ℕ → JoinedTree) → ((q : ℕ) → o q ≡ true → led q ≡ led' q) → (what : Option Content) → list_all o (pair_in what) ≡ true → linked_to led what ≡ linked_to led' what
+linked-same : (o : ℕ → Bool) (led led' : ℕ → JoinedTree) → ((q : ℕ) → o q ≡ true → led q ≡ led' q) → (what : Option Content) → list_all o (pair_in what) ≡ true
+    → linked_to led what ≡ linked_to led' what
 linked-same o led led' same None all = refl
 linked-same o led led' same (Some (content.Fill serial rgba w h)) all = refl
 linked-same o led led' same (Some (content.Image serial buffers index sample w h blend flip opacity)) all = refl
@@ -51,13 +52,17 @@ record AllThree (o : ℕ → Bool) (what : Option Content) (children rest : Chil
   below : list_all o (pairs_in children) ≡ true
   after : list_all o (pairs_in rest) ≡ true
 
-three : (o : ℕ → Bool) (what : Option Content) (children rest : Children) → list_all o (pair_in what ++ pairs_in children ++ pairs_in rest) ≡ true → AllThree o what children rest
+three : (o : ℕ → Bool) (what : Option Content) (children rest : Children) → list_all o (pair_in what ++ pairs_in children ++ pairs_in rest) ≡ true
+    → AllThree o what children rest
 three o what children rest all =
-    let outer : (list_all o (pair_in what ++ pairs_in children) && list_all o (pairs_in rest)) ≡ true = sym (list_all-append o (pair_in what ++ pairs_in children) (pairs_in rest)) ∙ all in
-    let inner : list_all o (pair_in what ++ pairs_in children) ≡ (list_all o (pair_in what) && list_all o (pairs_in children)) = list_all-append o (pair_in what) (pairs_in children) in
+    let outer : (list_all o (pair_in what ++ pairs_in children) && list_all o (pairs_in rest)) ≡ true =
+    sym (list_all-append o (pair_in what ++ pairs_in children) (pairs_in rest)) ∙ all in
+    let inner : list_all o (pair_in what ++ pairs_in children) ≡ (list_all o (pair_in what) && list_all o (pairs_in children)) =
+    list_all-append o (pair_in what) (pairs_in children) in
     record { here = grind arith; below = grind arith; after = grind arith }
 
-nodes-same : (o : ℕ → Bool) (led led' : ℕ → JoinedTree) → ((q : ℕ) → o q ≡ true → led q ≡ led' q) → (s : ℕ) (all : Children) → list_all o (pairs_in all) ≡ true → joined_nodes led s all ≡ joined_nodes led' s all
+nodes-same : (o : ℕ → Bool) (led led' : ℕ → JoinedTree) → ((q : ℕ) → o q ≡ true → led q ≡ led' q) → (s : ℕ) (all : Children) → list_all o (pairs_in all) ≡ true
+    → joined_nodes led s all ≡ joined_nodes led' s all
 nodes-same o led led' same s Empty all = refl
 nodes-same o led led' same s (first serial scale turn place clip opacity hits what children rest) all =
     let parts = three o what children rest all in
@@ -67,16 +72,19 @@ nodes-same o led led' same s (first serial scale turn place clip opacity hits wh
 abbrev pub stands : ℕ → JoinedTree → Bool
 stands x t = list_any (λ other. other == x) (sessions_in t)
 
-linked-out : (x : ℕ) (o : ℕ → Bool) (led : ℕ → JoinedTree) → ((q : ℕ) → o q ≡ true → stands x (led q) ≡ false) → (what : Option Content) → list_all o (pair_in what) ≡ true → stands x (linked_to led what) ≡ false
+linked-out : (x : ℕ) (o : ℕ → Bool) (led : ℕ → JoinedTree) → ((q : ℕ) → o q ≡ true → stands x (led q) ≡ false) → (what : Option Content)
+    → list_all o (pair_in what) ≡ true → stands x (linked_to led what) ≡ false
 linked-out x o led out None all = refl
 linked-out x o led out (Some (content.Fill serial rgba w h)) all = refl
 linked-out x o led out (Some (content.Image serial buffers index sample w h blend flip opacity)) all = refl
 linked-out x o led out (Some (content.Viewport serial pair props)) all = out pair.0 (grind arith)
 
-none-of-three : (x : ℕ) (us vs ws : List ℕ) → list_any (λ other. other == x) us ≡ false → list_any (λ other. other == x) vs ≡ false → list_any (λ other. other == x) ws ≡ false → list_any (λ other. other == x) (us ++ (vs ++ ws)) ≡ false
+none-of-three : (x : ℕ) (us vs ws : List ℕ) → list_any (λ other. other == x) us ≡ false → list_any (λ other. other == x) vs ≡ false
+    → list_any (λ other. other == x) ws ≡ false → list_any (λ other. other == x) (us ++ (vs ++ ws)) ≡ false
 none-of-three x us vs ws a b c = list_any-append (λ other. other == x) us (vs ++ ws) ∙ rw (a, list_any-append (λ other. other == x) vs ws, b, c) refl
 
-nodes-out : (x : ℕ) (o : ℕ → Bool) (led : ℕ → JoinedTree) → ((q : ℕ) → o q ≡ true → stands x (led q) ≡ false) → (s : ℕ) (all : Children) → list_all o (pairs_in all) ≡ true → stands x (joined_nodes led s all) ≡ false
+nodes-out : (x : ℕ) (o : ℕ → Bool) (led : ℕ → JoinedTree) → ((q : ℕ) → o q ≡ true → stands x (led q) ≡ false) → (s : ℕ) (all : Children)
+    → list_all o (pairs_in all) ≡ true → stands x (joined_nodes led s all) ≡ false
 nodes-out x o led out s Empty all = refl
 nodes-out x o led out s (first serial scale turn place clip opacity hits what children rest) all =
     let parts = three o what children rest all in
@@ -84,12 +92,14 @@ nodes-out x o led out s (first serial scale turn place clip opacity hits what ch
     (linked-out x o led out what parts.here) (nodes-out x o led out s children parts.below) (nodes-out x o led out s rest parts.after)
 
 -- who shows the view of a pair is the same where the states that show it are
-viewer-same : (f g : SessionNo → Option Tree) (p : ℕ) → ((t : SessionNo) → is_view_of p (view_of (f t)) ≡ is_view_of p (view_of (g t))) → ((t : SessionNo) → is_view_of p (view_of (f t)) ≡ true → f t ≡ g t)
+viewer-same : (f g : SessionNo → Option Tree) (p : ℕ) → ((t : SessionNo) → is_view_of p (view_of (f t)) ≡ is_view_of p (view_of (g t)))
+    → ((t : SessionNo) → is_view_of p (view_of (f t)) ≡ true → f t ≡ g t)
     → (ss : List SessionNo) (s : ℕ) → viewer_from s (map f ss) p ≡ viewer_from s (map g ss) p
 viewer-same f g p tests states [] s = refl
 viewer-same f g p tests states (t ∷ ss) s = by_test (viewer-same f g p tests states ss (s + 1)) (is_view_of p (view_of (f t))) refl
   where
-    by_test : viewer_from (s + 1) (map f ss) p ≡ viewer_from (s + 1) (map g ss) p → (b : Bool) → is_view_of p (view_of (f t)) ≡ b → viewer_from s (map f (t ∷ ss)) p ≡ viewer_from s (map g (t ∷ ss)) p
+    by_test : viewer_from (s + 1) (map f ss) p ≡ viewer_from (s + 1) (map g ss) p → (b : Bool) → is_view_of p (view_of (f t)) ≡ b
+        → viewer_from s (map f (t ∷ ss)) p ≡ viewer_from s (map g (t ∷ ss)) p
     by_test rest true is = let there : is_view_of p (view_of (g t)) ≡ true = sym (tests t) ∙ is in rw (is, there, states t is) refl
     by_test rest false isnt = let there : is_view_of p (view_of (g t)) ≡ false = sym (tests t) ∙ isnt in rw (isnt, there) rest
 
@@ -103,9 +113,11 @@ pub record IsViewed (f : SessionNo → Option Tree) (p : ℕ) (viewer : Viewer) 
 found-viewed : (f : SessionNo → Option Tree) (n p : ℕ) (viewer : Viewer) → viewer_from 1 (map f (sessions_to n)) p ≡ Some viewer → IsViewed f p viewer
 found-viewed f n p viewer found =
     let state = viewer-state (map f (sessions_to n)) p viewer found in
-    state-at (λ o. view_of o ≡ Some p → viewer.nodes ≡ nodes_of o → IsViewed f p viewer) f n viewer.session (λ v e. absurd (cc)) (of-state (f (record { 0 = viewer.session })) refl) state.0 state.1
+    state-at (λ o. view_of o ≡ Some p → viewer.nodes ≡ nodes_of o → IsViewed f p viewer) f n viewer.session (λ v e. absurd (cc))
+    (of-state (f (record { 0 = viewer.session })) refl) state.0 state.1
   where
-    of-state : (o : Option Tree) → f (record { 0 = viewer.session }) ≡ o → view_of (f (record { 0 = viewer.session })) ≡ Some p → viewer.nodes ≡ nodes_of (f (record { 0 = viewer.session })) → IsViewed f p viewer
+    of-state : (o : Option Tree) → f (record { 0 = viewer.session }) ≡ o → view_of (f (record { 0 = viewer.session })) ≡ Some p
+        → viewer.nodes ≡ nodes_of (f (record { 0 = viewer.session })) → IsViewed f p viewer
     of-state None is view nodes = let no : view_of None ≡ Some p = rw is at view in absurd (cc)
     of-state (Some tree) is view nodes = record { tree = tree; shows = is; view = rw is at view; nodes = rw is at nodes }
 
@@ -143,7 +155,8 @@ module _ (setup : Setup) (of_family : SessionNo → Bool) (closed : IsClosedFami
       )
 
   -- the view that a session shows is of a pair that it owns
-  view-owned-at : (t : SessionNo) (v : Option PairNo) (p : ℕ) → option_map (λ (pair : PairNo). pair.0) v ≡ Some p → view_owned setup t v ≡ true → owns_view setup t (pair_no p) ≡ true
+  view-owned-at : (t : SessionNo) (v : Option PairNo) (p : ℕ) → option_map (λ (pair : PairNo). pair.0) v ≡ Some p → view_owned setup t v ≡ true
+      → owns_view setup t (pair_no p) ≡ true
   view-owned-at t None p is owned = cc
   view-owned-at t (Some q) p is owned =
       let same : q.0 ≡ p = cc in
@@ -173,10 +186,12 @@ module _ (setup : Setup) (of_family : SessionNo → Bool) (closed : IsClosedFami
             let one : t ≡ s = same-session s t same in
             let both : of_family t ≡ of_family s = ap of_family one in cc) in
             let below : stands s.0 (joined_nodes (led_to (map f (sessions_to n)) views) viewer.session viewer.nodes) ≡ false =
-            nodes-out s.0 (owns setup t) (led_to (map f (sessions_to n)) views) (λ q over. earlier q (on-its-side false t q apart over)) viewer.session viewer.nodes (nodes-owned p viewer shows) in
+            nodes-out s.0 (owns setup t) (led_to (map f (sessions_to n)) views) (λ q over. earlier q (on-its-side false t q apart over)) viewer.session
+            viewer.nodes (nodes-owned p viewer shows) in
             rw other below
 
-    module _ (g : SessionNo → Option Tree) (kept : (t : SessionNo) → of_family t ≡ true → g t ≡ f t) (dropped : (t : SessionNo) → of_family t ≡ false → g t ≡ None) where
+    module _ (g : SessionNo → Option Tree) (kept : (t : SessionNo) → of_family t ≡ true → g t ≡ f t)
+        (dropped : (t : SessionNo) → of_family t ≡ false → g t ≡ None) where
       sees : (p : ℕ) → IsInside true p → (t : SessionNo) → is_view_of p (view_of (f t)) ≡ true → of_family t ≡ true
       sees p inside t is = by_tree (f t) refl is
         where
@@ -195,24 +210,29 @@ module _ (setup : Setup) (of_family : SessionNo → Bool) (closed : IsClosedFami
         where
           by_side : (b : Bool) → of_family t ≡ b → is_view_of p (view_of (f t)) ≡ is_view_of p (view_of (g t))
           by_side true mine = rw (kept t mine) refl
-          by_side false out = rw (dropped t out) (false_from_ne_true (is_view_of p (view_of (f t))) (λ is. let mine : of_family t ≡ true = sees p inside t is in cc))
+          by_side false out = rw (dropped t out) (false_from_ne_true (is_view_of p (view_of (f t)))
+              (λ is. let mine : of_family t ≡ true = sees p inside t is in cc))
 
       -- a pair of the family leads to the same
       led-same : (n views p : ℕ) → IsInside true p → led_to (map g (sessions_to n)) views p ≡ led_to (map f (sessions_to n)) views p
       led-same n zero p inside = refl
       led-same n (suc views) p inside =
-          ap (viewed (led_to (map g (sessions_to n)) views)) (sym (viewer-same f g p (same-tests p inside) (λ t is. sym (kept t (sees p inside t is))) (sessions_to n) 1))
+          ap (viewed (led_to (map g (sessions_to n)) views))
+          (sym (viewer-same f g p (same-tests p inside) (λ t is. sym (kept t (sees p inside t is))) (sessions_to n) 1))
           ∙ by_viewer (led-same n views) (viewer_from 1 (map f (sessions_to n)) p) refl
         where
           by_viewer : ((q : ℕ) → IsInside true q → led_to (map g (sessions_to n)) views q ≡ led_to (map f (sessions_to n)) views q)
-              → (v : Option Viewer) → viewer_from 1 (map f (sessions_to n)) p ≡ v → viewed (led_to (map g (sessions_to n)) views) v ≡ viewed (led_to (map f (sessions_to n)) views) v
+              → (v : Option Viewer) → viewer_from 1 (map f (sessions_to n)) p ≡ v
+              → viewed (led_to (map g (sessions_to n)) views) v ≡ viewed (led_to (map f (sessions_to n)) views) v
           by_viewer earlier None is = refl
           by_viewer earlier (Some viewer) is =
               let t : SessionNo = record { 0 = viewer.session } in
               let shows : IsViewed f p viewer = found-viewed f n p viewer is in
               let mine : of_family t ≡ true = inside.view t (viewer-owns p viewer shows) in
-              let below : joined_nodes (led_to (map g (sessions_to n)) views) viewer.session viewer.nodes ≡ joined_nodes (led_to (map f (sessions_to n)) views) viewer.session viewer.nodes =
-              nodes-same (owns setup t) (led_to (map g (sessions_to n)) views) (led_to (map f (sessions_to n)) views) (λ q over. earlier q (on-its-side true t q mine over)) viewer.session viewer.nodes (nodes-owned p viewer shows) in
+              let below : joined_nodes (led_to (map g (sessions_to n)) views) viewer.session viewer.nodes
+              ≡ joined_nodes (led_to (map f (sessions_to n)) views) viewer.session viewer.nodes =
+              nodes-same (owns setup t) (led_to (map g (sessions_to n)) views) (led_to (map f (sessions_to n)) views)
+              (λ q over. earlier q (on-its-side true t q mine over)) viewer.session viewer.nodes (nodes-owned p viewer shows) in
               rw below refl
 
       owned-there : (t : SessionNo) (tree : Tree) → g t ≡ Some tree → IsShownOwned setup t tree
@@ -231,7 +251,8 @@ module _ (setup : Setup) (of_family : SessionNo → Bool) (closed : IsClosedFami
       as_long : length (map g (sessions_to n)) ≡ length (map f (sessions_to n))
       as_long = simp length-map
 
-      by_side : (p : ℕ) (b : Bool) → IsInside b p → stands s.0 (led_from (map g (sessions_to n)) (Some p)) ≡ stands s.0 (led_from (map f (sessions_to n)) (Some p))
+      by_side : (p : ℕ) (b : Bool) → IsInside b p → stands s.0 (led_from (map g (sessions_to n)) (Some p))
+          ≡ stands s.0 (led_from (map f (sessions_to n)) (Some p))
       by_side p true inside = rw (as_long, led-same f owned g kept dropped n (length (map f (sessions_to n))) p inside) refl
       by_side p false out =
           led-out g (owned-there f owned g kept dropped) n s mine (length (map g (sessions_to n))) p out

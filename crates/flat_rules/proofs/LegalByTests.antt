@@ -8,7 +8,8 @@ use Rattle.flat_scene.specs.declared.journal.Kind.{Kind}
 use Rattle.flat_scene.specs.declared.setup.Setup.{Setup}
 use Rattle.flat_scene.specs.History.{◌▹◌}
 use Rattle.flat_base.proofs.lemmas.Tests.{and-left, and-right}
-use Rattle.flat_rules.specs.Legal.{Legal, MayEnter, reply_to, may_act, goes_on, keeps_time, has_draft, own_call, links_alone, owns_all, may_name, has_tree, draft_with, has_watcher}
+use Rattle.flat_rules.specs.Legal.{Legal, MayEnter, reply_to, may_act, goes_on, keeps_time, has_draft, own_call, links_alone, owns_all, may_name, has_tree}
+use Rattle.flat_rules.specs.Legal.{draft_with, has_watcher}
 
 -- all that an entry must meet, as one test
 abbrev pub may_enter : Setup → List Entry → Actor → List Call → Kind → Bool
@@ -54,7 +55,8 @@ legal-by-tests setup [] enter replied = tt
 legal-by-tests setup (before ▹ entry) enter replied = (
   legal-by-tests setup before (and-left (all_enter setup before) (may_enter setup before entry.actor entry.calls entry.kind) enter) replied.0,
   record {
-    may = enters setup before entry.actor entry.calls entry.kind (and-right (all_enter setup before) (may_enter setup before entry.actor entry.calls entry.kind) enter);
+    may = enters setup before entry.actor entry.calls entry.kind
+        (and-right (all_enter setup before) (may_enter setup before entry.actor entry.calls entry.kind) enter);
     reply = replied.1;
   },
 )

@@ -11,7 +11,8 @@ use Rattle.flat_scene.specs.declared.journal.Entry.{Entry}
 use Rattle.flat_scene.specs.declared.setup.Setup.{Setup}
 use Rattle.flat_scene.specs.Draft.{Draft, of_serial}
 use Rattle.flat_scene.specs.Frames.{is_signalled, taken, going, takes, lets_go, signals, credits, sessions_to}
-use Rattle.flat_scene.specs.History.{◌▹◌, own, is_session, is_closed, closes, carried, calls, published, published_all, presents, Published, is_begin, is_finish}
+use Rattle.flat_scene.specs.History.{◌▹◌, own, is_session, is_closed, closes, carried, calls, published, published_all, presents, Published, is_begin}
+use Rattle.flat_scene.specs.History.{is_finish}
 use Rattle.flat_topology.specs.Join.{is_joined}
 use Rattle.flat_rules.specs.Determined.{but_line}
 use Rattle.flat_rules.specs.Ends.{view_uses, viewport_uses, uses_view, uses_viewport, is_done, to_begin, to_finished, taken_calls, has_ended, happens, loses}
@@ -25,9 +26,11 @@ lined = map but_line
 
 pub filter-lined : (p : Entry → Bool) → ((e : Entry) → p (but_line e) ≡ p e) → (h : List Entry) → filter p (lined h) ≡ lined (filter p h)
 filter-lined p same [] = refl
-filter-lined p same (before ▹ e) = (λ i. cond (same e i) (but_line e ∷ filter p (lined before)) (filter p (lined before))) ∙ by_test (p e) (filter-lined p same before)
+filter-lined p same (before ▹ e) = (λ i. cond (same e i) (but_line e ∷ filter p (lined before)) (filter p (lined before)))
+    ∙ by_test (p e) (filter-lined p same before)
   where
-    by_test : (b : Bool) → filter p (lined before) ≡ lined (filter p before) → cond b (but_line e ∷ filter p (lined before)) (filter p (lined before)) ≡ lined (cond b (e ∷ filter p before) (filter p before))
+    by_test : (b : Bool) → filter p (lined before) ≡ lined (filter p before)
+        → cond b (but_line e ∷ filter p (lined before)) (filter p (lined before)) ≡ lined (cond b (e ∷ filter p before) (filter p before))
     by_test true earlier = ap (λ (l : List Entry). but_line e ∷ l) earlier
     by_test false earlier = earlier
 
@@ -67,7 +70,8 @@ pub begin-lined : (h : List Entry) → to_begin (lined h) ≡ lined (to_begin h)
 begin-lined [] = refl
 begin-lined (before ▹ e) = by_kind (is_begin e.kind) (begin-lined before)
   where
-    by_kind : (b : Bool) → to_begin (lined before) ≡ lined (to_begin before) → cond b (lined (before ▹ e)) (to_begin (lined before)) ≡ lined (cond b (before ▹ e) (to_begin before))
+    by_kind : (b : Bool) → to_begin (lined before) ≡ lined (to_begin before)
+        → cond b (lined (before ▹ e)) (to_begin (lined before)) ≡ lined (cond b (before ▹ e) (to_begin before))
     by_kind true earlier = refl
     by_kind false earlier = earlier
 
@@ -78,7 +82,8 @@ pub finished-lined : (h : List Entry) → to_finished (lined h) ≡ lined (to_fi
 finished-lined [] = refl
 finished-lined (before ▹ e) = by_kind (is_finish e.kind) (finished-lined before)
   where
-    by_kind : (b : Bool) → to_finished (lined before) ≡ lined (to_finished before) → cond b (to_begin (lined before)) (to_finished (lined before)) ≡ lined (cond b (to_begin before) (to_finished before))
+    by_kind : (b : Bool) → to_finished (lined before) ≡ lined (to_finished before)
+        → cond b (to_begin (lined before)) (to_finished (lined before)) ≡ lined (cond b (to_begin before) (to_finished before))
     by_kind true earlier = begin-lined before
     by_kind false earlier = earlier
 
@@ -96,8 +101,10 @@ module _ (setup : Setup) where
       one_more : FramesAlike before → FramesAlike (before ▹ e)
       one_more earlier = record {
         signalled = λ i. λ f. earlier.signalled i f || signals (sessions_to setup.sessions) e.kind (earlier.goes i) f;
-        took = λ i. λ s. earlier.took i s + length (takes e.kind (earlier.signalled i) (closed-lined s before i) (drop (earlier.took i s) (presents-lined s before i)));
-        goes = λ i. λ s. lets_go e.kind (earlier.signalled i) (closed-lined s before i) (drop (earlier.took i s) (presents-lined s before i)) (earlier.goes i s);
+        took = λ i. λ s. earlier.took i s + length (takes e.kind (earlier.signalled i) (closed-lined s before i)
+            (drop (earlier.took i s) (presents-lined s before i)));
+        goes = λ i. λ s. lets_go e.kind (earlier.signalled i) (closed-lined s before i) (drop (earlier.took i s) (presents-lined s before i))
+            (earlier.goes i s);
       }
 
   pub took-lined : (h : List Entry) (s : SessionNo) → taken setup (lined h) s ≡ taken setup h s

@@ -23,18 +23,21 @@ use Rattle.flat_scene.specs.Frames.{sessions_to, is_signalled}
 use Rattle.flat_scene.specs.History.{◌▹◌, is_begin, is_finish, is_session, presents}
 use Rattle.flat_rules.specs.Determined.{but_line}
 use Rattle.flat_rules.specs.Ends.{to_begin, times, releases_viewport, views_of, viewports_of, uses_viewport, is_done}
-use Rattle.flat_rules.specs.Legal.{has_token, is_token_back, is_told, is_poll, is_now, number_if, sent_to, unread, unread_events, answers, frames, value_of, got, waited, asked_of, refused_token, reply_to_get, reply_to_present, polled_by, reply_to}
+use Rattle.flat_rules.specs.Legal.{has_token, is_token_back, is_told, is_poll, is_now, number_if, sent_to, unread, unread_events, answers, frames, value_of}
+use Rattle.flat_rules.specs.Legal.{got, waited, asked_of, refused_token, reply_to_get, reply_to_present, polled_by, reply_to}
 use Rattle.flat_rules.specs.Posts.{Sent, up_to, event_of, told_event, frame_took, releases_seen, tokens_back, at_finish, at_begin, news_for, events_to, posted}
 use Rattle.flat_rules.specs.AllPosts.{posts}
 use Rattle.flat_rules.specs.Watch.{Watcher, layout_of, status_of, child_of, watcher_of}
 use Rattle.flat_watch.specs.Told.{answer, news}
-use Rattle.flat_rules.proofs.Lines.{lined, filter-lined, length-lined, closed-lined, presents-lined, begin-lined, begun-lined, frames-lined, took-lined, took-begin, took-begun, credits-lined, taken-calls-lined, view-count, viewport-count}
+use Rattle.flat_rules.proofs.Lines.{lined, filter-lined, length-lined, closed-lined, presents-lined, begin-lined, begun-lined, frames-lined, took-lined}
+use Rattle.flat_rules.proofs.Lines.{took-begin, took-begun, credits-lined, taken-calls-lined, view-count, viewport-count}
 use Rattle.flat_rules.proofs.LinesTold.{told-lined, watching-lined, watcher-lined}
 
 module _ (setup : Setup) where
   -- ---- events
 
-  told-event : (p : PairNo) (watcher : Watcher) (before : List Entry) (e : Entry) → told_event setup p watcher (lined before) (but_line e) ≡ told_event setup p watcher before e
+  told-event : (p : PairNo) (watcher : Watcher) (before : List Entry) (e : Entry)
+      → told_event setup p watcher (lined before) (but_line e) ≡ told_event setup p watcher before e
   told-event p watcher before e =
       λ i. event_of p (watching-lined setup watcher before i).waits (answer (told-lined setup watcher (before ▹ e) i) (watching-lined setup watcher before i))
 
@@ -43,11 +46,14 @@ module _ (setup : Setup) where
 
   seen-begin : (h : List Entry) (s : SessionNo) (p : PairNo) → releases_seen setup (to_begin (lined h)) s p ≡ releases_seen setup (to_begin h) s p
   seen-begin h s p =
-      ap (λ (g : List Entry). releases_seen setup g s p) (begin-lined h) ∙ ap (times setup (releases_viewport p) (Ok empty_draft)) (taken-calls-lined setup (to_begin h) s)
+      ap (λ (g : List Entry). releases_seen setup g s p) (begin-lined h)
+      ∙ ap (times setup (releases_viewport p) (Ok empty_draft)) (taken-calls-lined setup (to_begin h) s)
 
-  seen-begun : (h : List Entry) (s : SessionNo) (p : PairNo) → releases_seen setup (drop 1 (to_begin (lined h))) s p ≡ releases_seen setup (drop 1 (to_begin h)) s p
+  seen-begun : (h : List Entry) (s : SessionNo) (p : PairNo)
+      → releases_seen setup (drop 1 (to_begin (lined h))) s p ≡ releases_seen setup (drop 1 (to_begin h)) s p
   seen-begun h s p =
-      ap (λ (g : List Entry). releases_seen setup g s p) (begun-lined h) ∙ ap (times setup (releases_viewport p) (Ok empty_draft)) (taken-calls-lined setup (drop 1 (to_begin h)) s)
+      ap (λ (g : List Entry). releases_seen setup g s p) (begun-lined h)
+      ∙ ap (times setup (releases_viewport p) (Ok empty_draft)) (taken-calls-lined setup (drop 1 (to_begin h)) s)
 
   tokens-lined : (h : List Entry) (s : SessionNo) → tokens_back setup (lined h) s ≡ tokens_back setup h s
   tokens-lined h s = λ i. flat_map (λ p. replicate (seen-begin h s p i - seen-begun h s p i) (event.TokenBack p)) (viewports_of setup s)
@@ -57,7 +63,8 @@ module _ (setup : Setup) where
 
   at-begin-lined : (before : List Entry) (e : Entry) (s : SessionNo) → at_begin setup (lined before) (but_line e) s ≡ at_begin setup before e s
   at-begin-lined before e s =
-      λ i. cond (nat_lt (took-lined setup before s i) (took-lined setup (before ▹ e) s i)) (event.Credits (credits-lined setup (before ▹ e) s i - credits-lined setup before s i) ∷ []) []
+      λ i. cond (nat_lt (took-lined setup before s i) (took-lined setup (before ▹ e) s i))
+      (event.Credits (credits-lined setup (before ▹ e) s i - credits-lined setup before s i) ∷ []) []
 
   news-lined : (before : List Entry) (e : Entry) (s : SessionNo) → news_for setup (lined before) (but_line e) s ≡ news_for setup before e s
   news-lined before e s =
@@ -77,16 +84,19 @@ module _ (setup : Setup) where
   pub posts-lined : (h : List Entry) → posts setup (lined h) ≡ posts setup h
   posts-lined [] = refl
   posts-lined (before ▹ e) =
-      λ i. posts-lined before i ++ map (λ sent. let post : Post = record { entry = length-lined before i; session = sent.to; event = sent.event } in post) (posted-lined before e i)
+      λ i. posts-lined before i ++ map (λ sent. let post : Post = record { entry = length-lined before i; session = sent.to; event = sent.event } in post)
+      (posted-lined before e i)
 
   -- ---- what replies hang on
 
   token-lined : (p : PairNo) (h : List Entry) → has_token setup p (lined h) ≡ has_token setup p h
   token-lined p [] = refl
   token-lined p (before ▹ e) =
-      λ i. not (uses_viewport p e.kind && is_done e.reply) && (token-lined p before i || list_any (λ (sent : Sent). is_token_back p sent.event) (posted-lined before e i))
+      λ i. not (uses_viewport p e.kind && is_done e.reply)
+      && (token-lined p before i || list_any (λ (sent : Sent). is_token_back p sent.event) (posted-lined before e i))
 
-  sent-lined : (s : SessionNo) (test : Event → Bool) (before : List Entry) (e : Entry) → sent_to setup s test (lined before) (but_line e) ≡ sent_to setup s test before e
+  sent-lined : (s : SessionNo) (test : Event → Bool) (before : List Entry) (e : Entry)
+      → sent_to setup s test (lined before) (but_line e) ≡ sent_to setup s test before e
   sent-lined s test before e = λ i. length (filter test (events-lined before e s i))
 
   unread-events : (s : SessionNo) (h : List Entry) → unread_events setup s (lined h) ≡ unread_events setup s h
@@ -120,13 +130,15 @@ module _ (setup : Setup) where
 
   get-lined : (h : List Entry) (watcher : Option Watcher) → reply_to_get setup (lined h) watcher ≡ reply_to_get setup h watcher
   get-lined h None = refl
-  get-lined h (Some watcher) = λ i. got (is_some (watching-lined setup watcher h i).waits) (news (told-lined setup watcher h i) (watching-lined setup watcher h i).last)
+  get-lined h (Some watcher) = λ i. got (is_some (watching-lined setup watcher h i).waits)
+      (news (told-lined setup watcher h i) (watching-lined setup watcher h i).last)
 
   present-lined : (h : List Entry) (actor : Actor) → reply_to_present setup (lined h) actor ≡ reply_to_present setup h actor
   present-lined h Display = refl
   present-lined h (Probe n) = refl
   present-lined h (Session s) =
-      λ i. cond (nat_lt 0 (credits-lined setup h s i)) (Presented (presents-count s h i + 1) (credits-lined setup h s i - 1)) (Closed (Some NoPresentsRemaining) None)
+      λ i. cond (nat_lt 0 (credits-lined setup h s i)) (Presented (presents-count s h i + 1) (credits-lined setup h s i - 1))
+      (Closed (Some NoPresentsRemaining) None)
 
   polled-lined : (actor : Actor) (h : List Entry) → polled_by setup actor (lined h) ≡ polled_by setup actor h
   polled-lined (Session s) h = unread-lined s h
@@ -134,7 +146,8 @@ module _ (setup : Setup) where
   polled-lined (Probe n) h = refl
 
   -- the reply is the same
-  pub reply-lined : (h : List Entry) (actor : Actor) (carries : List Call) (kind : Kind) → reply_to setup (lined h) actor carries kind ≡ reply_to setup h actor carries kind
+  pub reply-lined : (h : List Entry) (actor : Actor) (carries : List Call) (kind : Kind)
+      → reply_to setup (lined h) actor carries kind ≡ reply_to setup h actor carries kind
   reply-lined h actor carries (View p) = λ i. cond (view-count setup p h i == 0) Done refused_token
   reply-lined h actor carries (Viewport p props) = λ i. cond (token-lined p h i) Done refused_token
   reply-lined h actor carries (Present args) = present-lined h actor

@@ -20,12 +20,16 @@ use Rattle.flat_scene.specs.Effect.{draft_of}
 use Rattle.flat_scene.specs.Frames.{ratio, ratio_set}
 use Rattle.flat_scene.specs.History.{◌▹◌, is_finish}
 use Rattle.flat_rules.specs.Determined.{but_line}
-use Rattle.flat_rules.specs.Ends.{to_begin, to_finished, props_of, viewport_uses, viewport_owner, view_owner, taken_calls, is_viewport_lost, is_view_lost, clears_viewport, ends_view}
+use Rattle.flat_rules.specs.Ends.{to_begin, to_finished, props_of, viewport_uses, viewport_owner, view_owner, taken_calls, is_viewport_lost, is_view_lost}
+use Rattle.flat_rules.specs.Ends.{clears_viewport, ends_view}
 use Rattle.flat_rules.specs.Shown.{is_pair}
-use Rattle.flat_rules.specs.Watch.{Watcher, layout_of, status_of, child_of, layout_in, display_props, ratio_told, is_used, are_joined, props_given, props_seen, props_told, shows_view, is_connected_by, told, watcher_of_made, watcher_in, watcher_of, is_watcher, asked_in, is_open, listener, watching}
+use Rattle.flat_rules.specs.Watch.{Watcher, layout_of, status_of, child_of, layout_in, display_props, ratio_told, is_used, are_joined, props_given, props_seen}
+use Rattle.flat_rules.specs.Watch.{props_told, shows_view, is_connected_by, told, watcher_of_made, watcher_in, watcher_of, is_watcher, asked_in, is_open}
+use Rattle.flat_rules.specs.Watch.{listener, watching}
 use Rattle.flat_watch.specs.Told.{settled, asking}
 use Rattle.std.specs.Option.{option_or}
-use Rattle.flat_rules.proofs.Lines.{lined, calls-lined, closed-lined, begin-lined, finished-lined, taken-calls-lined, shown-lined, connected-lined, viewports-lined, view-count, viewport-count, loses-lined}
+use Rattle.flat_rules.proofs.Lines.{lined, calls-lined, closed-lined, begin-lined, finished-lined, taken-calls-lined, shown-lined, connected-lined}
+use Rattle.flat_rules.proofs.Lines.{viewports-lined, view-count, viewport-count, loses-lined}
 
 module _ (setup : Setup) where
   -- ---- what is told
@@ -36,7 +40,8 @@ module _ (setup : Setup) where
 
   view-lost : (p : PairNo) (h : List Entry) → is_view_lost setup (to_finished (lined h)) p ≡ is_view_lost setup (to_finished h) p
   view-lost p h =
-      ap (λ (g : List Entry). is_view_lost setup g p) (finished-lined h) ∙ loses-lined setup (ends_view p) (to_finished h) (option_map Session (view_owner setup p))
+      ap (λ (g : List Entry). is_view_lost setup g p) (finished-lined h)
+      ∙ loses-lined setup (ends_view p) (to_finished h) (option_map Session (view_owner setup p))
 
   used-lined : (owner : Option Actor) (p : PairNo) (h : List Entry) → is_used setup owner p (lined h) ≡ is_used setup owner p h
   used-lined None p h = ap (nat_lt 0) (viewport-count setup p h)
@@ -57,7 +62,8 @@ module _ (setup : Setup) where
   seen-lined : (p : PairNo) (n : ℕ) (s : SessionNo) (h : List Entry) → props_seen setup p n s (lined h) ≡ props_seen setup p n s h
   seen-lined p n s [] = refl
   seen-lined p n s (before ▹ e) =
-      λ i. option_or (cond (is_finish e.kind) (option_and_then (props_of p n) (result_ok (draft_of setup (calls-begun before s i)))) None) (seen-lined p n s before i)
+      λ i. option_or (cond (is_finish e.kind) (option_and_then (props_of p n) (result_ok (draft_of setup (calls-begun before s i)))) None)
+      (seen-lined p n s before i)
 
   -- the pixel ratio that is told
   ratio-lined : (h : List Entry) → ratio setup (lined h) ≡ ratio setup h
@@ -74,7 +80,8 @@ module _ (setup : Setup) where
   props-lined (Some (Session s)) p h =
       let seen : props_seen setup p (length (viewport_uses p (lined h))) s (lined h) ≡ props_seen setup p (length (viewport_uses p h)) s h =
       ap (λ (n : ℕ). props_seen setup p n s (lined h)) (viewport-count setup p h) ∙ seen-lined p (length (viewport_uses p h)) s h in
-      let given : props_given setup (viewport_uses p (lined h)) ≡ props_given setup (viewport_uses p h) = ap (props_given setup) (viewports-lined setup p h) ∙ given-lined (viewport_uses p h) in
+      let given : props_given setup (viewport_uses p (lined h)) ≡ props_given setup (viewport_uses p h) =
+      ap (props_given setup) (viewports-lined setup p h) ∙ given-lined (viewport_uses p h) in
       λ i. option_or (seen i) (given i)
 
   shows-lined : (p : PairNo) (h : List Entry) → shows_view setup (lined h) p ≡ shows_view setup h p
@@ -91,9 +98,11 @@ module _ (setup : Setup) where
 
   pub told-lined : (watcher : Watcher) (h : List Entry) → told setup (lined h) watcher ≡ told setup h watcher
   told-lined (layout_of p) h =
-      λ i. cond (viewport-lost p h i) (Some tell.Gone) (cond (joined-lined p h i) (option_map (layout_in (ratio-told h i)) (props-lined (viewport_owner setup p) p h i)) None)
+      λ i. cond (viewport-lost p h i) (Some tell.Gone) (cond (joined-lined p h i)
+      (option_map (layout_in (ratio-told h i)) (props-lined (viewport_owner setup p) p h i)) None)
   told-lined (status_of p) h =
-      λ i. cond (viewport-lost p h i) (Some tell.Gone) (cond (joined-lined p h i) (Some (cond (connected-finished p h i) tell.Connected tell.Disconnected)) None)
+      λ i. cond (viewport-lost p h i) (Some tell.Gone) (cond (joined-lined p h i) (Some (cond (connected-finished p h i) tell.Connected tell.Disconnected))
+      None)
   told-lined (child_of p n) h = λ i. cond (view-lost p h i) (Some tell.Gone) (cond (shows-finished p h i) (Some tell.HasPresented) None)
 
   -- ---- who asks
@@ -108,12 +117,14 @@ module _ (setup : Setup) where
   watcher-in h draft watch.Status = refl
   watcher-in h draft (watch.Child c) = λ i. option_and_then (λ made. made-lined h made i) (made_of draft c)
 
-  pub watcher-lined : (h : List Entry) (actor : Actor) (carries : List Call) (get : Watch) → watcher_of setup (lined h) actor carries get ≡ watcher_of setup h actor carries get
+  pub watcher-lined : (h : List Entry) (actor : Actor) (carries : List Call) (get : Watch)
+      → watcher_of setup (lined h) actor carries get ≡ watcher_of setup h actor carries get
   watcher-lined h Display carries get = refl
   watcher-lined h (Probe n) carries get = refl
   watcher-lined h (Session s) carries get = λ i. option_and_then (λ draft. watcher-in h draft get i) (result_ok (draft_of setup (calls-lined s h i ++ carries)))
 
-  asked-lined : (watcher : Watcher) (h : List Entry) (e : Entry) (kind : Kind) → asked_in setup watcher (lined h) (but_line e) kind ≡ asked_in setup watcher h e kind
+  asked-lined : (watcher : Watcher) (h : List Entry) (e : Entry) (kind : Kind)
+      → asked_in setup watcher (lined h) (but_line e) kind ≡ asked_in setup watcher h e kind
   asked-lined watcher h e (Get get) = λ i. cond (is_watcher setup watcher (watcher-lined h e.actor e.calls get i)) (Some get) None
   asked-lined watcher h e _ = refl
 
@@ -126,4 +137,5 @@ module _ (setup : Setup) where
   pub watching-lined : (watcher : Watcher) (h : List Entry) → watching setup watcher (lined h) ≡ watching setup watcher h
   watching-lined watcher [] = refl
   watching-lined watcher (before ▹ e) =
-      λ i. settled (open-lined (listener setup watcher) (before ▹ e) i) (told-lined watcher (before ▹ e) i) (asking (asked-lined watcher before e e.kind i) (watching-lined watcher before i))
+      λ i. settled (open-lined (listener setup watcher) (before ▹ e) i) (told-lined watcher (before ▹ e) i)
+      (asking (asked-lined watcher before e e.kind i) (watching-lined watcher before i))

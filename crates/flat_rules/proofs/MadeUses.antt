@@ -1,5 +1,6 @@
 -- A session that is open has a viewport of a pair only where an entry used the pair's viewport end.
-use Rattle.std.proofs.Common.{◌≡◌, ◌∙◌, ℕ, suc, ◌-◌, Bool, true, false, cond, ◌&&◌, ◌==◌, nat_lt, List, [], ◌∷◌, ◌++◌, length, refl, sym, ap, subst, arith, Option, Some, None, Result, Ok, Err}
+use Rattle.std.proofs.Common.{◌≡◌, ◌∙◌, ℕ, suc, ◌-◌, Bool, true, false, cond, ◌&&◌, ◌==◌, nat_lt, List, [], ◌∷◌, ◌++◌, length, refl, sym, ap, subst, arith}
+use Rattle.std.proofs.Common.{Option, Some, None, Result, Ok, Err}
 use Rattle.std.specs.Prelude.{◌||◌, slice_get}
 use Rattle.std.specs.List.{list_all, list_any}
 use Rattle.std.proofs.lemmas.Bool.{and_from, not-true}
@@ -9,7 +10,9 @@ use Rattle.flat_base.specs.declared.errors.Reason.{Reason}
 use Rattle.flat_base.specs.declared.ids.PairNo.{PairNo}
 use Rattle.flat_base.specs.declared.ids.SessionNo.{SessionNo}
 use Rattle.flat_scene.specs.declared.calls.Call.{Call}
-use Rattle.flat_scene.specs.declared.calls.Call.TheVariants.{CreateView, CreateViewport, SetViewportProperties, CreateImage, SetImageSampleRegion, SetImageDestinationSize, SetImageBlendingFunction, SetImageFlip, SetImageOpacity, CreateFilledRect, SetSolidFill}
+use Rattle.flat_scene.specs.declared.calls.Call.TheVariants.{CreateView, CreateViewport, SetViewportProperties, CreateImage, SetImageSampleRegion}
+use Rattle.flat_scene.specs.declared.calls.Call.TheVariants.{SetImageDestinationSize, SetImageBlendingFunction, SetImageFlip, SetImageOpacity, CreateFilledRect}
+use Rattle.flat_scene.specs.declared.calls.Call.TheVariants.{SetSolidFill}
 use Rattle.flat_scene.specs.declared.calls.ViewportProps.{ViewportProps}
 use Rattle.flat_scene.specs.declared.journal.Entry.{Entry}
 use Rattle.flat_scene.specs.declared.journal.Kind.{Kind}
@@ -22,7 +25,8 @@ use Rattle.flat_scene.specs.History.{◌▹◌, own, is_session, is_closed, clos
 use Rattle.flat_scene.specs.Misuse.{misuse}
 use Rattle.flat_base.proofs.lemmas.Tests.{and-left, and-right}
 use Rattle.flat_rules.specs.Ends.{viewport_uses, uses_viewport, is_done}
-use Rattle.flat_rules.specs.Legal.{Legal, LegalEntry, is_link, all_but_last, links_alone, own_call, makes_view, makes_viewport, has_token, refused_token, reply_to}
+use Rattle.flat_rules.specs.Legal.{Legal, LegalEntry, is_link, all_but_last, links_alone, own_call, makes_view, makes_viewport, has_token, refused_token}
+use Rattle.flat_rules.specs.Legal.{reply_to}
 use Rattle.flat_rules.proofs.lemmas.AllOrSome.{all-append}
 use Rattle.flat_rules.proofs.CloseLemmas.{close-refused}
 use Rattle.flat_rules.proofs.FairDrafts.{all-changed-if}
@@ -59,7 +63,8 @@ module _ (o : PairNo → Bool) where
   abbrev AllPass : Draft → Type 0
   AllPass d = list_all made_passes d.contents ≡ true
 
-  one-changed : (d : Draft) (serial : Option ℕ) (f : Made → Made) → ((m : Made) → made_passes m ≡ true → made_passes (f m) ≡ true) → AllPass d → AllPass (record d { contents = changed_if serial f d.contents })
+  one-changed : (d : Draft) (serial : Option ℕ) (f : Made → Made) → ((m : Made) → made_passes m ≡ true → made_passes (f m) ≡ true) → AllPass d
+      → AllPass (record d { contents = changed_if serial f d.contents })
   one-changed d serial f keeps all = all-changed-if made_passes f keeps serial d.contents all
 
   one-more : (d : Draft) (m : Made) → AllPass d → made_passes m ≡ true → list_all made_passes (d.contents ++ m ∷ []) ≡ true
@@ -82,16 +87,20 @@ module _ (o : PairNo → Bool) where
   unless-passes None e d all is = let same : e ≡ d = cc in subst AllPass same all
   unless-passes (Some r) e d all is = cc
 
-  call-keeps : (setup : Setup) (before : Result Draft Reason) (call : Call) → ((d : Draft) → before ≡ Ok d → AllPass d) → call_passes call ≡ true → (d : Draft) → after_call setup before call ≡ Ok d → AllPass d
+  call-keeps : (setup : Setup) (before : Result Draft Reason) (call : Call) → ((d : Draft) → before ≡ Ok d → AllPass d) → call_passes call ≡ true → (d : Draft)
+      → after_call setup before call ≡ Ok d → AllPass d
   call-keeps setup (Err r) call all own d is = cc
   call-keeps setup (Ok e) call all own d is = unless-passes (misuse setup e call) (effect e call) d (effect-passes e call (all e refl) own) is
 
-  calls-keep : (setup : Setup) (before : Result Draft Reason) (cs : List Call) → ((d : Draft) → before ≡ Ok d → AllPass d) → list_all call_passes cs ≡ true → (d : Draft) → after_calls setup before cs ≡ Ok d → AllPass d
+  calls-keep : (setup : Setup) (before : Result Draft Reason) (cs : List Call) → ((d : Draft) → before ≡ Ok d → AllPass d) → list_all call_passes cs ≡ true
+      → (d : Draft) → after_calls setup before cs ≡ Ok d → AllPass d
   calls-keep setup before [] all own d is = all d is
   calls-keep setup before (call ∷ cs) all own d is =
-      calls-keep setup (after_call setup before call) cs (call-keeps setup before call all (and-left (call_passes call) (list_all call_passes cs) own)) (and-right (call_passes call) (list_all call_passes cs) own) d is
+      calls-keep setup (after_call setup before call) cs (call-keeps setup before call all (and-left (call_passes call) (list_all call_passes cs) own))
+      (and-right (call_passes call) (list_all call_passes cs) own) d is
 
-  pub draft-passes : (setup : Setup) (cs : List Call) → list_all call_passes cs ≡ true → (d : Draft) → draft_of setup cs ≡ Ok d → list_all made_passes d.contents ≡ true
+  pub draft-passes : (setup : Setup) (cs : List Call) → list_all call_passes cs ≡ true → (d : Draft) → draft_of setup cs ≡ Ok d
+      → list_all made_passes d.contents ≡ true
   draft-passes setup cs = calls-keep setup (Ok empty_draft) cs (λ d is. let same : empty_draft ≡ d = cc in subst AllPass same refl)
 
   -- ---- calls of an entry
@@ -112,7 +121,8 @@ MayPass t None = Unit {0}
 MayPass t (Some call) = t call ≡ true
 
 -- what all but the last pass, and the last
-all-and-last : (t : Call → Bool) (cs : List Call) (last : Option Call) → slice_get cs (length cs - 1) ≡ last → list_all t (all_but_last cs) ≡ true → MayPass t last → list_all t cs ≡ true
+all-and-last : (t : Call → Bool) (cs : List Call) (last : Option Call) → slice_get cs (length cs - 1) ≡ last → list_all t (all_but_last cs) ≡ true
+    → MayPass t last → list_all t cs ≡ true
 all-and-last t [] last at all one = refl
 all-and-last t (x ∷ []) last at all one = and_from _ _ (subst (MayPass t) (sym at) one) refl
 all-and-last t (x ∷ y ∷ ys) last at all one = by_length (λ h rest. all-and-last t (y ∷ ys) last h rest one) (length (y ∷ ys) == 0) refl all
@@ -120,7 +130,8 @@ all-and-last t (x ∷ y ∷ ys) last at all one = by_length (λ h rest. all-and-
     at_rest : slice_get (y ∷ ys) (length (y ∷ ys) - 1) ≡ last
     at_rest = let next : suc (length (y ∷ ys) - 1) ≡ length (x ∷ y ∷ ys) - 1 = omega arith in ap (slice_get (x ∷ y ∷ ys)) next ∙ at
 
-    by_length : (slice_get (y ∷ ys) (length (y ∷ ys) - 1) ≡ last → list_all t (all_but_last (y ∷ ys)) ≡ true → list_all t (y ∷ ys) ≡ true) → (b : Bool) → (length (y ∷ ys) == 0) ≡ b
+    by_length : (slice_get (y ∷ ys) (length (y ∷ ys) - 1) ≡ last → list_all t (all_but_last (y ∷ ys)) ≡ true → list_all t (y ∷ ys) ≡ true) → (b : Bool)
+        → (length (y ∷ ys) == 0) ≡ b
         → list_all t (cond b [] (x ∷ all_but_last (y ∷ ys))) ≡ true → list_all t (x ∷ y ∷ ys) ≡ true
     by_length later true none h = absurd (let wrong : length (y ∷ ys) ≡ 0 = grind (arith, nat_tests) in omega (arith, wrong))
     by_length later false some h =
@@ -143,7 +154,8 @@ call-more : (before : List Entry) (e : Entry) (call : Call) → call_passes (was
 call-more before e (CreateViewport c q w h inset) passes = used-more before e q passes
 call-more before e _ passes = refl
 
-all-more : (before : List Entry) (e : Entry) (cs : List Call) → list_all (call_passes (was_used before)) cs ≡ true → list_all (call_passes (was_used (before ▹ e))) cs ≡ true
+all-more : (before : List Entry) (e : Entry) (cs : List Call) → list_all (call_passes (was_used before)) cs ≡ true
+    → list_all (call_passes (was_used (before ▹ e))) cs ≡ true
 all-more before e [] all = refl
 all-more before e (call ∷ cs) all =
     and_from _ _ (call-more before e call (and-left (call_passes (was_used before) call) (list_all (call_passes (was_used before)) cs) all))
@@ -164,7 +176,8 @@ last-view o p (Some (CreateView q)) makes = refl
 last-view o p (Some (CreateViewport c q w h inset)) makes = absurd (let h : false ≡ true = makes in cc)
 last-view o p (Some call) makes = absurd (let h : false ≡ true = makes in cc)
 
-last-viewport : (o : PairNo → Bool) (p : PairNo) (props : ViewportProps) (last : Option Call) → o p ≡ true → makes_viewport p props last ≡ true → MayPass (call_passes o) last
+last-viewport : (o : PairNo → Bool) (p : PairNo) (props : ViewportProps) (last : Option Call) → o p ≡ true → makes_viewport p props last ≡ true
+    → MayPass (call_passes o) last
 last-viewport o p props None passes makes = tt
 last-viewport o p props (Some (CreateViewport c q w h inset)) passes makes =
     let same : q.0 ≡ p.0 = grind (arith, common_steps) in
@@ -177,7 +190,8 @@ not-refused false none = absurd (let h : true ≡ false = none in cc)
 
 module _ (setup : Setup) where
   -- the calls of an entry that wasn't refused
-  entry-used : (before : List Entry) (e : Entry) → LegalEntry setup before e → closes e.reply ≡ false → (kind : Kind) → e.kind ≡ kind → links_alone kind e.calls ≡ true
+  entry-used : (before : List Entry) (e : Entry) → LegalEntry setup before e → closes e.reply ≡ false → (kind : Kind) → e.kind ≡ kind
+      → links_alone kind e.calls ≡ true
       → own_call kind (slice_get e.calls (length e.calls - 1)) ≡ true → list_all (call_passes (was_used (before ▹ e))) e.calls ≡ true
   entry-used before e legal fine (View p) is alone own =
       all-and-last (call_passes (was_used (before ▹ e))) e.calls (slice_get e.calls (length e.calls - 1)) refl
@@ -190,12 +204,14 @@ module _ (setup : Setup) where
       (no-links (was_used (before ▹ e)) (all_but_last e.calls) (not-true (list_any is_link (all_but_last e.calls)) alone))
       (last-viewport (was_used (before ▹ e)) p props (slice_get e.calls (length e.calls - 1)) (used-here before e p props is done) own)
   entry-used before e legal fine (Close reason) is alone own =
-      let shut : closes e.reply ≡ true = ap closes (legal.reply ∙ ap (reply_to setup before e.actor e.calls) is) ∙ close-refused setup before e.actor e.calls (Close reason) refl in
+      let shut : closes e.reply ≡ true = ap closes (legal.reply ∙ ap (reply_to setup before e.actor e.calls) is)
+      ∙ close-refused setup before e.actor e.calls (Close reason) refl in
       absurd (let both : true ≡ false = sym shut ∙ fine in cc)
   entry-used before e legal fine _ is alone own = no-links (was_used (before ▹ e)) e.calls (not-true (list_any is_link e.calls) alone)
 
   -- the calls of an open session made viewports only of pairs whose viewport end was used
-  pub calls-used : (s : SessionNo) (history : List Entry) → Legal setup history → is_closed s history ≡ false → list_all (call_passes (was_used history)) (calls s history) ≡ true
+  pub calls-used : (s : SessionNo) (history : List Entry) → Legal setup history → is_closed s history ≡ false
+      → list_all (call_passes (was_used history)) (calls s history) ≡ true
   calls-used s [] legal opened = refl
   calls-used s (before ▹ e) legal opened = by_owner (λ h. calls-used s before legal.0 h) (is_session s e.actor) refl
     where

@@ -22,7 +22,8 @@ use Rattle.flat_scene.specs.declared.journal.Reply.TheVariants.{Done}
 use Rattle.flat_scene.specs.declared.journal.Told.{Told}
 use Rattle.flat_scene.specs.declared.setup.Setup.{Setup}
 use Rattle.flat_scene.specs.Draft.{empty_draft}
-use Rattle.flat_rules.specs.Ends.{views_of, viewports_of, is_done, uses_view, uses_viewport, view_uses, viewport_uses, view_owner, viewport_owner, to_begin, taken_calls, times, releases_viewport}
+use Rattle.flat_rules.specs.Ends.{views_of, viewports_of, is_done, uses_view, uses_viewport, view_uses, viewport_uses, view_owner, viewport_owner, to_begin}
+use Rattle.flat_rules.specs.Ends.{taken_calls, times, releases_viewport}
 use Rattle.flat_scene.specs.Laws.{IsClosedFamily}
 use Rattle.flat_scene.specs.Frames.{taken, takes, credits, is_signalled, is_ready, is_unsquashable, up_to_first, ready_run, ready_prefix, sessions_to}
 use Rattle.flat_scene.specs.History.{◌▹◌, is_closed, is_session, closes, presents, published, Published, calls, is_begin, is_finish}
@@ -77,9 +78,12 @@ run-agree time f g (x ∷ xs) same =
 ready-agree : (time : ℕ) (f g : FenceNo → Bool) (xs : List Published) → seen f xs ≡ seen g xs → ready_prefix time f xs ≡ ready_prefix time g xs
 ready-agree time f g xs same = ap (up_to_first is_unsquashable) (run-agree time f g xs same)
 
-takes-agree : (kind : Kind) (f g : FenceNo → Bool) (is_shut : Bool) (n : ℕ) (xs : List Published) → (is_begin kind ≡ true → seen f xs ≡ seen g xs) → takes kind f is_shut (drop n xs) ≡ takes kind g is_shut (drop n xs)
+takes-agree : (kind : Kind) (f g : FenceNo → Bool) (is_shut : Bool) (n : ℕ) (xs : List Published) → (is_begin kind ≡ true → seen f xs ≡ seen g xs)
+    → takes kind f is_shut (drop n xs) ≡ takes kind g is_shut (drop n xs)
 takes-agree (Begin time) f g is_shut n xs same =
-    let later : seen f (drop n xs) ≡ seen g (drop n xs) = sym (drop-map (λ (present : Published). map f present.args.acquire) n xs) ∙ (ap (drop n) (same refl) ∙ drop-map (λ (present : Published). map g present.args.acquire) n xs) in
+    let later : seen f (drop n xs) ≡ seen g (drop n xs) =
+    sym (drop-map (λ (present : Published). map f present.args.acquire) n xs)
+    ∙ (ap (drop n) (same refl) ∙ drop-map (λ (present : Published). map g present.args.acquire) n xs) in
     ap (λ (ready : List Published). cond is_shut [] ready) (ready-agree time f g (drop n xs) later)
 takes-agree _ f g is_shut n xs same = refl
 
@@ -97,7 +101,15 @@ event-not-own q None a = refl
 own-two : (a b c d e : List Event) → filter is_own_event a ≡ [] → filter is_own_event b ≡ [] → filter is_own_event c ≡ []
     → filter is_own_event (a ++ b ++ c ++ d ++ e) ≡ filter is_own_event d ++ filter is_own_event e
 own-two a b c d e na nb nc =
-    rw (filter-append is_own_event (a ++ b ++ c ++ d) e, filter-append is_own_event (a ++ b ++ c) d, filter-append is_own_event (a ++ b) c, filter-append is_own_event a b, na, nb, nc) refl
+    rw (
+      filter-append is_own_event (a ++ b ++ c ++ d) e,
+      filter-append is_own_event (a ++ b ++ c) d,
+      filter-append is_own_event (a ++ b) c,
+      filter-append is_own_event a b,
+      na,
+      nb,
+      nc,
+    ) refl
 
 token-is-own : (p : PairNo) (es : List Event) → list_any (is_token_back p) es ≡ list_any (is_token_back p) (filter is_own_event es)
 token-is-own p [] = refl
@@ -153,9 +165,11 @@ module _ (setup : Setup) (s : SessionNo) where
   others-viewport p mine _ actor other acts owns = refl
 
   took-quiet : (before : List Entry) (e : Entry) → is_begin e.kind ≡ false → taken setup (before ▹ e) s ≡ taken setup before s
-  took-quiet before e is = rw (takes-none e.kind (is_signalled setup before) (is_closed s before) (drop (taken setup before s) (presents s before)) is) (omega arith)
+  took-quiet before e is = rw (takes-none e.kind (is_signalled setup before) (is_closed s before) (drop (taken setup before s) (presents s before)) is)
+      (omega arith)
 
-  back-quiet : (p : PairNo) (before : List Entry) (e : Entry) → is_finish e.kind ≡ false → list_any (λ sent. is_token_back p sent.event) (posted setup before e) ≡ false
+  back-quiet : (p : PairNo) (before : List Entry) (e : Entry) → is_finish e.kind ≡ false
+      → list_any (λ sent. is_token_back p sent.event) (posted setup before e) ≡ false
   back-quiet p before e is =
       any-sent-none (is_token_back p) (events_to setup before e) (λ t. token-at-finish setup p t before e (rw is refl)) (sessions_to setup.sessions)
 
@@ -204,7 +218,10 @@ module _ (setup : Setup) (s : SessionNo) where
         calls_begin = rw no_begin same.calls_begin;
         calls_begun = rw no_begin same.calls_begun;
         views = λ p mine. rw (others-view p mine e.kind e.actor other legal.1.may.acts (entry-owned setup before e legal.1)) (same.views p mine);
-        tokens = λ p mine. rw (others-viewport p mine e.kind e.actor other legal.1.may.acts (entry-owned setup before e legal.1), back-quiet p before e no_finish) (or-none _ _ (same.tokens p mine));
+        tokens = λ p mine. rw (
+          others-viewport p mine e.kind e.actor other legal.1.may.acts (entry-owned setup before e legal.1),
+          back-quiet p before e no_finish,
+        ) (or-none _ _ (same.tokens p mine));
         results = rw out same.results;
       }
     where
@@ -223,16 +240,21 @@ module _ (setup : Setup) (s : SessionNo) where
   at_finish_of : ℕ → ℕ → List Call → List Call → List Event
   at_finish_of now earlier calls_now calls_earlier =
       cond (nat_lt 0 (now - earlier)) (event.FramePresented (now - earlier) ∷ []) []
-      ++ flat_map (λ p. replicate (times setup (releases_viewport p) (Ok empty_draft) calls_now - times setup (releases_viewport p) (Ok empty_draft) calls_earlier) (event.TokenBack p)) (viewports_of setup s)
+      ++ flat_map (λ p. replicate (times setup (releases_viewport p) (Ok empty_draft) calls_now - times setup (releases_viewport p) (Ok empty_draft)
+      calls_earlier) (event.TokenBack p)) (viewports_of setup s)
 
-  finish-is : (h : List Entry) → at_finish setup h s ≡ at_finish_of (taken setup (to_begin h) s) (taken setup (drop 1 (to_begin h)) s) (taken_calls setup (to_begin h) s) (taken_calls setup (drop 1 (to_begin h)) s)
+  finish-is : (h : List Entry) → at_finish setup h s ≡ at_finish_of (taken setup (to_begin h) s) (taken setup (drop 1 (to_begin h)) s)
+      (taken_calls setup (to_begin h) s) (taken_calls setup (drop 1 (to_begin h)) s)
   unfolding at_finish_of
   finish-is h = refl
 
   finish-same : (h h' : List Entry) → Same h h' → at_finish setup h s ≡ at_finish setup h' s
-  finish-same h h' same = finish-is h ∙ (four at_finish_of _ _ _ _ _ _ _ _ same.took_begin same.took_begun same.calls_begin same.calls_begun ∙ sym (finish-is h'))
+  finish-same h h' same = finish-is h ∙ (four at_finish_of _ _ _ _ _ _ _ _ same.took_begin same.took_begun same.calls_begin same.calls_begun
+      ∙ sym (finish-is h'))
 
-  own-news : (before : List Entry) (e : Entry) → filter is_own_event (news_for setup before e s) ≡ filter is_own_event (cond (is_finish e.kind) (at_finish setup before s) []) ++ filter is_own_event (cond (is_begin e.kind) (at_begin setup before e s) [])
+  own-news : (before : List Entry) (e : Entry) → filter is_own_event (news_for setup before e s)
+      ≡ filter is_own_event (cond (is_finish e.kind) (at_finish setup before s) [])
+      ++ filter is_own_event (cond (is_begin e.kind) (at_begin setup before e s) [])
   own-news before e =
       let layouts : PairNo → List Event = λ q. told_event setup q (layout_of q) before e in
       let statuses : PairNo → List Event = λ q. told_event setup q (status_of q) before e in
@@ -248,27 +270,33 @@ module _ (setup : Setup) (s : SessionNo) where
       told_none : (q : PairNo) (watcher : Watcher) → filter is_own_event (told_event setup q watcher before e) ≡ []
       told_none q watcher = event-not-own q (watching setup watcher before).waits (answer (told setup (before ▹ e) watcher) (watching setup watcher before))
 
-  own-if : (b b' : Bool) (l l' : List Event) → b ≡ b' → filter is_own_event l ≡ filter is_own_event l' → filter is_own_event (cond b [] l) ≡ filter is_own_event (cond b' [] l')
+  own-if : (b b' : Bool) (l l' : List Event) → b ≡ b' → filter is_own_event l ≡ filter is_own_event l'
+      → filter is_own_event (cond b [] l) ≡ filter is_own_event (cond b' [] l')
   own-if true true l l' is same = refl
   own-if false false l l' is same = same
   own-if true false l l' is same = absurd (let h : true ≡ false = is in cc)
   own-if false true l l' is same = absurd (let h : false ≡ true = is in cc)
 
-  present-same : (h h' : List Entry) → Same h h' → (actor : Actor) → is_session s actor ≡ true → reply_to_present setup h actor ≡ reply_to_present setup h' actor
+  present-same : (h h' : List Entry) → Same h h' → (actor : Actor) → is_session s actor ≡ true
+      → reply_to_present setup h actor ≡ reply_to_present setup h' actor
   present-same h h' same (Session t) is =
-      subst (λ (u : SessionNo). reply_to_present setup h (Session u) ≡ reply_to_present setup h' (Session u)) (sym (same-session s t is)) (rw (same.took, same.made) refl)
+      subst (λ (u : SessionNo). reply_to_present setup h (Session u) ≡ reply_to_present setup h' (Session u)) (sym (same-session s t is))
+      (rw (same.took, same.made) refl)
   present-same h h' same Display is = cc
   present-same h h' same (Probe p) is = cc
 
-  own-reply-same : (h h' : List Entry) → Same h h' → (kind : Kind) → has_own_reply kind ≡ true → owns_in_kind setup s kind ≡ true → (actor : Actor) → is_session s actor ≡ true → (carries : List Call)
+  own-reply-same : (h h' : List Entry) → Same h h' → (kind : Kind) → has_own_reply kind ≡ true → owns_in_kind setup s kind ≡ true → (actor : Actor)
+      → is_session s actor ≡ true → (carries : List Call)
       → reply_to setup h actor carries kind ≡ reply_to setup h' actor carries kind
   own-reply-same h h' same (View p) own owns actor is carries = rw (same.views p owns) refl
   own-reply-same h h' same (Viewport p props) own owns actor is carries = rw (same.tokens p owns) refl
   own-reply-same h h' same (Present args) own owns actor is carries = present-same h h' same actor is
   own-reply-same h h' same _ own owns actor is carries = absurd (let h : false ≡ true = own in cc)
 
-  module _ (b b' : List Entry) (e : Entry) (n : ℕ) (r : Reply) (legal : LegalEntry setup b e) (legal' : LegalEntry setup b' (with_reply e n r)) (same : Same b b') (beside : is_beside s e ≡ true)
-      (gets : is_get e.kind ≡ true → e.reply ≡ r) (fences : is_begin e.kind ≡ true → seen (is_signalled setup b) (presents s b) ≡ seen (is_signalled setup b') (presents s b')) where
+  module _ (b b' : List Entry) (e : Entry) (n : ℕ) (r : Reply) (legal : LegalEntry setup b e) (legal' : LegalEntry setup b' (with_reply e n r))
+      (same : Same b b') (beside : is_beside s e ≡ true)
+      (gets : is_get e.kind ≡ true → e.reply ≡ r) (fences : is_begin e.kind ≡ true
+      → seen (is_signalled setup b) (presents s b) ≡ seen (is_signalled setup b') (presents s b')) where
     own-entry : has_own_reply e.kind ≡ true → is_session s e.actor ≡ true
     own-entry own =
         let no_frame : (is_begin e.kind ≡ false) × (is_finish e.kind ≡ false) = own-kind e.kind own in
@@ -284,10 +312,13 @@ module _ (setup : Setup) (s : SessionNo) where
     own-reply-at : (kind : Kind) → e.kind ≡ kind → has_own_reply kind ≡ true → e.reply ≡ r
     own-reply-at kind is own = own-reply (rw is own)
 
-    closes-by : (kind : Kind) → e.kind ≡ kind → closes (reply_to setup b e.actor e.calls kind) ≡ closes (reply_to setup b' e.actor e.calls kind) → closes e.reply ≡ closes r
+    closes-by : (kind : Kind) → e.kind ≡ kind → closes (reply_to setup b e.actor e.calls kind) ≡ closes (reply_to setup b' e.actor e.calls kind)
+        → closes e.reply ≡ closes r
     closes-by kind is h =
-        let one : closes e.reply ≡ closes (reply_to setup b e.actor e.calls kind) = ap closes (legal.reply) ∙ ap (λ (k : Kind). closes (reply_to setup b e.actor e.calls k)) is in
-        let two : closes r ≡ closes (reply_to setup b' e.actor e.calls kind) = ap closes (legal'.reply) ∙ ap (λ (k : Kind). closes (reply_to setup b' e.actor e.calls k)) is in
+        let one : closes e.reply ≡ closes (reply_to setup b e.actor e.calls kind) =
+        ap closes (legal.reply) ∙ ap (λ (k : Kind). closes (reply_to setup b e.actor e.calls k)) is in
+        let two : closes r ≡ closes (reply_to setup b' e.actor e.calls kind) =
+        ap closes (legal'.reply) ∙ ap (λ (k : Kind). closes (reply_to setup b' e.actor e.calls k)) is in
         one ∙ (h ∙ sym two)
 
     closes-same : (kind : Kind) → e.kind ≡ kind → closes e.reply ≡ closes r
@@ -332,14 +363,17 @@ module _ (setup : Setup) (s : SessionNo) where
 
         by_side : (v : Bool) → is_session s e.actor ≡ v → presents s (b ▹ e) ≡ presents s (b' ▹ with_reply e n r)
         by_side true mine =
-            let first : published e.kind e.reply (calls s b ++ e.calls) ≡ published e.kind r (calls s b ++ e.calls) = published-same e.kind refl (calls s b ++ e.calls) in
-            let here : published e.kind e.reply (calls s b ++ e.calls) ≡ published e.kind r (calls s b' ++ e.calls) = first ∙ ap (λ (l : List Call). published e.kind r (l ++ e.calls)) same.carried in
+            let first : published e.kind e.reply (calls s b ++ e.calls) ≡ published e.kind r (calls s b ++ e.calls) =
+            published-same e.kind refl (calls s b ++ e.calls) in
+            let here : published e.kind e.reply (calls s b ++ e.calls) ≡ published e.kind r (calls s b' ++ e.calls) =
+            first ∙ ap (λ (l : List Call). published e.kind r (l ++ e.calls)) same.carried in
             presents-own s b e mine ∙ (joined _ _ _ _ same.made here ∙ sym (presents-own s b' (with_reply e n r) mine))
         by_side false other = presents-other s b e other ∙ (same.made ∙ sym (presents-other s b' (with_reply e n r) other))
 
     step-took : taken setup (b ▹ e) s ≡ taken setup (b' ▹ with_reply e n r) s
     step-took =
-        let now : takes e.kind (is_signalled setup b) (is_closed s b) (drop (taken setup b s) (presents s b)) ≡ takes e.kind (is_signalled setup b') (is_closed s b') (drop (taken setup b' s) (presents s b')) =
+        let now : takes e.kind (is_signalled setup b) (is_closed s b) (drop (taken setup b s) (presents s b))
+        ≡ takes e.kind (is_signalled setup b') (is_closed s b') (drop (taken setup b' s) (presents s b')) =
         rw (same.shut, same.took, same.made)
         (takes-agree e.kind (is_signalled setup b) (is_signalled setup b') (is_closed s b') (taken setup b' s) (presents s b')
         (λ begins. ap (seen (is_signalled setup b)) (sym same.made) ∙ fences begins)) in
@@ -347,10 +381,13 @@ module _ (setup : Setup) (s : SessionNo) where
 
     step-events : own_events setup s b e ≡ own_events setup s b' (with_reply e n r)
     step-events =
-        let finish : cond (is_finish e.kind) (at_finish setup b s) [] ≡ cond (is_finish e.kind) (at_finish setup b' s) [] = ap (λ (l : List Event). cond (is_finish e.kind) l []) (finish-same b b' same) in
+        let finish : cond (is_finish e.kind) (at_finish setup b s) [] ≡ cond (is_finish e.kind) (at_finish setup b' s) [] =
+        ap (λ (l : List Event). cond (is_finish e.kind) l []) (finish-same b b' same) in
         let begin_ : at_begin setup b e s ≡ at_begin setup b' (with_reply e n r) s =
-        same-credits _ _ _ _ _ _ _ _ same.took step-took (credits-same (b ▹ e) (b' ▹ with_reply e n r) step-made step-took) (credits-same b b' same.made same.took) in
-        let begins : cond (is_begin e.kind) (at_begin setup b e s) [] ≡ cond (is_begin e.kind) (at_begin setup b' (with_reply e n r) s) [] = ap (λ (l : List Event). cond (is_begin e.kind) l []) begin_ in
+        same-credits _ _ _ _ _ _ _ _ same.took step-took (credits-same (b ▹ e) (b' ▹ with_reply e n r) step-made step-took)
+        (credits-same b b' same.made same.took) in
+        let begins : cond (is_begin e.kind) (at_begin setup b e s) [] ≡ cond (is_begin e.kind) (at_begin setup b' (with_reply e n r) s) [] =
+        ap (λ (l : List Event). cond (is_begin e.kind) l []) begin_ in
         own-if _ _ _ _ step-shut
         (own-news b e ∙ (joined _ _ _ _ (ap (filter is_own_event) finish) (ap (filter is_own_event) begins) ∙ sym (own-news b' (with_reply e n r))))
       where
@@ -358,14 +395,19 @@ module _ (setup : Setup) (s : SessionNo) where
         joined x x' y y' px py = cc
 
     -- the token of a pair comes back in both
-    step-back : (p : PairNo) → owns_viewport setup s p ≡ true → list_any (λ sent. is_token_back p sent.event) (posted setup b e) ≡ list_any (λ sent. is_token_back p sent.event) (posted setup b' (with_reply e n r))
-    step-back p mine = any-sent-same (is_token_back p) (events_to setup b e) (events_to setup b' (with_reply e n r)) (λ t. by_owner t (owns_viewport setup t p) refl) (sessions_to setup.sessions)
+    step-back : (p : PairNo) → owns_viewport setup s p ≡ true
+        → list_any (λ sent. is_token_back p sent.event) (posted setup b e) ≡ list_any (λ sent. is_token_back p sent.event) (posted setup b' (with_reply e n r))
+    step-back p mine = any-sent-same (is_token_back p) (events_to setup b e) (events_to setup b' (with_reply e n r))
+        (λ t. by_owner t (owns_viewport setup t p) refl) (sessions_to setup.sessions)
       where
-        by_owner : (t : SessionNo) (v : Bool) → owns_viewport setup t p ≡ v → list_any (is_token_back p) (events_to setup b e t) ≡ list_any (is_token_back p) (events_to setup b' (with_reply e n r) t)
+        by_owner : (t : SessionNo) (v : Bool) → owns_viewport setup t p ≡ v
+            → list_any (is_token_back p) (events_to setup b e t) ≡ list_any (is_token_back p) (events_to setup b' (with_reply e n r) t)
         by_owner t true owns =
             let one : s ≡ t = one-viewport (viewport_owner setup p) s t mine owns in
-            subst (λ (u : SessionNo). list_any (is_token_back p) (events_to setup b e u) ≡ list_any (is_token_back p) (events_to setup b' (with_reply e n r) u)) one
-            (token-is-own p (events_to setup b e s) ∙ (ap (list_any (is_token_back p)) step-events ∙ sym (token-is-own p (events_to setup b' (with_reply e n r) s))))
+            subst (λ (u : SessionNo). list_any (is_token_back p) (events_to setup b e u) ≡ list_any (is_token_back p) (events_to setup b' (with_reply e n r) u))
+            one
+            (token-is-own p (events_to setup b e s) ∙ (ap (list_any (is_token_back p)) step-events
+            ∙ sym (token-is-own p (events_to setup b' (with_reply e n r) s))))
         by_owner t false other = token-elsewhere setup p t other b e ∙ sym (token-elsewhere setup p t other b' (with_reply e n r))
 
     used-view : (p : PairNo) (kind : Kind) → e.kind ≡ kind → (uses_view p kind && is_done e.reply) ≡ (uses_view p kind && is_done r)
@@ -395,7 +437,9 @@ module _ (setup : Setup) (s : SessionNo) where
       took_begun = begin_two (is_begin e.kind);
       calls_begin = begin_three (is_begin e.kind);
       calls_begun = begin_four (is_begin e.kind);
-      views = λ p mine. length-if (uses_view p e.kind && is_done e.reply) e (view_uses p b) ∙ (counted _ _ _ _ (used-view p e.kind refl) (same.views p mine) ∙ sym (length-if (uses_view p e.kind && is_done r) (with_reply e n r) (view_uses p b')));
+      views = λ p mine. length-if (uses_view p e.kind && is_done e.reply) e (view_uses p b)
+          ∙ (counted _ _ _ _ (used-view p e.kind refl) (same.views p mine)
+          ∙ sym (length-if (uses_view p e.kind && is_done r) (with_reply e n r) (view_uses p b')));
       tokens = λ p mine. held _ _ _ _ _ _ (used-viewport p e.kind refl) (same.tokens p mine) (step-back p mine);
       results = rw beside (both _ _ _ _ outcome-same same.results);
     }
@@ -412,7 +456,8 @@ module _ (setup : Setup) (s : SessionNo) where
         begin_three true = taken-calls-same (b ▹ e) (b' ▹ with_reply e n r) step-made step-took
         begin_three false = same.calls_begin
 
-        begin_four : (v : Bool) → taken_calls setup (drop 1 (cond v (b ▹ e) (to_begin b))) s ≡ taken_calls setup (drop 1 (cond v (b' ▹ with_reply e n r) (to_begin b'))) s
+        begin_four : (v : Bool) → taken_calls setup (drop 1 (cond v (b ▹ e) (to_begin b))) s
+            ≡ taken_calls setup (drop 1 (cond v (b' ▹ with_reply e n r) (to_begin b'))) s
         begin_four true = taken-calls-same b b' same.made same.took
         begin_four false = same.calls_begun
 
@@ -443,21 +488,26 @@ module _ (setup : Setup) (s : SessionNo) where
   }
   from-none (h' ▹ e') legal' same = by_side (from-none h' legal'.0) (is_beside s e') refl same
     where
-      by_side : (glimpses setup s [] ≡ glimpses setup s h' → Same [] h') → (v : Bool) → is_beside s e' ≡ v → [] ≡ cond v (glimpse setup s h' e' ∷ glimpses setup s h') (glimpses setup s h') → Same [] (h' ▹ e')
+      by_side : (glimpses setup s [] ≡ glimpses setup s h' → Same [] h') → (v : Bool) → is_beside s e' ≡ v
+          → [] ≡ cond v (glimpse setup s h' e' ∷ glimpses setup s h') (glimpses setup s h') → Same [] (h' ▹ e')
       by_side earlier true beside same = cc
       by_side earlier false out same = same-back (h' ▹ e') [] (quiet-left h' e' [] legal' out (same-back [] h' (earlier same)))
 
   -- one more entry of both
-  both-more : (h : List Entry) (e : Entry) → Legal setup (h ▹ e) → (h' : List Entry) (e' : Entry) → Legal setup (h' ▹ e') → is_beside s e ≡ true → glimpse setup s h e ≡ glimpse setup s h' e' → Same h h' → Same (h ▹ e) (h' ▹ e')
+  both-more : (h : List Entry) (e : Entry) → Legal setup (h ▹ e) → (h' : List Entry) (e' : Entry) → Legal setup (h' ▹ e') → is_beside s e ≡ true
+      → glimpse setup s h e ≡ glimpse setup s h' e' → Same h h' → Same (h ▹ e) (h' ▹ e')
   both-more h e legal h' e' legal' beside here same =
       let entry : but_answers e ≡ but_answers e' = ap (λ (g : Glimpse). g.entry) here in
       let actor : e.actor ≡ e'.actor = ap (λ (x : Entry). x.actor) entry in
       let carries : e.calls ≡ e'.calls = ap (λ (x : Entry). x.calls) entry in
       let kind : e.kind ≡ e'.kind = ap (λ (x : Entry). x.kind) entry in
       let answer : cond (is_get e.kind) e.reply Done ≡ cond (is_get e'.kind) e'.reply Done = ap (λ (x : Entry). x.reply) entry in
-      let answer_here : cond (is_get e.kind) e.reply Done ≡ cond (is_get e.kind) e'.reply Done = answer ∙ ap (λ (k : Kind). cond (is_get k) e'.reply Done) (sym kind) in
-      let fences : cond (is_begin e.kind) (seen (is_signalled setup h) (presents s h)) [] ≡ cond (is_begin e'.kind) (seen (is_signalled setup h') (presents s h')) [] = ap (λ (g : Glimpse). g.signalled) here in
-      let fences_here : cond (is_begin e.kind) (seen (is_signalled setup h) (presents s h)) [] ≡ cond (is_begin e.kind) (seen (is_signalled setup h') (presents s h')) [] =
+      let answer_here : cond (is_get e.kind) e.reply Done ≡ cond (is_get e.kind) e'.reply Done =
+      answer ∙ ap (λ (k : Kind). cond (is_get k) e'.reply Done) (sym kind) in
+      let fences : cond (is_begin e.kind) (seen (is_signalled setup h) (presents s h)) []
+      ≡ cond (is_begin e'.kind) (seen (is_signalled setup h') (presents s h')) [] = ap (λ (g : Glimpse). g.signalled) here in
+      let fences_here : cond (is_begin e.kind) (seen (is_signalled setup h) (presents s h)) []
+      ≡ cond (is_begin e.kind) (seen (is_signalled setup h') (presents s h')) [] =
       fences ∙ ap (λ (k : Kind). cond (is_begin k) (seen (is_signalled setup h') (presents s h')) []) (sym kind) in
       let is : with_reply e e'.line e'.reply ≡ e' = same-entry (with_reply e e'.line e'.reply) e' actor refl carries kind refl in
       subst (λ (x : Entry). Same (h ▹ e) (h' ▹ x)) is
@@ -474,7 +524,8 @@ module _ (setup : Setup) (s : SessionNo) where
       get_fences true is same = same
       get_fences false is same = cc
 
-  from-one : (h : List Entry) (e : Entry) → Legal setup (h ▹ e) → is_beside s e ≡ true → ((h' : List Entry) → Legal setup h' → glimpses setup s h ≡ glimpses setup s h' → Same h h')
+  from-one : (h : List Entry) (e : Entry) → Legal setup (h ▹ e) → is_beside s e ≡ true
+      → ((h' : List Entry) → Legal setup h' → glimpses setup s h ≡ glimpses setup s h' → Same h h')
       → (h' : List Entry) → Legal setup h' → (glimpse setup s h e ∷ glimpses setup s h) ≡ glimpses setup s h' → Same (h ▹ e) h'
   from-one h e legal beside earlier [] legal' same = cc
   from-one h e legal beside earlier (h' ▹ e') legal' same = by_side (from-one h e legal beside earlier h' legal'.0) (is_beside s e') refl same

@@ -1,10 +1,13 @@
 -- What a draft may refuse is what it refuses of some line.
-use Rattle.std.proofs.Common.{◌≡◌, ℕ, suc, ◌+◌, ◌-◌, ◌<◌, Bool, true, false, cond, not, ◌&&◌, ◌||◌, List, [], ◌∷◌, ◌++◌, refl, sym, ap, ◌∙◌, arith, Option, Some, None, inl, inr}
+use Rattle.std.proofs.Common.{◌≡◌, ℕ, suc, ◌+◌, ◌-◌, ◌<◌, Bool, true, false, cond, not, ◌&&◌, ◌||◌, List, [], ◌∷◌, ◌++◌, refl, sym, ap, ◌∙◌, arith, Option}
+use Rattle.std.proofs.Common.{Some, None, inl, inr}
 use Rattle.std.specs.Prelude.{◌==◌, unwrap_or, is_none, replicate, slice_get}
 use Rattle.std.specs.List.{list_any}
 use Rattle.std.proofs.lemmas.Bool.Decides.{nat_tests}
 use Rattle.flat_base.specs.declared.errors.Reason.{Reason}
-use Rattle.flat_base.specs.declared.errors.Reason.TheVariants.{ZeroId, IdInUse, UnknownTransform, UnknownContent, WrongContent, AlreadyChild, NotChild, BadScale, BadOpacity, BadRect, BadSize, BadBuffer, TooManyRegions, HasView, NoView, TokenNotHeld, Cycle, TreeTooLarge, ViewportTwice, TooManyNamed, TooManyChildren, TooManyFences}
+use Rattle.flat_base.specs.declared.errors.Reason.TheVariants.{ZeroId, IdInUse, UnknownTransform, UnknownContent, WrongContent, AlreadyChild, NotChild}
+use Rattle.flat_base.specs.declared.errors.Reason.TheVariants.{BadScale, BadOpacity, BadRect, BadSize, BadBuffer, TooManyRegions, HasView, NoView, TokenNotHeld}
+use Rattle.flat_base.specs.declared.errors.Reason.TheVariants.{Cycle, TreeTooLarge, ViewportTwice, TooManyNamed, TooManyChildren, TooManyFences}
 use Rattle.flat_base.specs.declared.ids.ContentId.{ContentId}
 use Rattle.flat_base.specs.Number.{reason_number}
 use Rattle.flat_scene.specs.declared.calls.PresentArgs.{PresentArgs}
@@ -22,7 +25,8 @@ use Rattle.flat_rules.proofs.lemmas.Refusals.{present-refused, get-refused}
 
 abbrev reasons : List Reason
 reasons =
-    ZeroId ∷ IdInUse ∷ UnknownTransform ∷ UnknownContent ∷ WrongContent ∷ AlreadyChild ∷ NotChild ∷ BadScale ∷ BadOpacity ∷ BadRect ∷ BadSize ∷ BadBuffer ∷ TooManyRegions ∷ HasView
+    ZeroId ∷ IdInUse ∷ UnknownTransform ∷ UnknownContent ∷ WrongContent ∷ AlreadyChild ∷ NotChild ∷ BadScale ∷ BadOpacity ∷ BadRect ∷ BadSize ∷ BadBuffer
+    ∷ TooManyRegions ∷ HasView
     ∷ NoView ∷ TokenNotHeld ∷ Cycle ∷ TreeTooLarge ∷ ViewportTwice ∷ TooManyNamed ∷ TooManyChildren ∷ TooManyFences ∷ []
 
 told : (reason : Reason) → slice_get reasons (reason_number reason - 1) ≡ Some reason
@@ -54,12 +58,14 @@ same-number a b is = grind (arith, nat_tests)
 
 one-reason : (a b : Reason) → same_reason a b ≡ true → a ≡ b
 one-reason a b is =
-    let both : ◌≡◌ {A = Option Reason} (Some a) (Some b) = sym (told a) ∙ ap (λ (n : ℕ). slice_get reasons (n - 1)) (same-number (reason_number a) (reason_number b) is) ∙ told b in
+    let both : ◌≡◌ {A = Option Reason} (Some a) (Some b) =
+    sym (told a) ∙ ap (λ (n : ℕ). slice_get reasons (n - 1)) (same-number (reason_number a) (reason_number b) is) ∙ told b in
     cc
 
 -- ---- presents
 
-or-last : (b : Bool) (first last : Reason) (more less : Option Reason) → more ≡ Some (unwrap_or less last) → cond b (Some first) more ≡ Some (unwrap_or (cond b (Some first) less) last)
+or-last : (b : Bool) (first last : Reason) (more less : Option Reason) → more ≡ Some (unwrap_or less last)
+    → cond b (Some first) more ≡ Some (unwrap_or (cond b (Some first) less) last)
 or-last true first last more less is = refl
 or-last false first last more less is = is
 
@@ -72,7 +78,8 @@ abbrev too_many : PresentArgs
 too_many = record { time = 0; acquire = replicate 17 (record { 0 = 0 }); release = []; unsquashable = false }
 
 some-present : (draft : Draft) (reason : Reason) → may_refuse_present draft reason ≡ true → first_reason (present_tests draft too_many) ≡ Some reason
-some-present draft reason is = with-last (tree_tests draft) TooManyFences ∙ ap Some (one-reason (unwrap_or (first_reason (tree_tests draft)) TooManyFences) reason is)
+some-present draft reason is = with-last (tree_tests draft) TooManyFences
+    ∙ ap Some (one-reason (unwrap_or (first_reason (tree_tests draft)) TooManyFences) reason is)
 
 -- ---- gets
 
@@ -95,13 +102,15 @@ positive : (names : List Name) → 0 < above names
 positive [] = omega arith
 positive (name ∷ names) = omega arith
 
-unknown-is : (zero unknown : Bool) (more : Option Reason) → zero ≡ false → unknown ≡ true → cond zero (Some ZeroId) (cond unknown (Some UnknownContent) more) ≡ Some UnknownContent
+unknown-is : (zero unknown : Bool) (more : Option Reason) → zero ≡ false → unknown ≡ true
+    → cond zero (Some ZeroId) (cond unknown (Some UnknownContent) more) ≡ Some UnknownContent
 unknown-is zero unknown more other there = rw (other, there) refl
 
 unknown : (draft : Draft) → first_reason (get_tests draft (watch.Child (record { 0 = above draft.content_names }))) ≡ Some UnknownContent
 unknown draft =
     let some : 0 < above draft.content_names = positive draft.content_names in
-    unknown-is (above draft.content_names == 0) _ _ (grind (arith, nat_tests)) (ap is_none (below-none draft.content_names (above draft.content_names) (omega arith)))
+    unknown-is (above draft.content_names == 0) _ _ (grind (arith, nat_tests))
+    (ap is_none (below-none draft.content_names (above draft.content_names) (omega arith)))
 
 -- an id of a list whose test holds
 abbrev Named : (ℕ → Bool) → List Name → Type 0
@@ -114,7 +123,8 @@ named-later : (b : Bool) (serial : ℕ) (more : Option ℕ) → is_none more ≡
 named-later true serial more there = refl
 named-later false serial more there = there
 
-pick-named : (test : ℕ → Bool) (name : Name) (names : List Name) (b : Bool) → test name.id ≡ b → (list_any (λ other. test other.id) names ≡ true → Named test names)
+pick-named : (test : ℕ → Bool) (name : Name) (names : List Name) (b : Bool) → test name.id ≡ b
+    → (list_any (λ other. test other.id) names ≡ true → Named test names)
     → (b || list_any (λ other. test other.id) names) ≡ true → Named test (name ∷ names)
 pick-named test name names true passes later is = (name.id, named-itself names name, passes)
 pick-named test name names false fails later is =
@@ -142,7 +152,8 @@ some-get draft WrongContent is =
 some-get draft NoView is = (watch.Layout, let none : is_none draft.view ≡ true = is in rw none refl)
 some-get draft _ is = absurd (cc)
 
-some-line : (draft : Draft) (reason : Reason) (b : Bool) → may_refuse_present draft reason ≡ b → (b || may_refuse_get draft reason) ≡ true → RefusesSome draft reason
+some-line : (draft : Draft) (reason : Reason) (b : Bool) → may_refuse_present draft reason ≡ b → (b || may_refuse_get draft reason) ≡ true
+    → RefusesSome draft reason
 some-line draft reason true present is = inl (too_many, some-present draft reason present)
 some-line draft reason false present is = inr (some-get draft reason is)
 

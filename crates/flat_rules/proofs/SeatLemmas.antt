@@ -1,5 +1,6 @@
 -- A seat's own entries: found by its number, and what they tell.
-use Rattle.std.proofs.Common.{◌≡◌, ◌∙◌, ◌≤◌, ◌<◌, Bool, true, false, cond, not, ◌&&◌, ◌||◌, ◌==◌, List, [], ◌∷◌, ◌++◌, filter, reverse, append-nil, refl, sym, ap, subst, arith}
+use Rattle.std.proofs.Common.{◌≡◌, ◌∙◌, ◌≤◌, ◌<◌, Bool, true, false, cond, not, ◌&&◌, ◌||◌, ◌==◌, List, [], ◌∷◌, ◌++◌, filter, reverse, append-nil, refl, sym}
+use Rattle.std.proofs.Common.{ap, subst, arith}
 use Rattle.std.proofs.lemmas.Bool.Decides.{nat_tests}
 use Rattle.std.proofs.lemmas.Grind.{reverse_onto}
 use Rattle.std.proofs.lemmas.List.{reverse-append}
@@ -21,12 +22,14 @@ use Rattle.flat_scene.proofs.lemmas.Steps.{own-kept}
 use Rattle.flat_rules.proofs.lemmas.FrameKinds.{not-begin, not-finish}
 use Rattle.flat_rules.specs.Ends.{to_begin}
 use Rattle.flat_rules.specs.Legal.{Legal, has_draft, time_of, may_act, session_may}
-use Rattle.flat_rules.specs.Seats.{of_display, SeatsTellActors, SessionsKnowThemselves, KnowsFrames, DisplayKnowsFrames, BeginStays, JournalsKeepSeats, BeginIsSeen}
+use Rattle.flat_rules.specs.Seats.{of_display, SeatsTellActors, SessionsKnowThemselves, KnowsFrames, DisplayKnowsFrames, BeginStays, JournalsKeepSeats}
+use Rattle.flat_rules.specs.Seats.{BeginIsSeen}
 
 -- ---- numbers
 
 -- filters by tests that agree on the entries of a legal history
-filter-legal : (setup : Setup) (f g : Entry → Bool) → ((e : Entry) → may_act setup e.kind e.actor ≡ true → f e ≡ g e) → (history : List Entry) → Legal setup history → filter f history ≡ filter g history
+filter-legal : (setup : Setup) (f g : Entry → Bool) → ((e : Entry) → may_act setup e.kind e.actor ≡ true → f e ≡ g e) → (history : List Entry)
+    → Legal setup history → filter f history ≡ filter g history
 filter-legal setup f g same [] legal = refl
 filter-legal setup f g same (before ▹ e) legal =
     let one : f e ≡ g e = same e legal.1.may.acts in
@@ -39,10 +42,12 @@ module _ (setup : Setup) (few : setup.sessions ≤ SESSIONS_MAX) where
 
   display-seat : (kind : Kind) (actor : Actor) → may_act setup kind actor ≡ true → is_display actor ≡ (seat_number actor == 0)
   display-seat kind Display acts = refl
-  display-seat kind (Session t) acts = let some : 0 < t.0 = (session-number t (and-right (session_may kind) (is_declared setup t) acts)).0 in grind (arith, nat_tests)
+  display-seat kind (Session t) acts = let some : 0 < t.0 =
+      (session-number t (and-right (session_may kind) (is_declared setup t) acts)).0 in grind (arith, nat_tests)
   display-seat kind (Probe p) acts = absurd (let h : false ≡ true = acts in cc)
 
-  session-seat : (s : SessionNo) → is_declared setup s ≡ true → (kind : Kind) (actor : Actor) → may_act setup kind actor ≡ true → is_session s actor ≡ (seat_number actor == s.0)
+  session-seat : (s : SessionNo) → is_declared setup s ≡ true → (kind : Kind) (actor : Actor) → may_act setup kind actor ≡ true
+      → is_session s actor ≡ (seat_number actor == s.0)
   session-seat s declared kind Display acts = let some : 0 < s.0 = (session-number s declared).0 in grind (arith, nat_tests)
   session-seat s declared kind (Session t) acts = refl
   session-seat s declared kind (Probe p) acts = absurd (let h : false ≡ true = acts in cc)
@@ -50,7 +55,8 @@ module _ (setup : Setup) (few : setup.sessions ≤ SESSIONS_MAX) where
 pub seats-tell-actors : SeatsTellActors
 seats-tell-actors setup few history legal = record {
   display = filter-legal setup (λ e. is_display e.actor) (λ e. seat_number e.actor == 0) (λ e acts. display-seat setup few e.kind e.actor acts) history legal;
-  sessions = λ s declared. filter-legal setup (λ e. is_session s e.actor) (λ e. seat_number e.actor == s.0) (λ e acts. session-seat setup few s declared e.kind e.actor acts) history legal;
+  sessions = λ s declared. filter-legal setup (λ e. is_session s e.actor) (λ e. seat_number e.actor == s.0)
+      (λ e acts. session-seat setup few s declared e.kind e.actor acts) history legal;
 }
 
 -- ---- sessions
@@ -58,7 +64,8 @@ seats-tell-actors setup few history legal = record {
 own-twice : (s : SessionNo) (history : List Entry) → own s (own s history) ≡ own s history
 own-twice s history = own-kept s (λ e. is_session s e.actor) (λ e mine. mine) history
 
-drafted-same : (setup : Setup) (history : List Entry) (s : SessionNo) (carries : List Call) (kind : Kind) → has_draft setup history (Session s) carries kind ≡ has_draft setup (own s history) (Session s) carries kind
+drafted-same : (setup : Setup) (history : List Entry) (s : SessionNo) (carries : List Call) (kind : Kind)
+    → has_draft setup history (Session s) carries kind ≡ has_draft setup (own s history) (Session s) carries kind
 drafted-same setup history s carries (Close reason) = rw (own-twice s history) refl
 drafted-same setup history s carries _ = rw (own-twice s history) refl
 
@@ -103,8 +110,10 @@ pub begin-stays : BeginStays
 begin-stays setup [] before legal none = refl
 begin-stays setup (later ▹ entry) before legal none = by_whose (λ rest. begin-stays setup later before legal.0 rest) (whose setup entry legal.1.may.acts)
   where
-    by_whose : (of_display later ≡ [] → to_begin (later ++ before) ≡ to_begin before) → WhoseEntry entry → to_begin ((later ▹ entry) ++ before) ≡ to_begin before
-    by_whose earlier (ours is) = absurd (let both : entry ∷ of_display later ≡ [] = sym (ap (λ b. cond b (entry ∷ of_display later) (of_display later)) is) ∙ none in cc)
+    by_whose : (of_display later ≡ [] → to_begin (later ++ before) ≡ to_begin before) → WhoseEntry entry
+        → to_begin ((later ▹ entry) ++ before) ≡ to_begin before
+    by_whose earlier (ours is) = absurd (let both : entry ∷ of_display later ≡ [] = sym (ap (λ b. cond b (entry ∷ of_display later) (of_display later)) is)
+        ∙ none in cc)
     by_whose earlier (theirs is begins finishes) =
         let rest : of_display later ≡ [] = sym (ap (λ b. cond b (entry ∷ of_display later) (of_display later)) is) ∙ none in
         ap (λ b. cond b ((later ++ before) ▹ entry) (to_begin (later ++ before))) begins ∙ earlier rest
@@ -122,7 +131,8 @@ module _ {A : Type 0} where
   filter-reverse : (p : A → Bool) (xs : List A) → filter p (reverse xs) ≡ reverse (filter p xs)
   filter-reverse p [] = refl
   filter-reverse p (x ∷ xs) =
-      ap (filter p) (reverse_onto xs x []) ∙ filter-append p (reverse xs) (x ∷ []) ∙ ap (λ (l : List A). l ++ filter p (x ∷ [])) (filter-reverse p xs) ∙ filter-one p x xs
+      ap (filter p) (reverse_onto xs x []) ∙ filter-append p (reverse xs) (x ∷ []) ∙ ap (λ (l : List A). l ++ filter p (x ∷ [])) (filter-reverse p xs)
+      ∙ filter-one p x xs
 
 pub journals-keep-seats : JournalsKeepSeats
 journals-keep-seats seat entries = filter-reverse (λ e. seat_number e.actor == seat) entries
@@ -131,4 +141,5 @@ pub begin-is-seen : BeginIsSeen
 begin-is-seen setup seen rest legal none =
     let parts : history_of (seen ++ rest) ≡ history_of rest ++ history_of seen = reverse-append seen rest in
     let L : List Entry → Type 0 = Legal setup in
-    ap to_begin parts ∙ begin-stays setup (history_of rest) (history_of seen) (subst L parts legal) (filter-reverse (λ e. is_display e.actor) rest ∙ ap history_of none)
+    ap to_begin parts ∙ begin-stays setup (history_of rest) (history_of seen) (subst L parts legal)
+    (filter-reverse (λ e. is_display e.actor) rest ∙ ap history_of none)

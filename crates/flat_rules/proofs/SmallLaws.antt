@@ -31,11 +31,13 @@ session-is-its-seat = refl
 
 -- ---- what is left without replies and lines
 
-without-replies : map but_reply (of_seat 2 ([] ▹ by (Session (s 2)) 9 [] (kind.Get watch.Layout) reply.Held)) ≡ ([] ▹ by (Session (s 2)) 0 [] (kind.Get watch.Layout) reply.Done)
+without-replies : map but_reply (of_seat 2 ([] ▹ by (Session (s 2)) 9 [] (kind.Get watch.Layout) reply.Held))
+    ≡ ([] ▹ by (Session (s 2)) 0 [] (kind.Get watch.Layout) reply.Done)
 without-replies = refl
 
 own-moments : family_moments home (λ t. false) (s 1) run
-    ≡ (record { entry = by Display 0 [] kind.Finish reply.Done; events = event.FramePresented 1 ∷ [] }) ∷ (record { entry = by Display 0 [] (kind.Begin 1000) reply.Done; events = event.Credits 5 ∷ [] }) ∷ []
+    ≡ (record { entry = by Display 0 [] kind.Finish reply.Done; events = event.FramePresented 1 ∷ [] })
+    ∷ (record { entry = by Display 0 [] (kind.Begin 1000) reply.Done; events = event.Credits 5 ∷ [] }) ∷ []
 own-moments = refl
 
 -- ---- gets
@@ -52,7 +54,8 @@ a_view = [] ▹ by (Session (s 1)) 10 ((call.CreateView (p 0)) ∷ []) (kind.Vie
 
 abbrev a_viewport : List Entry
 a_viewport =
-    a_view ▹ by (Session (s 1)) 11 ((call.CreateViewport (c 1) (p 1) 60 40 (record { top = 0; right = 0; bottom = 0; left = 0 })) ∷ []) (kind.Viewport (p 1) (record { w = 60; h = 40; inset = record { top = 0; right = 0; bottom = 0; left = 0 } })) reply.Done
+    a_view ▹ by (Session (s 1)) 11 ((call.CreateViewport (c 1) (p 1) 60 40 (record { top = 0; right = 0; bottom = 0; left = 0 })) ∷ [])
+    (kind.Viewport (p 1) (record { w = 60; h = 40; inset = record { top = 0; right = 0; bottom = 0; left = 0 } })) reply.Done
 
 no-news-at-once : first_news shop (layout_of (p 1)) None at_get [] ≡ None
 no-news-at-once = refl

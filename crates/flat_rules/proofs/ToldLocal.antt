@@ -12,7 +12,8 @@ use Rattle.flat_scene.specs.declared.journal.Kind.{Kind}
 use Rattle.flat_scene.specs.declared.journal.Kind.TheVariants.{View, Viewport, Begin, Finish, Dpr}
 use Rattle.flat_scene.specs.declared.setup.Setup.{Setup}
 use Rattle.flat_scene.specs.Draft.{Draft}
-use Rattle.flat_rules.specs.Ends.{to_begin, to_finished, view_uses, viewport_uses, uses_view, uses_viewport, view_owner, viewport_owner, taken_calls, has_ended, loses, is_viewport_lost, is_view_lost, clears_viewport, ends_view}
+use Rattle.flat_rules.specs.Ends.{to_begin, to_finished, view_uses, viewport_uses, uses_view, uses_viewport, view_owner, viewport_owner, taken_calls, has_ended}
+use Rattle.flat_rules.specs.Ends.{loses, is_viewport_lost, is_view_lost, clears_viewport, ends_view}
 use Rattle.flat_scene.specs.Family.{only, is_kept, keeps}
 use Rattle.flat_scene.specs.Laws.{IsClosedFamily}
 use Rattle.flat_scene.specs.Frames.{taken, ratio, ratio_set}
@@ -20,7 +21,8 @@ use Rattle.flat_scene.specs.History.{◌▹◌, is_begin, is_finish, is_session}
 use Rattle.flat_rules.specs.Legal.{Legal, may_act, owns_in_kind, owns_view, owns_viewport}
 use Rattle.flat_rules.specs.Shown.{shown_view, is_pair, is_connected}
 use Rattle.flat_rules.specs.Local.{pair_watched}
-use Rattle.flat_rules.specs.Watch.{Watcher, layout_of, status_of, child_of, told, shows_view, is_connected_by, are_joined, is_used, props_seen, props_told, ratio_told}
+use Rattle.flat_rules.specs.Watch.{Watcher, layout_of, status_of, child_of, told, shows_view, is_connected_by, are_joined, is_used, props_seen, props_told}
+use Rattle.flat_rules.specs.Watch.{ratio_told}
 use Rattle.flat_rules.proofs.FramesLocal.{took-only}
 use Rattle.flat_rules.proofs.lemmas.Locality.{own-only, entry-owned, same-number, session-of}
 use Rattle.flat_rules.proofs.ShownLocal.{shown-only, connected-only}
@@ -46,7 +48,8 @@ module _ (setup : Setup) (of_family : SessionNo → Bool) (closed : IsClosedFami
       by_kind false earlier = earlier
 
   -- an entry that is dropped begins and ends no frame
-  pub no-frame : (kind : Kind) (actor : Actor) → keeps of_family kind actor ≡ false → may_act setup kind actor ≡ true → (is_begin kind ≡ false) × (is_finish kind ≡ false)
+  pub no-frame : (kind : Kind) (actor : Actor) → keeps of_family kind actor ≡ false → may_act setup kind actor ≡ true
+      → (is_begin kind ≡ false) × (is_finish kind ≡ false)
   no-frame (Begin time) Display out acts = absurd (let h : true ≡ false = out in cc)
   no-frame (Begin time) (Session t) out acts = absurd (let h : false ≡ true = acts in cc)
   no-frame (Begin time) (Probe p) out acts = absurd (let h : false ≡ true = acts in cc)
@@ -76,7 +79,8 @@ module _ (setup : Setup) (of_family : SessionNo → Bool) (closed : IsClosedFami
   finished-only [] legal = refl
   finished-only (before ▹ e) legal = by_side (finished-only before legal.0) (is_kept of_family e) refl (is_finish e.kind) refl
     where
-      by_side : to_finished (only of_family before) ≡ only of_family (to_finished before) → (k : Bool) → is_kept of_family e ≡ k → (b : Bool) → is_finish e.kind ≡ b
+      by_side : to_finished (only of_family before) ≡ only of_family (to_finished before) → (k : Bool) → is_kept of_family e ≡ k → (b : Bool)
+          → is_finish e.kind ≡ b
           → to_finished (only of_family (before ▹ e)) ≡ only of_family (to_finished (before ▹ e))
       by_side earlier true kept true ends = rw (kept, ends) (begin-only before legal.0)
       by_side earlier true kept false other = rw (kept, other) earlier
@@ -106,7 +110,8 @@ module _ (setup : Setup) (of_family : SessionNo → Bool) (closed : IsClosedFami
   views-only p pair [] legal = refl
   views-only p pair (before ▹ e) legal = by_side (views-only p pair before legal.0) (is_kept of_family e) refl
     where
-      by_side : view_uses p (only of_family before) ≡ view_uses p before → (k : Bool) → is_kept of_family e ≡ k → view_uses p (only of_family (before ▹ e)) ≡ view_uses p (before ▹ e)
+      by_side : view_uses p (only of_family before) ≡ view_uses p before → (k : Bool) → is_kept of_family e ≡ k
+          → view_uses p (only of_family (before ▹ e)) ≡ view_uses p (before ▹ e)
       by_side earlier true kept = rw (kept, earlier) refl
       by_side earlier false out = rw (out, no-view p pair e.kind e.actor out legal.1.may.acts (entry-owned setup before e legal.1)) earlier
 
@@ -122,11 +127,13 @@ module _ (setup : Setup) (of_family : SessionNo → Bool) (closed : IsClosedFami
       let both : true ≡ false = sym inside ∙ out in cc)
   no-viewport p pair _ actor out acts owns = refl
 
-  pub viewports-only : (p : PairNo) → IsFamilyPair p → (history : List Entry) → Legal setup history → viewport_uses p (only of_family history) ≡ viewport_uses p history
+  pub viewports-only : (p : PairNo) → IsFamilyPair p → (history : List Entry) → Legal setup history
+      → viewport_uses p (only of_family history) ≡ viewport_uses p history
   viewports-only p pair [] legal = refl
   viewports-only p pair (before ▹ e) legal = by_side (viewports-only p pair before legal.0) (is_kept of_family e) refl
     where
-      by_side : viewport_uses p (only of_family before) ≡ viewport_uses p before → (k : Bool) → is_kept of_family e ≡ k → viewport_uses p (only of_family (before ▹ e)) ≡ viewport_uses p (before ▹ e)
+      by_side : viewport_uses p (only of_family before) ≡ viewport_uses p before → (k : Bool) → is_kept of_family e ≡ k
+          → viewport_uses p (only of_family (before ▹ e)) ≡ viewport_uses p (before ▹ e)
       by_side earlier true kept = rw (kept, earlier) refl
       by_side earlier false out = rw (out, no-viewport p pair e.kind e.actor out legal.1.may.acts (entry-owned setup before e legal.1)) earlier
 
@@ -135,7 +142,8 @@ module _ (setup : Setup) (of_family : SessionNo → Bool) (closed : IsClosedFami
   ratio-only [] legal = refl
   ratio-only (before ▹ e) legal = by_side (ratio-only before legal.0) (is_kept of_family e) refl
     where
-      by_side : ratio setup (only of_family before) ≡ ratio setup before → (k : Bool) → is_kept of_family e ≡ k → ratio setup (only of_family (before ▹ e)) ≡ ratio setup (before ▹ e)
+      by_side : ratio setup (only of_family before) ≡ ratio setup before → (k : Bool) → is_kept of_family e ≡ k
+          → ratio setup (only of_family (before ▹ e)) ≡ ratio setup (before ▹ e)
       by_side earlier true kept = rw (kept, earlier) refl
       by_side earlier false out = rw (out, no-ratio e.kind e.actor out legal.1.may.acts) earlier
 
@@ -144,12 +152,14 @@ module _ (setup : Setup) (of_family : SessionNo → Bool) (closed : IsClosedFami
 
   -- ---- what is lost
 
-  pub ended-only : (test : Draft → Call → Bool) (history : List Entry) → Legal setup history → (s : SessionNo) → of_family s ≡ true → has_ended setup test (only of_family history) s ≡ has_ended setup test history s
+  pub ended-only : (test : Draft → Call → Bool) (history : List Entry) → Legal setup history → (s : SessionNo) → of_family s ≡ true
+      → has_ended setup test (only of_family history) s ≡ has_ended setup test history s
   ended-only test history legal s mine =
       let took : taken setup (only of_family history) s ≡ taken setup history s = took-only setup of_family closed history legal s mine in
       rw (own-only setup of_family s mine history, took) refl
 
-  pub taken-calls-only : (history : List Entry) → Legal setup history → (s : SessionNo) → of_family s ≡ true → taken_calls setup (only of_family history) s ≡ taken_calls setup history s
+  pub taken-calls-only : (history : List Entry) → Legal setup history → (s : SessionNo) → of_family s ≡ true
+      → taken_calls setup (only of_family history) s ≡ taken_calls setup history s
   taken-calls-only history legal s mine =
       let took : taken setup (only of_family history) s ≡ taken setup history s = took-only setup of_family closed history legal s mine in
       rw (own-only setup of_family s mine history, took) refl
@@ -161,7 +171,8 @@ module _ (setup : Setup) (of_family : SessionNo → Bool) (closed : IsClosedFami
   pub viewport-in : (p : PairNo) → IsFamilyPair p → (v : SessionNo) → viewport_owner setup p ≡ Some (Session v) → of_family v ≡ true
   viewport-in p pair v is = pair.viewport v (rw is (same-number v.0))
 
-  pub lost-only : (test : Draft → Call → Bool) (history : List Entry) → Legal setup history → (owner : Option Actor) → ((v : SessionNo) → owner ≡ Some (Session v) → of_family v ≡ true)
+  pub lost-only : (test : Draft → Call → Bool) (history : List Entry) → Legal setup history → (owner : Option Actor)
+      → ((v : SessionNo) → owner ≡ Some (Session v) → of_family v ≡ true)
       → loses setup test (only of_family history) owner ≡ loses setup test history owner
   lost-only test history legal None inside = refl
   lost-only test history legal (Some Display) inside = refl
@@ -169,24 +180,31 @@ module _ (setup : Setup) (of_family : SessionNo → Bool) (closed : IsClosedFami
   lost-only test history legal (Some (Session v)) inside = ended-only test history legal v (inside v refl)
 
   -- what was lost at the last finished frame
-  pub viewport-lost-only : (p : PairNo) → IsFamilyPair p → (history : List Entry) → Legal setup history → is_viewport_lost setup (to_finished (only of_family history)) p ≡ is_viewport_lost setup (to_finished history) p
+  pub viewport-lost-only : (p : PairNo) → IsFamilyPair p → (history : List Entry) → Legal setup history
+      → is_viewport_lost setup (to_finished (only of_family history)) p ≡ is_viewport_lost setup (to_finished history) p
   viewport-lost-only p pair history legal =
-      rw (finished-only history legal) (lost-only (clears_viewport p) (to_finished history) (legal-finished history legal) (viewport_owner setup p) (viewport-in p pair))
+      rw (finished-only history legal) (lost-only (clears_viewport p) (to_finished history) (legal-finished history legal) (viewport_owner setup p)
+      (viewport-in p pair))
 
-  pub view-lost-only : (p : PairNo) → IsFamilyPair p → (history : List Entry) → Legal setup history → is_view_lost setup (to_finished (only of_family history)) p ≡ is_view_lost setup (to_finished history) p
+  pub view-lost-only : (p : PairNo) → IsFamilyPair p → (history : List Entry) → Legal setup history
+      → is_view_lost setup (to_finished (only of_family history)) p ≡ is_view_lost setup (to_finished history) p
   view-lost-only p pair history legal =
-      rw (finished-only history legal) (lost-only (ends_view p) (to_finished history) (legal-finished history legal) (option_map Session (view_owner setup p)) (λ v is. view-in p pair v (session-of (view_owner setup p) v is)))
+      rw (finished-only history legal) (lost-only (ends_view p) (to_finished history) (legal-finished history legal) (option_map Session (view_owner setup p))
+      (λ v is. view-in p pair v (session-of (view_owner setup p) v is)))
 
   -- whether a pair's view is shown, and hangs below the display
-  pub shows-only : (p : PairNo) → IsFamilyPair p → (history : List Entry) → Legal setup history → shows_view setup (only of_family history) p ≡ shows_view setup history p
+  pub shows-only : (p : PairNo) → IsFamilyPair p → (history : List Entry) → Legal setup history
+      → shows_view setup (only of_family history) p ≡ shows_view setup history p
   shows-only p pair history legal = by_owner (view_owner setup p) (view-in p pair)
     where
       by_owner : (o : Option SessionNo) → ((w : SessionNo) → o ≡ Some w → of_family w ≡ true)
-          → unwrap_or (option_map (λ s. is_pair (shown_view setup (only of_family history) s) p) o) false ≡ unwrap_or (option_map (λ s. is_pair (shown_view setup history s) p) o) false
+          → unwrap_or (option_map (λ s. is_pair (shown_view setup (only of_family history) s) p) o) false
+          ≡ unwrap_or (option_map (λ s. is_pair (shown_view setup history s) p) o) false
       by_owner None inside = refl
       by_owner (Some w) inside = rw (shown-only setup of_family closed history legal w (inside w refl)) refl
 
-  pub connected-by-only : (p : PairNo) → IsFamilyPair p → (history : List Entry) → Legal setup history → is_connected_by setup (only of_family history) p ≡ is_connected_by setup history p
+  pub connected-by-only : (p : PairNo) → IsFamilyPair p → (history : List Entry) → Legal setup history
+      → is_connected_by setup (only of_family history) p ≡ is_connected_by setup history p
   connected-by-only p pair history legal = rw (shows-only p pair history legal, by_owner (view_owner setup p) (view-in p pair)) refl
     where
       by_owner : (o : Option SessionNo) → ((w : SessionNo) → o ≡ Some w → of_family w ≡ true)
@@ -194,7 +212,8 @@ module _ (setup : Setup) (of_family : SessionNo → Bool) (closed : IsClosedFami
       by_owner None inside = refl
       by_owner (Some w) inside = connected-only setup of_family closed history legal w (inside w refl)
 
-  pub joined-only : (p : PairNo) → IsFamilyPair p → (history : List Entry) → Legal setup history → are_joined setup (only of_family history) p ≡ are_joined setup history p
+  pub joined-only : (p : PairNo) → IsFamilyPair p → (history : List Entry) → Legal setup history
+      → are_joined setup (only of_family history) p ≡ are_joined setup history p
   joined-only p pair history legal = rw (views-only p pair history legal, by_owner (viewport_owner setup p)) refl
     where
       by_owner : (o : Option Actor) → is_used setup o p (only of_family history) ≡ is_used setup o p history
@@ -203,27 +222,40 @@ module _ (setup : Setup) (of_family : SessionNo → Bool) (closed : IsClosedFami
       by_owner (Some (Probe n)) = rw (viewports-only p pair history legal) refl
       by_owner None = rw (viewports-only p pair history legal) refl
 
-  pub props-seen-only : (p : PairNo) (n : ℕ) (v : SessionNo) → of_family v ≡ true → (history : List Entry) → Legal setup history → props_seen setup p n v (only of_family history) ≡ props_seen setup p n v history
+  pub props-seen-only : (p : PairNo) (n : ℕ) (v : SessionNo) → of_family v ≡ true → (history : List Entry) → Legal setup history
+      → props_seen setup p n v (only of_family history) ≡ props_seen setup p n v history
   props-seen-only p n v mine [] legal = refl
   props-seen-only p n v mine (before ▹ e) legal = by_side (props-seen-only p n v mine before legal.0) (is_kept of_family e) refl
     where
-      by_side : props_seen setup p n v (only of_family before) ≡ props_seen setup p n v before → (k : Bool) → is_kept of_family e ≡ k → props_seen setup p n v (only of_family (before ▹ e)) ≡ props_seen setup p n v (before ▹ e)
+      by_side : props_seen setup p n v (only of_family before) ≡ props_seen setup p n v before → (k : Bool) → is_kept of_family e ≡ k
+          → props_seen setup p n v (only of_family (before ▹ e)) ≡ props_seen setup p n v (before ▹ e)
       by_side earlier true kept = rw (kept, begin-only before legal.0, taken-calls-only (to_begin before) (legal-begin before legal.0) v mine, earlier) refl
       by_side earlier false out = rw (out, (no-frame e.kind e.actor out legal.1.may.acts).1) earlier
 
-  pub props-told-only : (p : PairNo) → IsFamilyPair p → (history : List Entry) → Legal setup history → props_told setup (viewport_owner setup p) (only of_family history) p ≡ props_told setup (viewport_owner setup p) history p
+  pub props-told-only : (p : PairNo) → IsFamilyPair p → (history : List Entry) → Legal setup history
+      → props_told setup (viewport_owner setup p) (only of_family history) p ≡ props_told setup (viewport_owner setup p) history p
   props-told-only p pair history legal = by_owner (viewport_owner setup p) (viewport-in p pair)
     where
-      by_owner : (o : Option Actor) → ((v : SessionNo) → o ≡ Some (Session v) → of_family v ≡ true) → props_told setup o (only of_family history) p ≡ props_told setup o history p
+      by_owner : (o : Option Actor) → ((v : SessionNo) → o ≡ Some (Session v) → of_family v ≡ true)
+          → props_told setup o (only of_family history) p ≡ props_told setup o history p
       by_owner (Some Display) inside = rw (ratio-told-only history legal) refl
-      by_owner (Some (Session v)) inside = rw (viewports-only p pair history legal, props-seen-only p (length (viewport_uses p history)) v (inside v refl) history legal) refl
+      by_owner (Some (Session v)) inside = rw (
+        viewports-only p pair history legal,
+        props-seen-only p (length (viewport_uses p history)) v (inside v refl) history legal,
+      ) refl
       by_owner (Some (Probe n)) inside = refl
       by_owner None inside = refl
 
-  pub told-only : (watcher : Watcher) → IsFamilyPair (pair_watched watcher) → (history : List Entry) → Legal setup history → told setup (only of_family history) watcher ≡ told setup history watcher
+  pub told-only : (watcher : Watcher) → IsFamilyPair (pair_watched watcher) → (history : List Entry) → Legal setup history
+      → told setup (only of_family history) watcher ≡ told setup history watcher
   told-only (layout_of p) pair history legal =
       rw (viewport-lost-only p pair history legal, joined-only p pair history legal, props-told-only p pair history legal, ratio-told-only history legal) refl
   told-only (status_of p) pair history legal =
-      rw (viewport-lost-only p pair history legal, joined-only p pair history legal, finished-only history legal, connected-by-only p pair (to_finished history) (legal-finished history legal)) refl
+      rw (
+        viewport-lost-only p pair history legal,
+        joined-only p pair history legal,
+        finished-only history legal,
+        connected-by-only p pair (to_finished history) (legal-finished history legal),
+      ) refl
   told-only (child_of p n) pair history legal =
       rw (view-lost-only p pair history legal, finished-only history legal, shows-only p pair (to_finished history) (legal-finished history legal)) refl

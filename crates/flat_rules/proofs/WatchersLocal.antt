@@ -15,7 +15,8 @@ use Rattle.flat_rules.proofs.ToldLocal.{IsFamilyPair, ratio-only, told-only}
 use Rattle.flat_rules.proofs.lemmas.WatchLocal.{watching-only, pair-of-view, pair-of-viewport}
 
 -- a pair of which one of the family owns an end is the family's
-pub pair-of-end : (setup : Setup) (of_family : SessionNo → Bool) (closed : IsClosedFamily setup of_family) (t : SessionNo) (p : PairNo) → of_family t ≡ true → owns_end setup t p ≡ true
+pub pair-of-end : (setup : Setup) (of_family : SessionNo → Bool) (closed : IsClosedFamily setup of_family) (t : SessionNo) (p : PairNo) → of_family t ≡ true
+    → owns_end setup t p ≡ true
     → IsFamilyPair setup of_family closed p
 pair-of-end setup of_family closed t p mine owns = by_end (or-cases (owns_view setup t p) (owns_viewport setup t p) owns)
   where

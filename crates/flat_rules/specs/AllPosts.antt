@@ -10,4 +10,5 @@ module _ (setup : Setup) where
   -- the events of a history, each with the place of its entry
   abbrev pub posts : List Entry → List Post
   posts [] = []
-  posts (before ▹ entry) = posts before ++ map (λ sent. record { entry = length before; session = sent.to; event = sent.event }) (posted setup before entry)
+  posts (before ▹ entry) = posts before ++ map
+      (λ sent. record { entry = length before; session = sent.to; event = sent.event }) (posted setup before entry)

@@ -26,16 +26,19 @@ RefusalCloses = (before : List Entry) (entry : Entry) → closes entry.reply ≡
 
 -- and so does a Close of a legal history, which a misuse makes, or a session that leaves
 abbrev pub CloseCloses : Type 0
-CloseCloses = (setup : Setup) (before : List Entry) (entry : Entry) → Legal setup (before ▹ entry) → is_close entry.kind ≡ true → ClosesItsSession before entry
+CloseCloses = (setup : Setup) (before : List Entry) (entry : Entry) → Legal setup (before ▹ entry)
+    → is_close entry.kind ≡ true → ClosesItsSession before entry
 
 -- an entry with another reply closes none
 abbrev pub OtherRepliesCloseNone : Type 0
-OtherRepliesCloseNone = (before : List Entry) (entry : Entry) → closes entry.reply ≡ false → (s : SessionNo) → is_closed s (before ▹ entry) ≡ is_closed s before
+OtherRepliesCloseNone = (before : List Entry) (entry : Entry) → closes entry.reply ≡ false → (s : SessionNo)
+    → is_closed s (before ▹ entry) ≡ is_closed s before
 
 -- a draft refuses some present, or some get, by a reason
 abbrev pub RefusesSome : Draft → Reason → Type 0
 RefusesSome draft reason =
-    ((args : PresentArgs) × (first_reason (present_tests draft args) ≡ Some reason)) ⊎ ((get : Watch) × (first_reason (get_tests draft get) ≡ Some reason))
+    ((args : PresentArgs) × (first_reason (present_tests draft args) ≡ Some reason))
+    ⊎ ((get : Watch) × (first_reason (get_tests draft get) ≡ Some reason))
 
 -- it does so if and only if the test says that it may
 abbrev pub RefusalsAreOfLines : Type 0

@@ -39,6 +39,8 @@ family_moments setup of_family t history = map but_moment_line (kept_moments of_
 -- family's sessions are answered
 -- and told the same at them, whatever all others did
 abbrev pub NeighboursChangeNothing : Type 0
-NeighboursChangeNothing = (setup : Setup) → owners_declared setup ≡ true → (history history' : List Entry) → Legal setup history → Legal setup history'
+NeighboursChangeNothing = (setup : Setup) → owners_declared setup ≡ true → (history history' : List Entry)
+    → Legal setup history → Legal setup history'
     → (s : SessionNo) → map but_reply (only (family setup s) history) ≡ map but_reply (only (family setup s) history')
-    → (t : SessionNo) → family setup s t ≡ true → family_moments setup (family setup s) t history ≡ family_moments setup (family setup s) t history'
+    → (t : SessionNo) → family setup s t ≡ true
+    → family_moments setup (family setup s) t history ≡ family_moments setup (family setup s) t history'

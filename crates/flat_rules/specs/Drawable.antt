@@ -10,4 +10,5 @@ use Rattle.flat_rules.specs.Shown.{shown_states}
 
 -- all that is drawn of what the sessions show can be drawn, after any history and at its pixel ratio
 abbrev pub ItemsAreDrawable : Type 0
-ItemsAreDrawable = (setup : Setup) (history : List Entry) → All IsDrawable (draw_list (setup_at setup history) (shown_states setup history))
+ItemsAreDrawable = (setup : Setup) (history : List Entry)
+    → All IsDrawable (draw_list (setup_at setup history) (shown_states setup history))

@@ -32,11 +32,13 @@ CreditsAddUp = (setup : Setup) (history : List Entry) → Legal setup history
 
 -- what the sessions show fits the setup: only ends that they own, each pair once, and trees that are small enough
 abbrev pub ShownStatesFit : Type 0
-ShownStatesFit = (setup : Setup) (history : List Entry) → Legal setup history → FitsSetup setup (shown_states setup history)
+ShownStatesFit = (setup : Setup) (history : List Entry) → Legal setup history
+    → FitsSetup setup (shown_states setup history)
 
 -- so does what the last frame that began shows of them
 abbrev pub BegunStatesFit : Type 0
-BegunStatesFit = (setup : Setup) (history : List Entry) → Legal setup history → FitsSetup setup (shown_states setup (to_begin history))
+BegunStatesFit = (setup : Setup) (history : List Entry) → Legal setup history
+    → FitsSetup setup (shown_states setup (to_begin history))
 
 -- each session of the setup has one state
 abbrev pub EachSessionHasOneState : Type 0
@@ -44,7 +46,8 @@ EachSessionHasOneState = (setup : Setup) (history : List Entry) → length (show
 
 -- before the first entry no session shows anything
 abbrev pub NothingIsShownAtFirst : Type 0
-NothingIsShownAtFirst = (setup : Setup) (states : List (Option Tree)) → length states ≡ setup.sessions → All (λ state. state ≡ None) states → states ≡ shown_states setup []
+NothingIsShownAtFirst = (setup : Setup) (states : List (Option Tree)) → length states ≡ setup.sessions
+    → All (λ state. state ≡ None) states → states ≡ shown_states setup []
 
 -- the sessions up to a number are so many
 abbrev pub SessionsAreCounted : Type 0
@@ -72,12 +75,14 @@ pub record Glimpse : Type 0 where
 abbrev pub glimpse : Setup → SessionNo → List Entry → Entry → Glimpse
 glimpse setup s before entry = record {
   entry = but_answers entry;
-  signalled = cond (is_begin entry.kind) (map (λ present. map (is_signalled setup before) present.args.acquire) (presents s before)) [];
+  signalled = cond (is_begin entry.kind) (map (λ present. map (is_signalled setup before) present.args.acquire)
+      (presents s before)) [];
 }
 
 abbrev pub glimpses : Setup → SessionNo → List Entry → List Glimpse
 glimpses setup s [] = []
-glimpses setup s (before ▹ entry) = cond (is_beside s entry) (glimpse setup s before entry ∷ glimpses setup s before) (glimpses setup s before)
+glimpses setup s (before ▹ entry) = cond (is_beside s entry) (glimpse setup s before entry ∷ glimpses setup s before)
+    (glimpses setup s before)
 
 -- the events that tokens, queues and frames alone decide
 abbrev pub is_own_event : Event → Bool
@@ -102,8 +107,12 @@ abbrev pub own_events : Setup → SessionNo → List Entry → Entry → List Ev
 own_events setup s before entry = filter is_own_event (events_to setup before entry s)
 
 abbrev pub outcome : Setup → SessionNo → List Entry → Entry → Outcome
-outcome setup s before entry = record { reply = cond (has_own_reply entry.kind) entry.reply Done; events = own_events setup s before entry }
+outcome setup s before entry = record {
+  reply = cond (has_own_reply entry.kind) entry.reply Done;
+  events = own_events setup s before entry;
+}
 
 abbrev pub outcomes : Setup → SessionNo → List Entry → List Outcome
 outcomes setup s [] = []
-outcomes setup s (before ▹ entry) = cond (is_beside s entry) (outcome setup s before entry ∷ outcomes setup s before) (outcomes setup s before)
+outcomes setup s (before ▹ entry) = cond (is_beside s entry) (outcome setup s before entry ∷ outcomes setup s before)
+    (outcomes setup s before)

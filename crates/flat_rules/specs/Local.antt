@@ -21,7 +21,8 @@ use Rattle.flat_rules.specs.Watch.{Watcher, layout_of, status_of, child_of, told
 -- What stands before an entry of a legal
 -- history is one too, so a law holds at each entry.
 abbrev pub ForFamilies : (Setup → (SessionNo → Bool) → List Entry → Type 0) → Type 0
-ForFamilies law = (setup : Setup) → owners_declared setup ≡ true → (history : List Entry) → Legal setup history → (s : SessionNo) → law setup (family setup s) history
+ForFamilies law = (setup : Setup) → owners_declared setup ≡ true → (history : List Entry) → Legal setup history
+    → (s : SessionNo) → law setup (family setup s) history
 
 -- the presents of each session of the family
 abbrev pub PresentsAreLocal : Type 0
@@ -31,7 +32,8 @@ PresentsAreLocal = ForFamilies (λ setup of_family history.
 -- whether a fence is signalled, where one of the family owns it
 abbrev pub SignalledIsLocal : Type 0
 SignalledIsLocal = ForFamilies (λ setup of_family history.
-    (t : SessionNo) (f : FenceNo) → of_family t ≡ true → owns_fence setup t f ≡ true → is_signalled setup (only of_family history) f ≡ is_signalled setup history f)
+    (t : SessionNo) (f : FenceNo) → of_family t ≡ true → owns_fence setup t f ≡ true
+    → is_signalled setup (only of_family history) f ≡ is_signalled setup history f)
 
 -- how many presents frames have taken
 abbrev pub TakenIsLocal : Type 0
@@ -85,7 +87,8 @@ owns_end setup t p = owns_view setup t p || owns_viewport setup t p
 -- what a watcher tells, where one of the family owns an end of its pair
 abbrev pub ToldIsLocal : Type 0
 ToldIsLocal = ForFamilies (λ setup of_family history.
-    (t : SessionNo) (w : Watcher) → of_family t ≡ true → owns_end setup t (pair_watched w) ≡ true → told setup (only of_family history) w ≡ told setup history w)
+    (t : SessionNo) (w : Watcher) → of_family t ≡ true → owns_end setup t (pair_watched w) ≡ true
+    → told setup (only of_family history) w ≡ told setup history w)
 
 -- what it has answered last, and which get it holds
 abbrev pub WatchingIsLocal : Type 0
@@ -109,9 +112,11 @@ FamiliesAreAlone = ForFamilies IsFamilyLaw
 -- what tokens, queues and frames decide of a session is the same in two legal histories that give the same glimpses
 -- of it
 abbrev pub GlimpsesDecideOutcomes : Type 0
-GlimpsesDecideOutcomes = (setup : Setup) (history history' : List Entry) → Legal setup history → Legal setup history' → (s : SessionNo)
+GlimpsesDecideOutcomes = (setup : Setup) (history history' : List Entry) → Legal setup history → Legal setup history'
+    → (s : SessionNo)
     → glimpses setup s history ≡ glimpses setup s history' → outcomes setup s history ≡ outcomes setup s history'
 
 -- and an entry that has no glimpse there posts the session no such event
 abbrev pub OthersPostNone : Type 0
-OthersPostNone = (setup : Setup) (s : SessionNo) (before : List Entry) (entry : Entry) → is_beside s entry ≡ false → own_events setup s before entry ≡ []
+OthersPostNone = (setup : Setup) (s : SessionNo) (before : List Entry) (entry : Entry) → is_beside s entry ≡ false
+    → own_events setup s before entry ≡ []

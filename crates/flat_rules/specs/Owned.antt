@@ -40,7 +40,8 @@ is_played_condition setup s (asks.Presents other n) = false
 -- a line of a session: it names only what the session owns
 abbrev pub is_played_line : Setup → SessionNo → Line → Bool
 is_played_line setup s (line.Call call) = is_played_call setup s call
-is_played_line setup s (line.Present args) = list_all (owns_fence setup s) args.acquire && list_all (owns_fence setup s) args.release
+is_played_line setup s (line.Present args) =
+    list_all (owns_fence setup s) args.acquire && list_all (owns_fence setup s) args.release
 is_played_line setup s (line.Get watch) = true
 is_played_line setup s (line.Signal f) = owns_fence setup s f
 is_played_line setup s line.Poll = true

@@ -27,15 +27,18 @@ pub record AreTold (setup : Setup) (history : List Entry) : Type 0 where
   pub sessions : (s : SessionNo) → is_declared setup s ≡ true → own s history ≡ of_seat s.0 history
 
 abbrev pub SeatsTellActors : Type 0
-SeatsTellActors = (setup : Setup) → setup.sessions ≤ SESSIONS_MAX → (history : List Entry) → Legal setup history → AreTold setup history
+SeatsTellActors = (setup : Setup) → setup.sessions ≤ SESSIONS_MAX → (history : List Entry) → Legal setup history
+    → AreTold setup history
 
 -- What an entry must meet of its session is told by the session's own entries:
 -- whether it is open and had no End, and the draft of its calls.
 pub record KnowsItself (setup : Setup) (history : List Entry) (s : SessionNo) : Type 0 where
   pub closed : is_closed s history ≡ is_closed s (own s history)
   pub lasts : (kind : Kind) → goes_on history kind (Session s) ≡ goes_on (own s history) kind (Session s)
-  pub draft : (carries : List Call) → draft_with setup history (Session s) carries ≡ draft_with setup (own s history) (Session s) carries
-  pub drafted : (carries : List Call) (kind : Kind) → has_draft setup history (Session s) carries kind ≡ has_draft setup (own s history) (Session s) carries kind
+  pub draft : (carries : List Call) → draft_with setup history (Session s) carries
+      ≡ draft_with setup (own s history) (Session s) carries
+  pub drafted : (carries : List Call) (kind : Kind)
+      → has_draft setup history (Session s) carries kind ≡ has_draft setup (own s history) (Session s) carries kind
 
 abbrev pub SessionsKnowThemselves : Type 0
 SessionsKnowThemselves = (setup : Setup) (history : List Entry) (s : SessionNo) → KnowsItself setup history s
@@ -50,14 +53,17 @@ DisplayKnowsFrames = (setup : Setup) (history : List Entry) → Legal setup hist
 
 -- the last begin stays where it was until the display makes an entry
 abbrev pub BeginStays : Type 0
-BeginStays = (setup : Setup) (later before : List Entry) → Legal setup (later ++ before) → of_display later ≡ [] → to_begin (later ++ before) ≡ to_begin before
+BeginStays = (setup : Setup) (later before : List Entry) → Legal setup (later ++ before) → of_display later ≡ []
+    → to_begin (later ++ before) ≡ to_begin before
 
 -- ---- journals, which have the oldest entry first
 
 -- the entries of a seat stand in the same order in a journal and in its history
 abbrev pub JournalsKeepSeats : Type 0
-JournalsKeepSeats = (seat : ℕ) (entries : List Entry) → of_seat seat (history_of entries) ≡ history_of (of_seat seat entries)
+JournalsKeepSeats = (seat : ℕ) (entries : List Entry)
+    → of_seat seat (history_of entries) ≡ history_of (of_seat seat entries)
 
 -- who has seen all of the display's entries of a journal has seen its last begin, and all before it
 abbrev pub BeginIsSeen : Type 0
-BeginIsSeen = (setup : Setup) (seen rest : List Entry) → Legal setup (history_of (seen ++ rest)) → of_display rest ≡ [] → to_begin (history_of (seen ++ rest)) ≡ to_begin (history_of seen)
+BeginIsSeen = (setup : Setup) (seen rest : List Entry) → Legal setup (history_of (seen ++ rest)) → of_display rest ≡ []
+    → to_begin (history_of (seen ++ rest)) ≡ to_begin (history_of seen)

@@ -29,15 +29,18 @@ contents_made (call ∷ calls) = makes_content call ++ contents_made calls
 -- the serials of the viewports of a pair, where the first of the contents has that serial
 abbrev pub serials_in : PairNo → ℕ → List (Option PairNo) → List ℕ
 serials_in p next [] = []
-serials_in p next (made ∷ more) = cond (is_pair made p) (next ∷ serials_in p (next + 1) more) (serials_in p (next + 1) more)
+serials_in p next (made ∷ more) = cond (is_pair made p) (next ∷ serials_in p (next + 1) more)
+    (serials_in p (next + 1) more)
 
 -- This is the serial of the viewport that the last use of a pair's viewport end made:
 -- each present has it where it has so many contents.
 pub record IsUseSerial (p : PairNo) (s : SessionNo) (history : List Entry) (serial : ℕ) : Type 0 where
   pub tells : (n : ℕ) → n ≤ length (presents s history)
-      → of_serial (serials_in p 1 (contents_made (made_by s history n))) (length (viewport_uses p history)) ≡ cond (nat_le serial (length (contents_made (made_by s history n)))) (Some serial) None
+      → of_serial (serials_in p 1 (contents_made (made_by s history n))) (length (viewport_uses p history))
+      ≡ cond (nat_le serial (length (contents_made (made_by s history n)))) (Some serial) None
   pub opened : is_closed s history ≡ false
-      → (of_serial (serials_in p 1 (contents_made (calls s history))) (length (viewport_uses p history)) ≡ Some serial) × (serial ≤ length (contents_made (calls s history)))
+      → (of_serial (serials_in p 1 (contents_made (calls s history))) (length (viewport_uses p history)) ≡ Some serial)
+      × (serial ≤ length (contents_made (calls s history)))
 
 -- the properties of the viewport of a serial, among those that a tree has
 abbrev pub props_at_serial : List ViewportUse → ℕ → Option ViewportProps

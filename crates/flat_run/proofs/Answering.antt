@@ -1,5 +1,6 @@
 -- What is answered to what a source gives, and what is written of it.
-use Rattle.std.proofs.Common.{◌≡◌, ◌≢◌, ◌==◌, ◌||◌, ◌*◌, ◌≤◌, nat_lt, inl, inr, ◌⊎◌, ℕ, zero, suc, ◌<◌, Bool, true, false, List, [], ◌∷◌, ◌++◌, ap, ◌∙◌, length, take, Option, Result, None, Some, Ok, Err, IfOk, IfSome, IsTrue, refl, sym, subst, arith, append-nil}
+use Rattle.std.proofs.Common.{◌≡◌, ◌≢◌, ◌==◌, ◌||◌, ◌*◌, ◌≤◌, nat_lt, inl, inr, ◌⊎◌, ℕ, zero, suc, ◌<◌, Bool, true, false, List, [], ◌∷◌, ◌++◌, ap, ◌∙◌, length}
+use Rattle.std.proofs.Common.{take, Option, Result, None, Some, Ok, Err, IfOk, IfSome, IsTrue, refl, sym, subst, arith, append-nil}
 use Rattle.std.proofs.lemmas.Bool.{lt-ltb, eqb-true, eq-eqb}
 use Rattle.std.proofs.lemmas.List.{append_cancel_right}
 use Rattle.flat_base.specs.declared.limits.TheConstants.{SCRIPT_BYTES_MAX}
@@ -23,7 +24,8 @@ use Rattle.flat_forms.specs.Body.{dones}
 use Rattle.flat_run.specs.declared.given.TheConstants.{FILM_PIXELS_MAX}
 use Rattle.flat_run.specs.Forms.{is_read, form_read, pixels, Fits}
 use Rattle.flat_run.specs.Judging.{fault_line}
-use Rattle.flat_run.specs.Promise.{large_line, CallForNothing, AreTextOf, AreGiven, AreAll, AreTooLarge, Refuses, IsRefused, IsTooLarge, Tells, IsTold, IsAnswer, IsWhole, IsCutOff, Gives, IsThere}
+use Rattle.flat_run.specs.Promise.{large_line, CallForNothing, AreTextOf, AreGiven, AreAll, AreTooLarge, Refuses, IsRefused, IsTooLarge, Tells, IsTold}
+use Rattle.flat_run.specs.Promise.{IsAnswer, IsWhole, IsCutOff, Gives, IsThere}
 use Rattle.flat_places.specs.declared.kinds.FaultKind.TheVariants.{TooLong}
 
 -- the form that was found is that of the words
@@ -31,7 +33,8 @@ pub called_for : (words : List (List ℕ)) (found : Option Form) (form : Form) �
 called_for words found form is holds = subst (λ (o : Option Form). IfSome o (λ f. CallFor words f)) is holds
 
 -- where none was found, the words call for none
-pub none_called : {E : Type 0} (words : List (List ℕ)) (answer : Result (Option Form) E) → answer ≡ Ok None → ((form : Form) → CallFor words form → IfOk answer (λ found. found ≡ Some form)) → CallForNothing words
+pub none_called : {E : Type 0} (words : List (List ℕ)) (answer : Result (Option Form) E) → answer ≡ Ok None
+    → ((form : Form) → CallFor words form → IfOk answer (λ found. found ≡ Some form)) → CallForNothing words
 none_called words answer is only form calls =
     let found : None ≡ Some form = subst (λ r. IfOk r (λ found. found ≡ Some form)) is (only form calls) in cc
 
@@ -71,7 +74,8 @@ all_given None (Some after) bytes it = absurd it
 all_given (Some before) (Some after) bytes (is, none) = is ∙ sym (append-nil bytes) ∙ ap (λ rest. bytes ++ rest) (sym none)
 
 -- bytes that were read whole were given
-pub whole_given : (left left' : Option (List ℕ)) (bytes : List ℕ) → Given left left' (λ given after. (given ≡ bytes) × (after ≡ [])) → (given : List ℕ) × AreGiven given left left'
+pub whole_given : (left left' : Option (List ℕ)) (bytes : List ℕ) → Given left left' (λ given after. (given ≡ bytes) × (after ≡ []))
+    → (given : List ℕ) × AreGiven given left left'
 whole_given left left' bytes it = (bytes, all_given left left' bytes (all_read left left' bytes it))
 
 -- as were those of a text that wasn't
@@ -89,7 +93,8 @@ none_given left left' same = subst (λ (l : Option (List ℕ)). (given : List �
     stays (Some bytes) = ([], refl)
 
 -- some bytes are more than a script may have
-too_many : (left left' : Option (List ℕ)) → Given left left' (λ given after. SCRIPT_BYTES_MAX < length given) → (bytes : List ℕ) × (SCRIPT_BYTES_MAX < length bytes) × AreGiven bytes left left'
+too_many : (left left' : Option (List ℕ)) → Given left left' (λ given after. SCRIPT_BYTES_MAX < length given)
+    → (bytes : List ℕ) × (SCRIPT_BYTES_MAX < length bytes) × AreGiven bytes left left'
 too_many left None it = let one = longer SCRIPT_BYTES_MAX in (one.0, one.1, tt)
 too_many None (Some after) it = absurd it
 too_many (Some before) (Some after) (given, is, long) = (given, long, is)
@@ -110,7 +115,8 @@ one_or false b either not_b = absurd (not_b either)
 pub is_status : (result status : ℕ) → (result == status || result == 5) ≡ true → result ≢ 5 → result ≡ status
 is_status result status either not_5 = eqb-true result status (one_or (result == status) (result == 5) either (λ yes. not_5 (eqb-true result 5 yes)))
 
-pub answered_or_fault : (result status expected : ℕ) → (result == status || result == 5) ≡ true → status ≡ expected → (result ≡ 5 → ⊥) → (result == expected || result == 6) ≡ true
+pub answered_or_fault : (result status expected : ℕ) → (result == status || result == 5) ≡ true → status ≡ expected → (result ≡ 5 → ⊥)
+    → (result == expected || result == 6) ≡ true
 answered_or_fault result status expected either is not_5 =
     let same : result ≡ status = is_status result status either not_5 in
     ap (λ b. b || result == 6) (eq-eqb result expected (same ∙ is))
@@ -121,41 +127,43 @@ answered_or_fault result status expected either is not_5 =
 pub one_form : (found : Option Form) (mine form : Form) → found ≡ Some mine → found ≡ Some form → form ≡ mine
 one_form found mine form is only = cc
 
-refuses_none : (form : Form) (bytes bytes' text : List ℕ) (reading : Reading) → form_read form bytes ≡ Ok reading → bytes ≡ bytes' → Refuses form bytes' text → ⊥
+refuses_none : (form : Form) (bytes bytes' text : List ℕ) (reading : Reading) → form_read form bytes ≡ Ok reading → bytes ≡ bytes' → Refuses form bytes' text
+    → ⊥
 refuses_none form bytes bytes' text reading read same refuses =
     let both : Ok reading ≡ Err refuses.fault = sym read ∙ ap (form_read form) same ∙ refuses.read in
     cc
 
-module _ (form : Form) (IsOfSort : Script → Type 0) (left left' : Option (List ℕ)) (failed failed' : ℕ) (gives : Gives form IsOfSort left left' failed failed') where
-  -- what it gave is all that was read
-  gives_all : (bytes : List ℕ) → AreAll bytes left left' → gives.given ≡ bytes
-  gives_all bytes all =
-      let P : Option (List ℕ) → Type 0 = λ l. AreAll bytes l left' in
-      let Q : Option (List ℕ) → Type 0 = λ l. AreAll bytes (Some (gives.given ++ gives.after)) l in
-      let both : AreAll bytes (Some (gives.given ++ gives.after)) (Some gives.after) = subst Q gives.after_is (subst P gives.before_is all) in
-      sym (append-nil gives.given) ∙ ap (λ rest. gives.given ++ rest) (sym both.1) ∙ both.0
+module _ (form : Form) (IsOfSort : Script → Type 0) (left left' : Option (List ℕ)) (failed failed' : ℕ) (gives : Gives form IsOfSort left left' failed failed')
+  where
+    -- what it gave is all that was read
+    gives_all : (bytes : List ℕ) → AreAll bytes left left' → gives.given ≡ bytes
+    gives_all bytes all =
+        let P : Option (List ℕ) → Type 0 = λ l. AreAll bytes l left' in
+        let Q : Option (List ℕ) → Type 0 = λ l. AreAll bytes (Some (gives.given ++ gives.after)) l in
+        let both : AreAll bytes (Some (gives.given ++ gives.after)) (Some gives.after) = subst Q gives.after_is (subst P gives.before_is all) in
+        sym (append-nil gives.given) ∙ ap (λ rest. gives.given ++ rest) (sym both.1) ∙ both.0
 
-  -- or more than that
-  gives_many : (bytes : List ℕ) → (SCRIPT_BYTES_MAX < length bytes) × AreGiven bytes left left' → gives.given ≡ bytes
-  gives_many bytes many =
-      let P : Option (List ℕ) → Type 0 = λ l. AreGiven bytes l left' in
-      let Q : Option (List ℕ) → Type 0 = λ l. AreGiven bytes (Some (gives.given ++ gives.after)) l in
-      let both : AreGiven bytes (Some (gives.given ++ gives.after)) (Some gives.after) = subst Q gives.after_is (subst P gives.before_is many.1) in
-      append_cancel_right gives.given bytes gives.after both
+    -- or more than that
+    gives_many : (bytes : List ℕ) → (SCRIPT_BYTES_MAX < length bytes) × AreGiven bytes left left' → gives.given ≡ bytes
+    gives_many bytes many =
+        let P : Option (List ℕ) → Type 0 = λ l. AreGiven bytes l left' in
+        let Q : Option (List ℕ) → Type 0 = λ l. AreGiven bytes (Some (gives.given ++ gives.after)) l in
+        let both : AreGiven bytes (Some (gives.given ++ gives.after)) (Some gives.after) = subst Q gives.after_is (subst P gives.before_is many.1) in
+        append_cancel_right gives.given bytes gives.after both
 
-  -- a source that gives a script isn't refused
-  gives_no_fault : (text : List ℕ) → IsRefused form left left' text → ⊥
-  gives_no_fault text refused = by_given refused.given
-    where
-      by_given : AreAll refused.bytes left left' ⊎ ((SCRIPT_BYTES_MAX < length refused.bytes) × AreGiven refused.bytes left left') → ⊥
-      by_given (inl all) = refuses_none form gives.given refused.bytes text gives.reading gives.read (gives_all refused.bytes all) refused.refuses
-      by_given (inr many) = refuses_none form gives.given refused.bytes text gives.reading gives.read (gives_many refused.bytes many) refused.refuses
+    -- a source that gives a script isn't refused
+    gives_no_fault : (text : List ℕ) → IsRefused form left left' text → ⊥
+    gives_no_fault text refused = by_given refused.given
+      where
+        by_given : AreAll refused.bytes left left' ⊎ ((SCRIPT_BYTES_MAX < length refused.bytes) × AreGiven refused.bytes left left') → ⊥
+        by_given (inl all) = refuses_none form gives.given refused.bytes text gives.reading gives.read (gives_all refused.bytes all) refused.refuses
+        by_given (inr many) = refuses_none form gives.given refused.bytes text gives.reading gives.read (gives_many refused.bytes many) refused.refuses
 
-  -- it is read as what it gives
-  reads_it : (bytes : List ℕ) (reading : Reading) → AreAll bytes left left' → form_read form bytes ≡ Ok reading → gives.reading ≡ reading
-  reads_it bytes reading all read =
-      let both : Ok gives.reading ≡ Ok reading = sym gives.read ∙ ap (form_read form) (gives_all bytes all) ∙ read in
-      cc
+    -- it is read as what it gives
+    reads_it : (bytes : List ℕ) (reading : Reading) → AreAll bytes left left' → form_read form bytes ≡ Ok reading → gives.reading ≡ reading
+    reads_it bytes reading all read =
+        let both : Ok gives.reading ≡ Ok reading = sym gives.read ∙ ap (form_read form) (gives_all bytes all) ∙ read in
+        cc
 
 over : (limit size : ℕ) → size ≤ limit → limit < size → ⊥
 over limit size most more = omega (arith, most, more)
@@ -187,7 +195,8 @@ large_is_read Why script large = refl
 large_is_read Film script large = refl
 
 -- what a form whose script is read has there
-gives_of : (form : Form) (left left' : Option (List ℕ)) (failed failed' : ℕ) → is_read form ≡ true → IsThere form left left' failed failed' → Gives form (Fits form) left left' failed failed'
+gives_of : (form : Form) (left left' : Option (List ℕ)) (failed failed' : ℕ) → is_read form ≡ true → IsThere form left left' failed failed'
+    → Gives form (Fits form) left left' failed failed'
 gives_of Play left left' failed failed' read there = there
 gives_of Race left left' failed failed' read there = there
 gives_of (Stress asked) left left' failed failed' read there = absurd (let wrong : false ≡ true = read in cc)
@@ -200,12 +209,14 @@ gives_of Why left left' failed failed' read there = there
 gives_of Film left left' failed failed' read there = there
 
 -- no read failed, where one was made
-pub there_no_read_fault : (form form' : Form) (left left' : Option (List ℕ)) (failed failed' : ℕ) → form' ≡ form → IsThere form left left' failed failed' → is_read form' ≡ true → IsTrue (has_risen failed failed') → ⊥
+pub there_no_read_fault : (form form' : Form) (left left' : Option (List ℕ)) (failed failed' : ℕ) → form' ≡ form → IsThere form left left' failed failed'
+    → is_read form' ≡ true → IsTrue (has_risen failed failed') → ⊥
 there_no_read_fault form form' left left' failed failed' same there read risen =
     let gives = gives_of form left left' failed failed' (sym (ap is_read same) ∙ read) there in
     let both : true ≡ false = sym risen ∙ gives.steady in cc
 
-pub large_no_read_fault : (form : Form) (left left' : Option (List ℕ)) (failed failed' : ℕ) → Gives form (IsTooLarge form) left left' failed failed' → IsTrue (has_risen failed failed') → ⊥
+pub large_no_read_fault : (form : Form) (left left' : Option (List ℕ)) (failed failed' : ℕ) → Gives form (IsTooLarge form) left left' failed failed'
+    → IsTrue (has_risen failed failed') → ⊥
 large_no_read_fault form left left' failed failed' there risen = let both : true ≡ false = sym risen ∙ there.steady in cc
 
 -- ---- what is answered
@@ -226,17 +237,21 @@ text_of Film read left left' bytes all = all
 -- ---- what is refused
 
 -- a text with a fault
-pub denied : (form : Form) (bytes : List ℕ) (fault : ScriptFault) → form_read form bytes ≡ Err fault → (status : ℕ) (text : List ℕ) → status ≡ 3 → text ≡ fault_line fault → IsDenied form bytes status text
-denied form bytes fault read status text is_3 is = subst (λ n. IsDenied form bytes n text) (sym is_3) (IsDenied.refusal (record { fault = fault; read = read; is = is }))
+pub denied : (form : Form) (bytes : List ℕ) (fault : ScriptFault) → form_read form bytes ≡ Err fault → (status : ℕ) (text : List ℕ) → status ≡ 3
+    → text ≡ fault_line fault → IsDenied form bytes status text
+denied form bytes fault read status text is_3 is = subst (λ n. IsDenied form bytes n text) (sym is_3)
+    (IsDenied.refusal (record { fault = fault; read = read; is = is }))
 
 -- a script whose display is too large
-pub denied_large : (form : Form) (bytes : List ℕ) (reading : Reading) → form_read form bytes ≡ Ok reading → IsTooLarge form reading.script → (status : ℕ) (text : List ℕ) → status ≡ 7 → text ≡ large_line → IsDenied form bytes status text
+pub denied_large : (form : Form) (bytes : List ℕ) (reading : Reading) → form_read form bytes ≡ Ok reading → IsTooLarge form reading.script
+    → (status : ℕ) (text : List ℕ) → status ≡ 7 → text ≡ large_line → IsDenied form bytes status text
 denied_large form bytes reading read is status text is_7 text_is =
     let large : AreTooLarge form bytes = record { reading = reading; read = read; large = is } in
     subst (λ n. IsDenied form bytes n text) (sym is_7) (subst (λ t. IsDenied form bytes 7 t) (sym text_is) (IsDenied.too_large large))
 
 -- what was read whole is all that a source gave
-pub whole_is_given : (form : Form) (left left' : Option (List ℕ)) (bytes bytes' : List ℕ) (given : gave.Given) → bytes ≡ bytes' → Given left left' (λ given after. (given ≡ bytes') × (after ≡ [])) → IsRead form bytes given → IsGiven form left left' given
+pub whole_is_given : (form : Form) (left left' : Option (List ℕ)) (bytes bytes' : List ℕ) (given : gave.Given) → bytes ≡ bytes'
+    → Given left left' (λ given after. (given ≡ bytes') × (after ≡ [])) → IsRead form bytes given → IsGiven form left left' given
 whole_is_given form left left' bytes bytes' (given.Script reading) same it read =
     let P : List ℕ → Type 0 = λ b. IsScriptFor form b reading in
     (bytes', all_read left left' bytes' it, subst P same read)
@@ -249,33 +264,44 @@ whole_is_given form left left' bytes bytes' (given.Refused answer) same it read 
     by status text (IsDenied.too_large large) = IsTurnedAway.too_large bytes' (all_read left left' bytes' it) large
 
 -- more bytes than a script may have
-pub long_is_refused : (form : Form) (left left' : Option (List ℕ)) → Given left left' (λ given after. SCRIPT_BYTES_MAX < length given) → (status : ℕ) (text : List ℕ) → status ≡ 3 → text ≡ fault_line (record { line = 0; kind = TooLong }) → IsTurnedAway form left left' status text
+pub long_is_refused : (form : Form) (left left' : Option (List ℕ)) → Given left left' (λ given after. SCRIPT_BYTES_MAX < length given)
+    → (status : ℕ) (text : List ℕ) → status ≡ 3 → text ≡ fault_line (record { line = 0; kind = TooLong }) → IsTurnedAway form left left' status text
 long_is_refused form left left' it status text is_3 is =
     let many = too_many left left' it in
     subst (λ n. IsTurnedAway form left left' n text) (sym is_3)
-    (IsTurnedAway.refusal (record { bytes = many.0; given = inr (many.1, many.2); refuses = record { fault = record { line = 0; kind = TooLong }; read = too_long form many.0 many.1; is = is } }))
+    (IsTurnedAway.refusal (record {
+      bytes = many.0;
+      given = inr (many.1, many.2);
+      refuses = record { fault = record { line = 0; kind = TooLong }; read = too_long form many.0 many.1; is = is };
+    }))
 
 -- What displays tell, and how a call found and left them.
 module _ {D : Type 0} (shown : D → Option (List FrameOut)) (faults : D → ℕ) (olds news : List D) where
   module _ (words : List (List ℕ)) (left left' : Option (List ℕ)) where
     -- what a source gave was refused
-    pub turned_away : (form : Form) → is_read form ≡ true → CallFor words form → (status : ℕ) (text : List ℕ) → news ≡ olds → IsTurnedAway form left left' status text → IsAnswer shown faults olds news words left left' status text
+    pub turned_away : (form : Form) → is_read form ≡ true → CallFor words form → (status : ℕ) (text : List ℕ) → news ≡ olds
+        → IsTurnedAway form left left' status text → IsAnswer shown faults olds news words left left' status text
     turned_away form read calls status text same (IsTurnedAway.refusal refused) = IsAnswer.refusal form calls read refused same
     turned_away form read calls status text same (IsTurnedAway.too_large bytes all large) = IsAnswer.too_large form bytes calls all large same
 
     -- what it gave was run
-    pub read_told : (form : Form) → is_read form ≡ true → CallFor words form → (bytes : List ℕ) → AreAll bytes left left' → (status : ℕ) (text : List ℕ) → status ≡ 0 → IsTold shown faults olds news form bytes text → IsAnswer shown faults olds news words left left' status text
+    pub read_told : (form : Form) → is_read form ≡ true → CallFor words form → (bytes : List ℕ) → AreAll bytes left left' → (status : ℕ) (text : List ℕ)
+        → status ≡ 0 → IsTold shown faults olds news form bytes text → IsAnswer shown faults olds news words left left' status text
     read_told form read calls bytes all status text is_0 told =
-        subst (λ n. IsAnswer shown faults olds news words left left' n text) (sym is_0) (IsAnswer.told form bytes calls (text_of form read left left' bytes all) told)
+        subst (λ n. IsAnswer shown faults olds news words left left' n text) (sym is_0)
+        (IsAnswer.told form bytes calls (text_of form read left left' bytes all) told)
 
     -- a load
-    pub load_told : (asked status : ℕ) (text : List ℕ) → CallFor words (Stress asked) → status ≡ 0 → IsTold shown faults olds news (Stress asked) (load_text asked) text → IsAnswer shown faults olds news words left left' status text
-    load_told asked status text calls is_0 told = subst (λ n. IsAnswer shown faults olds news words left left' n text) (sym is_0) (IsAnswer.told (Stress asked) (load_text asked) calls refl told)
+    pub load_told : (asked status : ℕ) (text : List ℕ) → CallFor words (Stress asked) → status ≡ 0
+        → IsTold shown faults olds news (Stress asked) (load_text asked) text → IsAnswer shown faults olds news words left left' status text
+    load_told asked status text calls is_0 told = subst (λ n. IsAnswer shown faults olds news words left left' n text) (sym is_0)
+        (IsAnswer.told (Stress asked) (load_text asked) calls refl told)
 
     -- ---- what is written
 
     module _ (held held' : Option (List ℕ)) (status result : ℕ) (text : List ℕ) (is : IsAnswer shown faults olds news words left left' status text) where
-      pub text_whole : (result ≡ status → Appends text held held') → (result == status || result == 5) ≡ true → result ≢ 5 → IsWhole shown faults olds news words left left' held held' result
+      pub text_whole : (result ≡ status → Appends text held held') → (result == status || result == 5) ≡ true → result ≢ 5
+          → IsWhole shown faults olds news words left left' held held' result
       text_whole whole either not_5 =
           let same : result ≡ status = is_status result status either not_5 in
           record { text = text; is = subst (λ n. IsAnswer shown faults olds news words left left' n text) (sym same) is; whole = whole same }
@@ -295,7 +321,8 @@ module _ {D : Type 0} (shown : D → Option (List FrameOut)) (faults : D → ℕ
         (subst (λ f. IsRefused f left left' text) is refused))
     only_told form failed failed' calls one there status text (IsAnswer.too_large form' bytes calls' all large same) =
         let here : IsThere form' left left' failed failed' = subst (λ f. IsThere f left left' failed failed') (sym (one form' calls')) there in
-        let gives : Gives form' (Fits form') left left' failed failed' = gives_of form' left left' failed failed' (large_is_read form' large.reading.script large.large) here in
+        let gives : Gives form' (Fits form') left left' failed failed' =
+        gives_of form' left left' failed failed' (large_is_read form' large.reading.script large.large) here in
         let reads : gives.reading ≡ large.reading = reads_it form' (Fits form') left left' failed failed' gives bytes large.reading all large.read in
         let fits : Fits form' large.reading.script = subst (λ (r : Reading). Fits form' r.script) reads gives.sort in
         absurd (too_large_to_fit form' large.reading.script fits large.large)
@@ -304,11 +331,13 @@ module _ {D : Type 0} (shown : D → Option (List FrameOut)) (faults : D → ℕ
     only_told form failed failed' calls one there status text (IsAnswer.told form' bytes calls' of told) = refl
 
     -- or that a picture would be too large
-    pub only_large : (form : Form) (failed failed' : ℕ) → CallFor words form → ((f : Form) → CallFor words f → f ≡ form) → Gives form (IsTooLarge form) left left' failed failed'
+    pub only_large : (form : Form) (failed failed' : ℕ) → CallFor words form → ((f : Form) → CallFor words f → f ≡ form)
+        → Gives form (IsTooLarge form) left left' failed failed'
         → (status : ℕ) (text : List ℕ) → IsAnswer shown faults olds news words left left' status text → status ≡ 7
     only_large form failed failed' calls one there status text (IsAnswer.usage nothing same) = absurd (nothing form calls)
     only_large form failed failed' calls one there status text (IsAnswer.refusal form' calls' read refused same) =
-        absurd (gives_no_fault form (IsTooLarge form) left left' failed failed' there text (subst (λ f. IsRefused f left left' text) (one form' calls') refused))
+        absurd (gives_no_fault form (IsTooLarge form) left left' failed failed' there text
+        (subst (λ f. IsRefused f left left' text) (one form' calls') refused))
     only_large form failed failed' calls one there status text (IsAnswer.too_large form' bytes calls' all large same) = refl
     only_large form failed failed' calls one there status text (IsAnswer.judged bytes calls' all is same) =
         absurd (subst (λ f. IsTooLarge f there.reading.script) (sym (one Judge calls')) there.sort)
@@ -317,7 +346,8 @@ module _ {D : Type 0} (shown : D → Option (List FrameOut)) (faults : D → ℕ
         let of_form : AreTextOf form left left' bytes = subst (λ f. AreTextOf f left left' bytes) is of in
         let all : AreAll bytes left left' = all_of form (large_is_read form there.reading.script there.sort) bytes of_form in
         let tells : Tells form bytes text = subst (λ f. Tells f bytes text) is told.0 in
-        let reads : there.reading ≡ tells.ran.reading = reads_it form (IsTooLarge form) left left' failed failed' there bytes tells.ran.reading all tells.read in
+        let reads : there.reading ≡ tells.ran.reading = reads_it form (IsTooLarge form) left left' failed failed' there bytes tells.ran.reading all
+        tells.read in
         let large : IsTooLarge form tells.ran.reading.script = subst (λ (r : Reading). IsTooLarge form r.script) reads there.sort in
         absurd (too_large_to_fit form tells.ran.reading.script tells.has_run.fits large)
       where

@@ -7,7 +7,8 @@ use Rattle.flat_run.specs.declared.reading.Reading.{Reading}
 use Rattle.flat_run.specs.Forms.{form_read}
 use Rattle.flat_run.specs.Promise.{IsTold}
 
-pub for-form : {D E : Type 0} (shown : D → Option (List FrameOut)) (faults : D → ℕ) (olds news : List D) (mine form : Form) (reading : Reading) (result : Result (List ℕ) E) → form ≡ mine
+pub for-form : {D E : Type 0} (shown : D → Option (List FrameOut)) (faults : D → ℕ) (olds news : List D) (mine form : Form) (reading : Reading)
+    (result : Result (List ℕ) E) → form ≡ mine
     → ((bytes : List ℕ) → form_read mine bytes ≡ Ok reading → IfOk result (λ text. IsTold shown faults olds news mine bytes text))
     → (bytes : List ℕ) → form_read form bytes ≡ Ok reading → IfOk result (λ text. IsTold shown faults olds news form bytes text)
 for-form shown faults olds news mine form reading result is told =

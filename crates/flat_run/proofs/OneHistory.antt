@@ -28,18 +28,23 @@ same-made : (reading : Reading) (h h' : List Entry) (l l' : List Lost) (n n' : L
 same-made reading h h' l l' n n' one two three = λ i. made reading (one i) (two i) (three i)
 
 -- two runs of one script with the same report are one
-one-of : ReportsDetermineHistories → (bytes text : List ℕ) (reading reading' : Reading) → text_read bytes ≡ Ok reading.script → reading ≡ reading' → (h h' : List Entry) (l l' : List Lost) (n n' : List ℕ)
-    → IsRun reading.script h l n → text ≡ report reading.script h l n → IsRun reading'.script h' l' n' → text ≡ report reading'.script h' l' n' → made reading h l n ≡ made reading' h' l' n'
+one-of : ReportsDetermineHistories → (bytes text : List ℕ) (reading reading' : Reading) → text_read bytes ≡ Ok reading.script → reading ≡ reading'
+    → (h h' : List Entry) (l l' : List Lost) (n n' : List ℕ)
+    → IsRun reading.script h l n → text ≡ report reading.script h l n → IsRun reading'.script h' l' n' → text ≡ report reading'.script h' l' n'
+    → made reading h l n ≡ made reading' h' l' n'
 one-of determine bytes text reading reading' read same h h' l l' n n' run is =
     let P : Reading → Type 0 = λ r. IsRun r.script h' l' n' → text ≡ report r.script h' l' n' → made reading h l n ≡ made r h' l' n' in
-    subst P same (λ run' is'. (let one = determine bytes reading.script read h h' l l' n n' run run' (sym is ∙ is') in same-made reading h h' l l' n n' one.0 one.1 one.2))
+    subst P same (λ run' is'. (let one = determine bytes reading.script read h h' l l' n n' run run' (sym is ∙ is') in
+    same-made reading h h' l l' n n' one.0 one.1 one.2))
 
 pub one-run : ReportsDetermineHistories → ReportsHaveOneRun
 one-run determine Play reports bytes text first second =
-    one-of determine bytes text first.ran.reading second.ran.reading (plain-read (text_read bytes) first.ran.reading first.read) (same-read _ first.ran.reading second.ran.reading first.read second.read)
+    one-of determine bytes text first.ran.reading second.ran.reading (plain-read (text_read bytes) first.ran.reading first.read)
+    (same-read _ first.ran.reading second.ran.reading first.read second.read)
     first.ran.history second.ran.history first.ran.lost second.ran.lost first.ran.seen second.ran.seen first.has_run.run first.is second.has_run.run second.is
 one-run determine Race reports bytes text first second =
-    one-of determine bytes text first.ran.reading second.ran.reading (plain-read (text_read bytes) first.ran.reading first.read) (same-read _ first.ran.reading second.ran.reading first.read second.read)
+    one-of determine bytes text first.ran.reading second.ran.reading (plain-read (text_read bytes) first.ran.reading first.read)
+    (same-read _ first.ran.reading second.ran.reading first.read second.read)
     first.ran.history second.ran.history first.ran.lost second.ran.lost first.ran.seen second.ran.seen first.has_run.run first.is second.has_run.run second.is
 one-run determine (Stress asked) reports bytes text first second = absurd (let wrong : false ≡ true = reports in cc)
 one-run determine Render reports bytes text first second = absurd (let wrong : false ≡ true = reports in cc)

@@ -34,42 +34,56 @@ module _ (law : WrittenHistoriesAreOne) where
       → HasRun form (ran_of reading h l n) → HasRun form (ran_of reading' h' l' n') → h ≡ h'
   history-one form no_race reading reading' h h' l l' n n' same run run' =
       subst (λ (r : Reading). HasRun form (ran_of r h' l' n') → h ≡ h') same
-      (λ run''. law reading.script.setup reading.script.count reading.script.lines h h' run.run.legal run''.run.legal run.run.interleaves run''.run.interleaves (run.written no_race) (run''.written no_race)) run'
+      (λ run''. law reading.script.setup reading.script.count reading.script.lines h h' run.run.legal run''.run.legal run.run.interleaves run''.run.interleaves
+      (run.written no_race) (run''.written no_race)) run'
 
   pub runs-are-one : RunsAreOne
   runs-are-one form no_race bytes text text' first second =
       let reading : first.ran.reading ≡ second.ran.reading = same-read (form_read form bytes) first.ran.reading second.ran.reading first.read second.read in
       let history : first.ran.history ≡ second.ran.history =
-      history-one form no_race first.ran.reading second.ran.reading first.ran.history second.ran.history first.ran.lost second.ran.lost first.ran.seen second.ran.seen reading first.has_run second.has_run in
+      history-one form no_race first.ran.reading second.ran.reading first.ran.history second.ran.history first.ran.lost second.ran.lost first.ran.seen
+      second.ran.seen reading first.has_run second.has_run in
       (reading, history, first.has_run.in_turn no_race ∙ (λ i. seen_in_turn (reading i).script (history i)) ∙ sym (second.has_run.in_turn no_race))
 
-same-damaged : (one one' : Damaged) (later later' : List Damaged) → one.frame ≡ one'.frame → one.rects ≡ one'.rects → later ≡ later' → one ∷ later ≡ one' ∷ later'
+same-damaged : (one one' : Damaged) (later later' : List Damaged) → one.frame ≡ one'.frame → one.rects ≡ one'.rects → later ≡ later'
+    → one ∷ later ≡ one' ∷ later'
 same-damaged one one' later later' frame rects rest = λ i. record { frame = frame i; rects = rects i } ∷ rest i
 
 -- two runs have one damage
-damaged-one : DamageIsOne → (before : List DrawItem) (frames : List FrameOut) (damaged others : List Damaged) → AreDamaged before frames damaged → AreDamaged before frames others → damaged ≡ others
+damaged-one : DamageIsOne → (before : List DrawItem) (frames : List FrameOut) (damaged others : List Damaged) → AreDamaged before frames damaged
+    → AreDamaged before frames others → damaged ≡ others
 damaged-one law before frames damaged others AreDamaged.none AreDamaged.none = refl
 damaged-one law before (frame ∷ frames) (one ∷ later) [] (AreDamaged.next number is rest) other = elim other [ ]
 damaged-one law before (frame ∷ frames) (one ∷ later) (one' ∷ later') (AreDamaged.next number is rest) (AreDamaged.next number' is' rest') =
-    same-damaged one one' later later' (number ∙ sym number') (law before frame.items one.rects one'.rects is is') (damaged-one law frame.items frames later later' rest rest')
+    same-damaged one one' later later' (number ∙ sym number') (law before frame.items one.rects one'.rects is is')
+    (damaged-one law frame.items frames later later' rest rest')
 
 -- what a form writes hangs on the run alone
-text-one : DamageIsOne → (form : Form) → form ≢ Race → (ran ran' : Ran) → ran.reading ≡ ran'.reading → ran.history ≡ ran'.history → ran.seen ≡ ran'.seen → (form ≡ Play → ran.lost ≡ ran'.lost) → (text text' : List ℕ) → IsTextOf form ran text → IsTextOf form ran' text' → text ≡ text'
-text-one damage Play no_race ran ran' reading history seen lost text text' is is' = is ∙ (λ i. report_of (ran_of (reading i) (history i) (lost refl i) (seen i))) ∙ sym is'
+text-one : DamageIsOne → (form : Form) → form ≢ Race → (ran ran' : Ran) → ran.reading ≡ ran'.reading → ran.history ≡ ran'.history → ran.seen ≡ ran'.seen
+    → (form ≡ Play → ran.lost ≡ ran'.lost) → (text text' : List ℕ) → IsTextOf form ran text → IsTextOf form ran' text' → text ≡ text'
+text-one damage Play no_race ran ran' reading history seen lost text text' is is' =
+    is ∙ (λ i. report_of (ran_of (reading i) (history i) (lost refl i) (seen i))) ∙ sym is'
 text-one damage Race no_race ran ran' reading history seen lost text text' is is' = absurd (no_race refl)
-text-one damage (Stress asked) no_race ran ran' reading history seen lost text text' is is' = is ∙ (λ i. summary_line (totals_of asked (reading i).script.setup (history i))) ∙ sym is'
-text-one damage Render no_race ran ran' reading history seen lost text text' is is' = is ∙ (λ i. picture_text (reading i).script.setup (finished (reading i).script.setup (history i))) ∙ sym is'
+text-one damage (Stress asked) no_race ran ran' reading history seen lost text text' is is' =
+    is ∙ (λ i. summary_line (totals_of asked (reading i).script.setup (history i))) ∙ sym is'
+text-one damage Render no_race ran ran' reading history seen lost text text' is is' =
+    is ∙ (λ i. picture_text (reading i).script.setup (finished (reading i).script.setup (history i))) ∙ sym is'
 text-one damage Damage no_race ran ran' reading history seen lost text text' is is' =
-    let frames : finished ran.reading.script.setup ran.history ≡ finished ran'.reading.script.setup ran'.history = (λ i. finished (reading i).script.setup (history i)) in
+    let frames : finished ran.reading.script.setup ran.history ≡ finished ran'.reading.script.setup ran'.history =
+    (λ i. finished (reading i).script.setup (history i)) in
     let P : List FrameOut → Type 0 = λ fs. AreDamaged [] fs is.damaged in
-    is.is ∙ ap damaged_text (damaged-one damage [] (finished ran'.reading.script.setup ran'.history) is.damaged is'.damaged (subst P frames is.are) is'.are) ∙ sym is'.is
+    is.is ∙ ap damaged_text (damaged-one damage [] (finished ran'.reading.script.setup ran'.history) is.damaged is'.damaged (subst P frames is.are) is'.are)
+    ∙ sym is'.is
 text-one damage Focus no_race ran ran' reading history seen lost text text' is is' =
-    is ∙ (λ i. focus_text (reading i).script.sessions (finish_lines (reverse (history i))) (finished (reading i).script.setup (history i)) (reading i).focus) ∙ sym is'
+    is ∙ (λ i. focus_text (reading i).script.sessions (finish_lines (reverse (history i))) (finished (reading i).script.setup (history i)) (reading i).focus)
+    ∙ sym is'
 text-one damage Pointer no_race ran ran' reading history seen lost text text' is is' =
-    is ∙ (λ i. pointer_text (reading i).script.sessions (finish_lines (reverse (history i))) (finished (reading i).script.setup (history i)) (map (touch_of (reading i).script.setup (history i)) (reading i).pointers)) ∙ sym is'
+    is ∙ (λ i. pointer_text (reading i).script.sessions (finish_lines (reverse (history i))) (finished (reading i).script.setup (history i))
+    (map (touch_of (reading i).script.setup (history i)) (reading i).pointers)) ∙ sym is'
 text-one damage Judge no_race ran ran' reading history seen lost text text' is is' = absurd is
 text-one damage Why no_race ran ran' reading history seen lost text text' is is' = is ∙ (λ i. why_text (reading i).script (history i)) ∙ sym is'
-text-one damage Film no_race ran ran' reading history seen lost text text' is is' = is ∙ (λ i. film_text (reading i).script.setup (finished (reading i).script.setup (history i))) ∙ sym is'
+text-one damage Film no_race ran ran' reading history seen lost text text' is is' =
+    is ∙ (λ i. film_text (reading i).script.setup (finished (reading i).script.setup (history i))) ∙ sym is'
 
 pub texts-are-one : WrittenHistoriesAreOne → DamageIsOne → TextsAreOne
 texts-are-one law damage form no_race bytes text text' first second lost =

@@ -1,5 +1,6 @@
 -- A text that is written piece by piece.
-use Rattle.std.proofs.Common.{◌≡◌, ◌≤◌, ◌+◌, ℕ, zero, suc, Bool, true, false, ◌||◌, nat_lt, nat_le, List, [], ◌∷◌, ◌++◌, take, drop, length, get_or, Option, Some, None, refl, sym, ap, ◌∙◌, subst, arith, append_assoc, append-nil}
+use Rattle.std.proofs.Common.{◌≡◌, ◌≤◌, ◌+◌, ℕ, zero, suc, Bool, true, false, ◌||◌, nat_lt, nat_le, List, [], ◌∷◌, ◌++◌, take, drop, length, get_or, Option}
+use Rattle.std.proofs.Common.{Some, None, refl, sym, ap, ◌∙◌, subst, arith, append_assoc, append-nil}
 use Rattle.std.specs.List.{concat}
 use Rattle.std.proofs.Math.Seq.{drop-cons}
 use Rattle.std.proofs.lemmas.Bool.Decides.{nat_tests}
@@ -51,7 +52,8 @@ risen-on old mid new below risen = by_test (nat_lt mid new) refl risen
     by_test true is rose = let less : nat_lt old new ≡ true = grind (arith, nat_tests, is, below) in ap (λ b. b || nat_le count_end new) less
     by_test false is rose = ap (λ b. nat_lt old new || b) rose ∙ at_end (nat_lt old new)
 
-pub either-on : (old mid new old' mid' new' : ℕ) → old ≤ mid → old' ≤ mid' → (has_risen mid new || has_risen mid' new') ≡ true → (has_risen old new || has_risen old' new') ≡ true
+pub either-on : (old mid new old' mid' new' : ℕ) → old ≤ mid → old' ≤ mid' → (has_risen mid new || has_risen mid' new') ≡ true
+    → (has_risen old new || has_risen old' new') ≡ true
 either-on old mid new old' mid' new' below below' risen = by_test (has_risen mid new) refl risen
   where
     at_end : (b : Bool) → (b || true) ≡ true
@@ -63,12 +65,16 @@ either-on old mid new old' mid' new' below below' risen = by_test (has_risen mid
     by_test false is rose = ap (λ b. has_risen old new || b) (risen-on old' mid' new' below' rose) ∙ at_end (has_risen old new)
 
 -- the pieces before a place, the one at it, and those behind
-pub split-at : (pieces : List (List ℕ)) (place : ℕ) (d : List ℕ) → suc place ≤ length pieces → concat pieces ≡ concat (take place pieces) ++ (get_or pieces place d ++ concat (drop (suc place) pieces))
+pub split-at : (pieces : List (List ℕ)) (place : ℕ) (d : List ℕ) → suc place ≤ length pieces
+    → concat pieces ≡ concat (take place pieces) ++ (get_or pieces place d ++ concat (drop (suc place) pieces))
 split-at [] place d within = absurd (omega (arith, within))
 split-at (p ∷ pieces) zero d within = refl
 split-at (p ∷ pieces) (suc place) d within =
-    ap (λ t. p ++ t) (split-at pieces place d (omega (arith, within))) ∙ sym (append_assoc p (concat (take place pieces)) (get_or pieces place d ++ concat (drop (suc place) pieces)))
+    ap (λ t. p ++ t) (split-at pieces place d (omega (arith, within)))
+    ∙ sym (append_assoc p (concat (take place pieces)) (get_or pieces place d ++ concat (drop (suc place) pieces)))
 
-pub one-piece-more : (pieces : List (List ℕ)) (place : ℕ) (d : List ℕ) → suc place ≤ length pieces → concat (take (place + 1) pieces) ≡ concat (take place pieces) ++ get_or pieces place d
+pub one-piece-more : (pieces : List (List ℕ)) (place : ℕ) (d : List ℕ) → suc place ≤ length pieces
+    → concat (take (place + 1) pieces) ≡ concat (take place pieces) ++ get_or pieces place d
 one-piece-more pieces place d within =
-    ap concat (take_more pieces place d (omega (arith, within))) ∙ concat-append (take place pieces) (get_or pieces place d ∷ []) ∙ ap (λ t. concat (take place pieces) ++ t) (append-nil (get_or pieces place d))
+    ap concat (take_more pieces place d (omega (arith, within))) ∙ concat-append (take place pieces) (get_or pieces place d ∷ [])
+    ∙ ap (λ t. concat (take place pieces) ++ t) (append-nil (get_or pieces place d))

@@ -33,18 +33,21 @@ not_fault : {A : Type 0} (a : A) {P : Type 0} → ◌≡◌ {A = Result A Unansw
 not_fault {A} a same = absurd (let wrong : ◌≡◌ {A = Result A Unanswered} (Ok a) (Err Fault) = same in cc)
 
 -- Displays of a type tell these frames, and have these counts of faults.
-module _ {D : Type 0} (shown : D → Option (List FrameOut)) (faults : D → ℕ) {K : Type 0} (kind : D → K) (form : Form) (source source' : SourceState) (olds news : List D) where
+module _ {D : Type 0} (shown : D → Option (List FrameOut)) (faults : D → ℕ) {K : Type 0} (kind : D → K) (form : Form) (source source' : SourceState)
+    (olds news : List D) where
   unshown : (words : List (List ℕ)) → news ≡ olds → AreKept shown faults (AreFramesFor words source.left source'.left) olds news kind
   unshown words same =
       let P : List D → Type 0 = λ ds. AreKept shown faults (AreFramesFor words source.left source'.left) olds ds kind in
       subst P (sym same) (kept_none shown faults (AreFramesFor words source.left source'.left) kind olds AreFramesFor.none)
 
-  away_statuses : (status : ℕ) (text : List ℕ) → IsTurnedAway form source.left source'.left status text → IsTrue (status == 0 || status == 3 || status == 7 || status == 8)
+  away_statuses : (status : ℕ) (text : List ℕ) → IsTurnedAway form source.left source'.left status text
+      → IsTrue (status == 0 || status == 3 || status == 7 || status == 8)
   away_statuses status text (IsTurnedAway.refusal refused) = refl
   away_statuses status text (IsTurnedAway.too_large bytes all large) = refl
 
   -- what it gave was refused
-  pub answers_refused : is_read form ≡ true → (answer : Answer) → IsTurnedAway form source.left source'.left answer.status answer.text → (given : List ℕ) × AreGiven given source.left source'.left → source.faults ≤ source'.faults → source'.faults ≡ source.faults → news ≡ olds
+  pub answers_refused : is_read form ≡ true → (answer : Answer) → IsTurnedAway form source.left source'.left answer.status answer.text
+      → (given : List ℕ) × AreGiven given source.left source'.left → source.faults ≤ source'.faults → source'.faults ≡ source.faults → news ≡ olds
       → Answers shown faults kind form source source' olds news (Ok answer)
   answers_refused read answer away given counts steady same = record {
     answer = λ words calls. turned_away shown faults olds news words source.left source'.left form read calls answer.status answer.text same away;
@@ -58,8 +61,10 @@ module _ {D : Type 0} (shown : D → Option (List FrameOut)) (faults : D → ℕ
   }
 
   -- it could not be read
-  pub answers_nothing : is_read form ≡ true → (why : Unanswered) → (given : List ℕ) × AreGiven given source.left source'.left → source.faults ≤ source'.faults → (◌≢◌ {A = Result Answer Unanswered} (Err why) (Err Fault) → source'.faults ≡ source.faults)
-      → (◌≡◌ {A = Result Answer Unanswered} (Err why) (Err Fault) → IsTrue (has_risen source.faults source'.faults)) → news ≡ olds → Answers shown faults kind form source source' olds news (Err why)
+  pub answers_nothing : is_read form ≡ true → (why : Unanswered) → (given : List ℕ) × AreGiven given source.left source'.left → source.faults ≤ source'.faults
+      → (◌≢◌ {A = Result Answer Unanswered} (Err why) (Err Fault) → source'.faults ≡ source.faults)
+      → (◌≡◌ {A = Result Answer Unanswered} (Err why) (Err Fault) → IsTrue (has_risen source.faults source'.faults)) → news ≡ olds
+      → Answers shown faults kind form source source' olds news (Err why)
   answers_nothing read why given counts steady fault same = record {
     answer = λ words calls. tt;
     statuses = tt;
@@ -72,15 +77,20 @@ module _ {D : Type 0} (shown : D → Option (List FrameOut)) (faults : D → ℕ
   }
 
   -- it was run
-  module _ (read : is_read form ≡ true) (reading : Reading) (script : IsGiven form source.left source'.left (Script reading)) (given : (given : List ℕ) × AreGiven given source.left source'.left) (counts : source.faults ≤ source'.faults) (steady : source'.faults ≡ source.faults) (kept : AreKept shown faults (AreBegun reading.script) olds news kind) where
+  module _ (read : is_read form ≡ true) (reading : Reading) (script : IsGiven form source.left source'.left (Script reading))
+      (given : (given : List ℕ) × AreGiven given source.left source'.left) (counts : source.faults ≤ source'.faults) (steady : source'.faults ≡ source.faults)
+      (kept : AreKept shown faults (AreBegun reading.script) olds news kind) where
     run_kept : (words : List (List ℕ)) → CallFor words form → AreKept shown faults (AreFramesFor words source.left source'.left) olds news kind
     run_kept words calls =
         kept_as shown faults (AreBegun reading.script) (AreFramesFor words source.left source'.left) kind olds news
-        (λ frames begun. AreFramesFor.some form script.0 calls (text_of form read source.left source'.left script.0 script.1) (AreFramesOf.some reading script.2.read begun)) kept
+        (λ frames begun. AreFramesFor.some form script.0 calls (text_of form read source.left source'.left script.0 script.1)
+        (AreFramesOf.some reading script.2.read begun)) kept
 
-    pub answers_run : (text : List ℕ) → ((bytes : List ℕ) → form_read form bytes ≡ Ok reading → IsTold shown faults olds news form bytes text) → Answers shown faults kind form source source' olds news (Ok (record { status = 0; text = text }))
+    pub answers_run : (text : List ℕ) → ((bytes : List ℕ) → form_read form bytes ≡ Ok reading → IsTold shown faults olds news form bytes text)
+        → Answers shown faults kind form source source' olds news (Ok (record { status = 0; text = text }))
     answers_run text told = record {
-      answer = λ words calls. read_told shown faults olds news words source.left source'.left form read calls script.0 script.1 0 text refl (told script.0 script.2.read);
+      answer = λ words calls. read_told shown faults olds news words source.left source'.left form read calls script.0 script.1 0 text refl
+          (told script.0 script.2.read);
       statuses = refl;
       kept = run_kept;
       given = given;
@@ -103,12 +113,15 @@ module _ {D : Type 0} (shown : D → Option (List FrameOut)) (faults : D → ℕ
     }
 
 -- A load is made and not read.
-module _ {D : Type 0} (shown : D → Option (List FrameOut)) (faults : D → ℕ) {K : Type 0} (kind : D → K) (asked : ℕ) (source : SourceState) (olds news : List D) (kept : AreKept shown faults (AreFramesOf (Stress asked) (load_text asked)) olds news kind) where
+module _ {D : Type 0} (shown : D → Option (List FrameOut)) (faults : D → ℕ) {K : Type 0} (kind : D → K) (asked : ℕ) (source : SourceState) (olds news : List D)
+    (kept : AreKept shown faults (AreFramesOf (Stress asked) (load_text asked)) olds news kind) where
   load_kept : (words : List (List ℕ)) → CallFor words (Stress asked) → AreKept shown faults (AreFramesFor words source.left source.left) olds news kind
   load_kept words calls =
-      kept_as shown faults (AreFramesOf (Stress asked) (load_text asked)) (AreFramesFor words source.left source.left) kind olds news (λ frames of. AreFramesFor.some (Stress asked) (load_text asked) calls refl of) kept
+      kept_as shown faults (AreFramesOf (Stress asked) (load_text asked)) (AreFramesFor words source.left source.left) kind olds news
+      (λ frames of. AreFramesFor.some (Stress asked) (load_text asked) calls refl of) kept
 
-  pub load_answers : (form : Form) → form ≡ Stress asked → (answer : Answer) → answer.status ≡ 0 → IsTold shown faults olds news (Stress asked) (load_text asked) answer.text → Answers shown faults kind form source source olds news (Ok answer)
+  pub load_answers : (form : Form) → form ≡ Stress asked → (answer : Answer) → answer.status ≡ 0
+      → IsTold shown faults olds news (Stress asked) (load_text asked) answer.text → Answers shown faults kind form source source olds news (Ok answer)
   load_answers form is answer is_0 told =
       let among : ℕ → Type 0 = λ n. IsTrue (n == 0 || n == 3 || n == 7 || n == 8) in
       let F : Form → Type 0 = λ f. Answers shown faults kind f source source olds news (Ok answer) in
@@ -139,7 +152,8 @@ module _ {D : Type 0} (shown : D → Option (List FrameOut)) (faults : D → ℕ
 
 -- A text was judged, or could not be: displays had no part in it.
 module _ {D : Type 0} (shown : D → Option (List FrameOut)) (faults : D → ℕ) {K : Type 0} (kind : D → K) (source source' : SourceState) (displays : List D) where
-  judged_statuses : (bytes : List ℕ) (status : ℕ) (text : List ℕ) → IsJudged bytes status text → IsTrue (status == 0 || status == 3 || status == 7 || status == 8)
+  judged_statuses : (bytes : List ℕ) (status : ℕ) (text : List ℕ) → IsJudged bytes status text
+      → IsTrue (status == 0 || status == 3 || status == 7 || status == 8)
   judged_statuses bytes status text is = let P : ℕ → Type 0 = λ n. IsTrue (n == 0 || n == 3 || n == 7 || n == 8) in subst P (sym is.status_is) (by is.judged)
     where
       by : (judged : Judged) → IsTrue (judged_status judged == 0 || judged_status judged == 3 || judged_status judged == 7 || judged_status judged == 8)
@@ -147,9 +161,12 @@ module _ {D : Type 0} (shown : D → Option (List FrameOut)) (faults : D → ℕ
       by (Said (Wrong line want)) = refl
       by (Refused fault) = refl
 
-  pub judged_answers : (form : Form) → form ≡ Judge → (result : Result Answer Unanswered) → IfOk result (λ a. (bytes : List ℕ) × AreAll bytes source.left source'.left × IsJudged bytes a.status a.text)
-      → (given : List ℕ) × AreGiven given source.left source'.left → source.faults ≤ source'.faults → (◌≢◌ {A = Result Answer Unanswered} result (Err Fault) → source'.faults ≡ source.faults)
-      → (◌≡◌ {A = Result Answer Unanswered} result (Err Fault) → IsTrue (has_risen source.faults source'.faults)) → Answers shown faults kind form source source' displays displays result
+  pub judged_answers : (form : Form) → form ≡ Judge → (result : Result Answer Unanswered)
+      → IfOk result (λ a. (bytes : List ℕ) × AreAll bytes source.left source'.left × IsJudged bytes a.status a.text)
+      → (given : List ℕ) × AreGiven given source.left source'.left → source.faults ≤ source'.faults
+      → (◌≢◌ {A = Result Answer Unanswered} result (Err Fault) → source'.faults ≡ source.faults)
+      → (◌≡◌ {A = Result Answer Unanswered} result (Err Fault) → IsTrue (has_risen source.faults source'.faults))
+      → Answers shown faults kind form source source' displays displays result
   judged_answers form is result judged given counts steady fault =
       let F : Form → Type 0 = λ f. Answers shown faults kind f source source' displays displays result in
       subst F (sym is) (record {
@@ -166,10 +183,12 @@ module _ {D : Type 0} (shown : D → Option (List FrameOut)) (faults : D → ℕ
       Fine : Answer → Type 0
       Fine a = (bytes : List ℕ) × AreAll bytes source.left source'.left × IsJudged bytes a.status a.text
 
-      by_result : (words : List (List ℕ)) → CallFor words Judge → (result : Result Answer Unanswered) → IfOk result Fine → IfOk result (λ a. IsAnswer shown faults displays displays words source.left source'.left a.status a.text)
+      by_result : (words : List (List ℕ)) → CallFor words Judge → (result : Result Answer Unanswered) → IfOk result Fine
+          → IfOk result (λ a. IsAnswer shown faults displays displays words source.left source'.left a.status a.text)
       by_result words calls (Ok a) fine = IsAnswer.judged fine.0 calls fine.1 fine.2 refl
       by_result words calls (Err why) fine = tt
 
-      by_status : (result : Result Answer Unanswered) → IfOk result Fine → IfOk result (λ a. IsTrue (a.status == 0 || a.status == 3 || a.status == 7 || a.status == 8))
+      by_status : (result : Result Answer Unanswered) → IfOk result Fine
+          → IfOk result (λ a. IsTrue (a.status == 0 || a.status == 3 || a.status == 7 || a.status == 8))
       by_status (Ok a) fine = judged_statuses fine.0 a.status a.text fine.2
       by_status (Err why) fine = tt

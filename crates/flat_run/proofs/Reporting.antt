@@ -62,7 +62,8 @@ line_asks setup (Probe p) (body.Display said) played = absurd (let wrong : false
 line_asks setup Display text played = refl
 line_asks setup (Session s) text played = refl
 
-lines_ask : (setup : Setup) (lines : List ScriptLine) → list_all (λ (next : ScriptLine). is_played setup next.actor next.body) lines ≡ true → list_all (λ (line : ScriptLine). is_asking line.actor line.body) lines ≡ true
+lines_ask : (setup : Setup) (lines : List ScriptLine) → list_all (λ (next : ScriptLine). is_played setup next.actor next.body) lines ≡ true
+    → list_all (λ (line : ScriptLine). is_asking line.actor line.body) lines ≡ true
 lines_ask setup [] played = refl
 lines_ask setup (line ∷ lines) played =
     let here = line_asks setup line.actor line.body (and-left (is_played setup line.actor line.body) _ played) in
@@ -82,7 +83,8 @@ none_asked Judge n read = tt
 none_asked Why n read = tt
 none_asked Film n read = tt
 
-module _ (reading : Reading) (board : Machine) (kept_frames : Kept) (answers : List HitAnswer) (playable : is_playable reading.script ≡ true) (played : HasPlayed reading.script board kept_frames answers) where
+module _ (reading : Reading) (board : Machine) (kept_frames : Kept) (answers : List HitAnswer) (playable : is_playable reading.script ≡ true)
+    (played : HasPlayed reading.script board kept_frames answers) where
   abbrev script : Script
   script = reading.script
 
@@ -90,8 +92,11 @@ module _ (reading : Reading) (board : Machine) (kept_frames : Kept) (answers : L
   legal_here legal = let L : Setup → Type 0 = λ st. Legal st board.history in subst L played.setup legal
 
   -- a run that came to its end, and what displays have had of it
-  pub has_run : {D : Type 0} (shown : D → Option (List FrameOut)) (faults : D → ℕ) (form : Form) (lost : List Lost) (seen : List ℕ) (olds news : List D) → (form ≢ Race → IsWritten script.setup board.history) → (form ≢ Race → seen ≡ seen_in_turn script board.history)
-      → HaveSeen shown faults (finished script.setup board.history) board.history lost olds news → FamiliesAreAlone → DuePresentsAreTaken → Legal board.setup board.history → AreAsked form (frames board.history) → Fits form script → is_seeing script board.history seen ≡ true → HasRun form (ran_of reading board.history lost seen)
+  pub has_run : {D : Type 0} (shown : D → Option (List FrameOut)) (faults : D → ℕ) (form : Form) (lost : List Lost) (seen : List ℕ) (olds news : List D)
+      → (form ≢ Race → IsWritten script.setup board.history) → (form ≢ Race → seen ≡ seen_in_turn script board.history)
+      → HaveSeen shown faults (finished script.setup board.history) board.history lost olds news → FamiliesAreAlone → DuePresentsAreTaken
+      → Legal board.setup board.history → AreAsked form (frames board.history) → Fits form script → is_seeing script board.history seen ≡ true
+      → HasRun form (ran_of reading board.history lost seen)
   has_run shown faults form lost seen olds news written in_turn had alone due legal asked fits seeing = record {
     run = record { legal = legal_here legal; interleaves = played.interleaves; loss = had.loss; numbered = had.numbered; seeing = seeing };
     written = written;
@@ -103,7 +108,9 @@ module _ (reading : Reading) (board : Machine) (kept_frames : Kept) (answers : L
   }
 
   -- the displays have had the frames of the history
-  pub have_had : {D : Type 0} (told : D → Option (List FrameOut)) (count : D → ℕ) (lost : List Lost) (olds news : List D) → HaveSeen told count (finished script.setup board.history) board.history lost olds news → AreDriven told count lost (finished script.setup board.history) olds news
+  pub have_had : {D : Type 0} (told : D → Option (List FrameOut)) (count : D → ℕ) (lost : List Lost) (olds news : List D)
+      → HaveSeen told count (finished script.setup board.history) board.history lost olds news
+      → AreDriven told count lost (finished script.setup board.history) olds news
   have_had told count lost olds news seen = seen.driven
 
   -- a load finishes as many frames as were asked for
@@ -111,7 +118,8 @@ module _ (reading : Reading) (board : Machine) (kept_frames : Kept) (answers : L
   load_asked asked legal many = frames-done script board.history playable (legal_here legal) played.interleaves ∙ many
 
   -- what a run hands to the report is written as its report
-  pub handed_whole : HandedIsReport → (texts : FrameTexts) → kept.Texts texts ≡ kept_frames → (probes given : List (List ProbeAnswer)) → ProbesAnswered script board.history probes → given ≡ probes
+  pub handed_whole : HandedIsReport → (texts : FrameTexts) → kept.Texts texts ≡ kept_frames → (probes given : List (List ProbeAnswer))
+      → ProbesAnswered script board.history probes → given ≡ probes
       → (lost handed : List Lost) (entries : List Entry) (sent : List Post) → history_of entries ≡ board.history → sent ≡ posts board.setup board.history
       → handed ≡ lost → handed_report script entries sent texts.texts.items handed answers given ≡ report script board.history lost (frames_seen probes)
   handed_whole law texts texts_are probes given answered given_is lost handed entries sent entries_are sent_are lost_are =
@@ -119,7 +127,10 @@ module _ (reading : Reading) (board : Machine) (kept_frames : Kept) (answers : L
       let A : List Entry → Type 0 = λ h. ProbesAnswered script h probes in
       let written : AreTexts script (finished script.setup board.history) texts = subst K (sym texts_are) played.keeps in
       ap (λ (ps : List (List ProbeAnswer)). handed_report script entries sent texts.texts.items handed answers ps) given_is
-      ∙ law script entries sent texts.texts.items handed answers probes (subst A (sym entries_are) answered) (lines_ask script.setup script.lines (played_all script playable))
-      (sent_are ∙ ap (λ (st : Setup). posts st board.history) played.setup ∙ ap (posts script.setup) (sym entries_are)) (written.texts ∙ ap (λ (h : List Entry). map (frame_text script) (finished script.setup h)) (sym entries_are))
+      ∙ law script entries sent texts.texts.items handed answers probes (subst A (sym entries_are) answered)
+      (lines_ask script.setup script.lines (played_all script playable))
+      (sent_are ∙ ap (λ (st : Setup). posts st board.history) played.setup ∙ ap (posts script.setup) (sym entries_are))
+      (written.texts ∙ ap (λ (h : List Entry). map (frame_text script) (finished script.setup h)) (sym entries_are))
       (played.answering ∙ ap (answers_of script.setup) (sym entries_are))
-      ∙ ap (λ (h : List Entry). report script h handed (frames_seen probes)) entries_are ∙ ap (λ (ls : List Lost). report script board.history ls (frames_seen probes)) lost_are
+      ∙ ap (λ (h : List Entry). report script h handed (frames_seen probes)) entries_are
+      ∙ ap (λ (ls : List Lost). report script board.history ls (frames_seen probes)) lost_are

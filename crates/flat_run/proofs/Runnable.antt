@@ -28,7 +28,8 @@ module _ (playable : (bytes : List ℕ) (script : Script) → text_read bytes �
       let from = read-from plain (text_read bytes) reading is in
       subst IsRunnable from.2 (record { playable = playable bytes from.0 from.1; rise = refl; pointers = refl })
 
-  pub runnable : FocusRestIsRead → PointerRestIsRead → PointersRise → PointersAreKnown → (form : Form) (bytes : List ℕ) (reading : Reading) → form_read form bytes ≡ Ok reading → IsRunnable reading
+  pub runnable : FocusRestIsRead → PointerRestIsRead → PointersRise → PointersAreKnown → (form : Form) (bytes : List ℕ) (reading : Reading)
+      → form_read form bytes ≡ Ok reading → IsRunnable reading
   runnable focus pointers rise known Play bytes reading is = plain-runs bytes reading is
   runnable focus pointers rise known Race bytes reading is = plain-runs bytes reading is
   runnable focus pointers rise known (Stress asked) bytes reading is = plain-runs bytes reading is
@@ -42,4 +43,8 @@ module _ (playable : (bytes : List ℕ) (script : Script) → text_read bytes �
       subst IsRunnable from.2 (record { playable = playable (rest_of set.Focus bytes) from.0.script (focus bytes from.0 from.1); rise = refl; pointers = refl })
   runnable focus pointers rise known Pointer bytes reading is =
       let from = read-from (λ (both : WithPointers). record { script = both.script; focus = []; pointers = both.lines }) (pointers_read bytes) reading is in
-      subst IsRunnable from.2 (record { playable = playable (rest_of set.Pointer bytes) from.0.script (pointers bytes from.0 from.1); rise = rise bytes from.0 from.1; pointers = known bytes from.0 from.1 })
+      subst IsRunnable from.2 (record {
+        playable = playable (rest_of set.Pointer bytes) from.0.script (pointers bytes from.0 from.1);
+        rise = rise bytes from.0 from.1;
+        pointers = known bytes from.0 from.1;
+      })

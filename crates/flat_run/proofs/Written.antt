@@ -1,5 +1,6 @@
 -- What the texts of a run ask for.
-use Rattle.std.proofs.Common.{◌≡◌, ℕ, zero, suc, ◌<◌, ◌≤◌, Bool, true, false, cond, nat_lt, nat_le, ◌&&◌, List, [], ◌∷◌, ◌++◌, length, map, reverse, refl, sym, ap, ◌∙◌, subst, arith, Option}
+use Rattle.std.proofs.Common.{◌≡◌, ℕ, zero, suc, ◌<◌, ◌≤◌, Bool, true, false, cond, nat_lt, nat_le, ◌&&◌, List, [], ◌∷◌, ◌++◌, length, map, reverse, refl, sym}
+use Rattle.std.proofs.Common.{ap, ◌∙◌, subst, arith, Option}
 use Rattle.std.specs.List.{All, list_all}
 use Rattle.std.proofs.lemmas.Bool.Decides.{nat_tests}
 use Rattle.std.proofs.lemmas.Grind.{common_steps}
@@ -47,7 +48,8 @@ AreDrawable frame = All IsDrawable frame.items
 drawn : ItemsAreDrawable → (setup : Setup) (history : List Entry) → All AreDrawable (finished setup history)
 drawn law setup [] = λ k d inside. absurd (omega (arith, inside))
 drawn law setup (before ▹ entry) =
-    All-append AreDrawable (finished setup before) (cond (is_finish entry.kind) (frame_at setup (suc (frames before)) (to_begin before) ∷ []) []) (drawn law setup before) (by (is_finish entry.kind))
+    All-append AreDrawable (finished setup before) (cond (is_finish entry.kind) (frame_at setup (suc (frames before)) (to_begin before) ∷ []) [])
+    (drawn law setup before) (by (is_finish entry.kind))
   where
     by : (b : Bool) → All AreDrawable (cond b (frame_at setup (suc (frames before)) (to_begin before) ∷ []) [])
     by true = one
@@ -65,13 +67,16 @@ last-of (frame ∷ next ∷ later) all =
     let P : Option FrameOut → Type 0 = λ last. All IsDrawable (list_of last) in
     subst P (sym (last-behind frame next later)) (last-of (next ∷ later) (λ k d inside. all (suc k) d (omega (arith, inside))))
 
-pub last-drawn : ItemsAreDrawable → (setup : Setup) (history : List Entry) (last : Option FrameOut) → last ≡ last_item (finished setup history) → All IsDrawable (list_of last)
-last-drawn law setup history last is = let P : Option FrameOut → Type 0 = λ it. All IsDrawable (list_of it) in subst P (sym is) (last-of (finished setup history) (drawn law setup history))
+pub last-drawn : ItemsAreDrawable → (setup : Setup) (history : List Entry) (last : Option FrameOut) → last ≡ last_item (finished setup history)
+    → All IsDrawable (list_of last)
+last-drawn law setup history last is = let P : Option FrameOut → Type 0 =
+    λ it. All IsDrawable (list_of it) in subst P (sym is) (last-of (finished setup history) (drawn law setup history))
 
 -- ---- view trees
 
 -- the view trees that are kept are those of the finished frames
-pub trees-kept : (script : Script) (frames : List FrameOut) (all : Kept) (trees : FrameTrees) → kept.Trees trees ≡ all → Keeps script all frames → AreTrees frames trees
+pub trees-kept : (script : Script) (frames : List FrameOut) (all : Kept) (trees : FrameTrees) → kept.Trees trees ≡ all → Keeps script all frames
+    → AreTrees frames trees
 trees-kept script frames all trees is keeps = let K : Kept → Type 0 = λ it. Keeps script it frames in subst K (sym is) keeps
 
 -- frames without their items have the same views
@@ -90,7 +95,8 @@ module _ (setup : Setup) (is : is_setup setup ≡ true) where
 
   pub wide : 0 < setup.width
   wide =
-      let here : is_within SIDE_MAX setup.width ≡ true = and-right _ _ (and-left _ _ (and-left _ _ (and-left _ _ (and-left _ _ (and-left _ _ (and-left _ _ limits)))))) in
+      let here : is_within SIDE_MAX setup.width ≡ true = and-right _ _
+      (and-left _ _ (and-left _ _ (and-left _ _ (and-left _ _ (and-left _ _ (and-left _ _ limits)))))) in
       let low : nat_lt 0 setup.width ≡ true = and-left _ _ here in
       grind (arith, nat_tests)
 
@@ -101,7 +107,8 @@ module _ (setup : Setup) (is : is_setup setup ≡ true) where
       grind (arith, nat_tests)
 
 -- lines of known pointers, with whom they hit
-pub pointers_touched : (setup : Setup) (history : List Entry) (lines : List PointerLine) → list_all (λ (line : PointerLine). nat_lt line.pointer POINTERS) lines ≡ true
+pub pointers_touched : (setup : Setup) (history : List Entry) (lines : List PointerLine)
+    → list_all (λ (line : PointerLine). nat_lt line.pointer POINTERS) lines ≡ true
     → list_all (λ (touch : Touch). nat_lt touch.line.pointer POINTERS) (map (touch_of setup history) lines) ≡ true
 pointers_touched setup history [] all = refl
 pointers_touched setup history (line ∷ later) all =

@@ -63,10 +63,13 @@ never false = refl
 pub one-node-a-path : OneNodeAPath
 one-node-a-path draft zero is_root serial root e path = absurd (cc)
 one-node-a-path draft (suc levels) is_root serial root e path =
-    let of = and_then-some (of_serial draft.transforms serial) (λ t. option_map (node draft is_root serial t) (each (node_within levels draft false) t.children)) root e in
+    let of = and_then-some (of_serial draft.transforms serial)
+    (λ t. option_map (node draft is_root serial t) (each (node_within levels draft false) t.children)) root e in
     let below = map-some (each (node_within levels draft false) of.0.children) (node draft is_root serial of.0) root of.2 in
-    subst (λ (r : Node). node_at r path ≡ option_and_then (node_within (suc levels - length path) draft (stays path && is_root)) (led_to draft serial path)) below.2
-    (by_path of.0 below.0 of.1 (e ∙ ap Some (sym below.2)) (each-get (node_within levels draft false) of.0.children below.0 below.1) (one-node-a-path draft levels false) path)
+    subst (λ (r : Node). node_at r path ≡ option_and_then (node_within (suc levels - length path) draft (stays path && is_root)) (led_to draft serial path))
+    below.2
+    (by_path of.0 below.0 of.1 (e ∙ ap Some (sym below.2)) (each-get (node_within levels draft false) of.0.children below.0 below.1)
+    (one-node-a-path draft levels false) path)
   where
     by_path : (t : Transform) (all : Children) → of_serial draft.transforms serial ≡ Some t
         → node_within (suc levels) draft is_root serial ≡ Some (node draft is_root serial t all)
@@ -74,7 +77,8 @@ one-node-a-path draft (suc levels) is_root serial root e path =
         → ((child : ℕ) (n : Node) → node_within levels draft false child ≡ Some n → (path' : List ℕ)
         → node_at n path' ≡ option_and_then (node_within (levels - length path') draft (stays path' && false)) (led_to draft child path'))
         → (path' : List ℕ)
-        → node_at (node draft is_root serial t all) path' ≡ option_and_then (node_within (suc levels - length path') draft (stays path' && is_root)) (led_to draft serial path')
+        → node_at (node draft is_root serial t all) path' ≡ option_and_then (node_within (suc levels - length path') draft (stays path' && is_root))
+        (led_to draft serial path')
     by_path t all is here has again [] =
         let all_levels : suc levels ≡ suc levels - 0 = omega arith in
         sym here ∙ ap (λ (l : ℕ). node_within l draft is_root serial) all_levels
@@ -82,10 +86,12 @@ one-node-a-path draft (suc levels) is_root serial root e path =
         let kids : children_at draft serial ≡ t.children = ap (λ (o : Option Transform). unwrap_or (option_map (λ (u : Transform). u.children) o) []) is in
         let there : ℕ → Option Node = node_within (levels - length rest) draft false in
         let deeper : (child : ℕ) (n : Node) → node_within levels draft false child ≡ Some n → node_at n rest ≡ option_and_then there (led_to draft child rest) =
-        λ child n at. again child n at rest ∙ ap (λ (b : Bool). option_and_then (node_within (levels - length rest) draft b) (led_to draft child rest)) (never (stays rest)) in
+        λ child n at. again child n at rest ∙ ap (λ (b : Bool). option_and_then (node_within (levels - length rest) draft b) (led_to draft child rest))
+        (never (stays rest)) in
         let less : levels - length rest ≡ suc levels - suc (length rest) = omega arith in
         subst
-        (λ (serials : List ℕ). option_and_then (λ child. node_at child rest) (slice_get (nodes all) place) ≡ option_and_then there (option_and_then (λ child. led_to draft child rest) (slice_get serials place)))
+        (λ (serials : List ℕ). option_and_then (λ child. node_at child rest) (slice_get (nodes all) place)
+        ≡ option_and_then there (option_and_then (λ child. led_to draft child rest) (slice_get serials place)))
         (sym kids)
         (at-place draft (node_within levels draft false) there rest deeper (slice_get t.children place) (slice_get (nodes all) place) (has place))
         ∙ ap (λ (l : ℕ). option_and_then (node_within l draft false) (led_to draft serial (place ∷ rest))) less

@@ -82,7 +82,8 @@ chain_65 = refl
 
 -- a diamond: four transforms and five nodes
 abbrev diamond : List Call
-diamond = made 4 ++ call.SetRootTransform (t 1) ∷ call.AddChild (t 1) (t 2) ∷ call.AddChild (t 1) (t 3) ∷ call.AddChild (t 2) (t 4) ∷ call.AddChild (t 3) (t 4) ∷ []
+diamond = made 4 ++ call.SetRootTransform (t 1) ∷ call.AddChild (t 1) (t 2) ∷ call.AddChild (t 1) (t 3) ∷ call.AddChild (t 2) (t 4) ∷ call.AddChild (t 3) (t 4)
+    ∷ []
 
 abbrev nodes_after : Result Draft Reason → Option ℕ
 nodes_after (Ok d) = option_map node_count (all_nodes d)

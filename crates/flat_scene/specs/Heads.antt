@@ -23,7 +23,8 @@ is_pair_declared setup pair = may_own setup pair.viewport && is_declared setup p
 
 abbrev pub is_buffer_declared : Setup → BufferDecl → Bool
 is_buffer_declared setup buffers =
-    is_declared setup buffers.owner && is_within BUFFERS_PER_COLLECTION_MAX buffers.count && is_within SIDE_MAX buffers.w && is_within SIDE_MAX buffers.h
+    is_declared setup buffers.owner && is_within BUFFERS_PER_COLLECTION_MAX buffers.count
+    && is_within SIDE_MAX buffers.w && is_within SIDE_MAX buffers.h
 
 abbrev pub is_fence_declared : Setup → FenceDecl → Bool
 is_fence_declared setup fence = nat_lt 0 (length fence.owners) && list_all (may_own setup) fence.owners
@@ -31,13 +32,16 @@ is_fence_declared setup fence = nat_lt 0 (length fence.owners) && list_all (may_
 -- all owners are declared
 abbrev pub owners_declared : Setup → Bool
 owners_declared setup =
-    list_all (is_pair_declared setup) setup.pairs && list_all (is_buffer_declared setup) setup.buffers && list_all (is_fence_declared setup) setup.fences
+    list_all (is_pair_declared setup) setup.pairs && list_all (is_buffer_declared setup) setup.buffers
+    && list_all (is_fence_declared setup) setup.fences
 
 -- the display's ratio and size, and the counts are within their limits
 abbrev pub is_within_limits : Setup → Bool
 is_within_limits setup =
-    is_ratio setup.ratio && is_within SIDE_MAX setup.width && is_within SIDE_MAX setup.height && is_within SESSIONS_MAX setup.sessions && nat_le setup.probes PROBES_MAX
-    && nat_le (length setup.pairs) PAIRS_MAX && nat_le (length setup.buffers) BUFFER_COLLECTIONS_MAX && nat_le (length setup.fences) FENCES_MAX
+    is_ratio setup.ratio && is_within SIDE_MAX setup.width && is_within SIDE_MAX setup.height
+    && is_within SESSIONS_MAX setup.sessions && nat_le setup.probes PROBES_MAX
+    && nat_le (length setup.pairs) PAIRS_MAX && nat_le (length setup.buffers) BUFFER_COLLECTIONS_MAX
+    && nat_le (length setup.fences) FENCES_MAX
 
 -- exactly one viewport end is the display's
 abbrev pub has_one_display_pair : Setup → Bool

@@ -37,8 +37,11 @@ TakenStays = (setup : Setup) (before : List Entry) (entry : Entry) (s : SessionN
 pub record IsLongestReady (time : ℕ) (is_signalled : FenceNo → Bool) (waiting prefix : List Published) : Type 0 where
   pub begins : waiting ≡ prefix ++ drop (length prefix) waiting
   pub ready : list_all (λ present. is_ready time is_signalled present.args) prefix ≡ true
-  pub last : (earlier : List Published) (present : Published) → prefix ≡ earlier ++ present ∷ [] → list_any is_unsquashable earlier ≡ false
-  pub longest : IfSome (slice_get waiting (length prefix)) (λ (present : Published). (not (list_any is_unsquashable prefix) && is_ready time is_signalled present.args) ≡ false)
+  pub last : (earlier : List Published) (present : Published) → prefix ≡ earlier ++ present ∷ []
+      → list_any is_unsquashable earlier ≡ false
+  pub longest : IfSome (slice_get waiting (length prefix))
+      (λ (present : Published). (not (list_any is_unsquashable prefix) && is_ready time is_signalled present.args)
+      ≡ false)
 
 -- the ready prefix is the longest one
 abbrev pub ReadyPrefixIsLongest : Type 0
@@ -55,18 +58,21 @@ OthersAreSquashed =
 -- an entry closes its own session alone
 abbrev pub ClosesItsOwn : Type 0
 ClosesItsOwn =
-    (before : List Entry) (entry : Entry) (s : SessionNo) → is_session s entry.actor ≡ false → is_closed s (before ▹ entry) ≡ is_closed s before
+    (before : List Entry) (entry : Entry) (s : SessionNo) → is_session s entry.actor ≡ false
+    → is_closed s (before ▹ entry) ≡ is_closed s before
 
 -- the test for a cycle says that a transform which is reached from the root reaches itself
 abbrev pub CycleIsReached : Type 0
 CycleIsReached =
-    (draft : Draft) → (is_cyclic draft ≡ true) ↔ ((root : ℕ) × (draft.root ≡ Some root) × HasCycle (children_at draft) root)
+    (draft : Draft) → (is_cyclic draft ≡ true) ↔
+    ((root : ℕ) × (draft.root ≡ Some root) × HasCycle (children_at draft) root)
 
 -- the tree of a transform has one node for each path from it: the path leads to a node of the tree if it leads to a
 -- transform, and that node has all that the transform says, with the nodes below it
 abbrev pub OneNodeAPath : Type 0
 OneNodeAPath =
-    (draft : Draft) (levels : ℕ) (is_root : Bool) (serial : ℕ) (root : Node) → node_within levels draft is_root serial ≡ Some root →
+    (draft : Draft) (levels : ℕ) (is_root : Bool) (serial : ℕ) (root : Node)
+    → node_within levels draft is_root serial ≡ Some root →
     (path : List ℕ) → node_at root path
     ≡ option_and_then (node_within (levels - length path) draft (stays path && is_root)) (led_to draft serial path)
 
@@ -78,7 +84,8 @@ pub record IsClosedFamily (setup : Setup) (of_family : SessionNo → Bool) : Typ
 pub record IsLeastFamily (setup : Setup) (s : SessionNo) : Type 0 where
   pub itself : family setup s s ≡ true
   pub closed : IsClosedFamily setup (family setup s)
-  pub least : (holds : SessionNo → Bool) → holds s ≡ true → IsClosedFamily setup holds → (t : SessionNo) → family setup s t ≡ true → holds t ≡ true
+  pub least : (holds : SessionNo → Bool) → holds s ≡ true → IsClosedFamily setup holds → (t : SessionNo)
+      → family setup s t ≡ true → holds t ≡ true
 
 abbrev pub FamilyIsLeast : Type 0
 FamilyIsLeast = (setup : Setup) → owners_declared setup ≡ true → (s : SessionNo) → IsLeastFamily setup s

@@ -14,7 +14,8 @@ stays (place ∷ path) = false
 -- the serial of the transform to which a path leads, from that of another
 abbrev pub led_to : Draft → ℕ → List ℕ → Option ℕ
 led_to draft serial [] = Some serial
-led_to draft serial (place ∷ path) = option_and_then (λ child. led_to draft child path) (slice_get (children_at draft serial) place)
+led_to draft serial (place ∷ path) = option_and_then (λ child. led_to draft child path)
+    (slice_get (children_at draft serial) place)
 
 -- the node to which the same path leads in a tree
 abbrev pub node_at : Node → List ℕ → Option Node

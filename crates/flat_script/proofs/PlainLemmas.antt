@@ -35,8 +35,10 @@ plain_first (x ∷ text) all =
     first_by (is_feed x) x text refl parts.0 (plain_first text parts.1)
 
 -- the first line, and what is left
-pub first_plain : (plain : Bool) (text first : List ℕ) → (plain ≡ true → list_all is_text_byte text ≡ true) → first ≡ before_first is_feed text → plain ≡ true → list_all is_plain first ≡ true
+pub first_plain : (plain : Bool) (text first : List ℕ) → (plain ≡ true → list_all is_text_byte text ≡ true) → first ≡ before_first is_feed text → plain ≡ true
+    → list_all is_plain first ≡ true
 first_plain plain text first known is sure = ap (list_all is_plain) is ∙ plain_first text (known sure)
 
-pub rest_plain : (plain : Bool) (text rest : List ℕ) → (plain ≡ true → list_all is_text_byte text ≡ true) → rest ≡ after_first is_feed text → plain ≡ true → list_all is_text_byte rest ≡ true
+pub rest_plain : (plain : Bool) (text rest : List ℕ) → (plain ≡ true → list_all is_text_byte text ≡ true) → rest ≡ after_first is_feed text → plain ≡ true
+    → list_all is_text_byte rest ≡ true
 rest_plain plain text rest known is sure = ap (list_all is_text_byte) is ∙ all_drop is_text_byte (position_or_len is_feed text + 1) text (known sure)

@@ -1,5 +1,6 @@
 -- What the lists of packed nodes stand for, when they grow and when a node's end is written.
-use Rattle.std.proofs.Common.{ℕ, suc, ◌+◌, ◌-◌, ◌<◌, ◌≤◌, ◌≡◌, refl, sym, ap, ◌∙◌, Bool, true, false, cond, List, [], ◌∷◌, ◌++◌, length, map, take, drop, get_or, slice_set, Option, Result, Ok, Err, OnErr, arith}
+use Rattle.std.proofs.Common.{ℕ, suc, ◌+◌, ◌-◌, ◌<◌, ◌≤◌, ◌≡◌, refl, sym, ap, ◌∙◌, Bool, true, false, cond, List, [], ◌∷◌, ◌++◌, length, map, take, drop}
+use Rattle.std.proofs.Common.{get_or, slice_set, Option, Result, Ok, Err, OnErr, arith}
 use Rattle.std.specs.List.{All, slice_range}
 use Rattle.std.proofs.lemmas.List.{length-append, length-drop, length-map, drop-append-le, map-set, take-append-le}
 use Rattle.std.proofs.lemmas.List.Elements.{All-append, All-get_or, All-set}
@@ -40,12 +41,14 @@ within-grown small large ns h all = λ k d low. let here = all k d low in record
 range-behind : (rs more : List HitRegion) → slice_range (rs ++ more) (length rs) (length (rs ++ more)) ≡ more
 range-behind rs more =
     let size : length (rs ++ more) - length rs ≡ length more = omega (arith, length-append rs more) in
-    ap (λ (n : ℕ). take n (drop (length rs) (rs ++ more))) size ∙ ap (λ (all : List HitRegion). take (length more) all) (drop-append_seam rs more) ∙ take-length more
+    ap (λ (n : ℕ). take n (drop (length rs) (rs ++ more))) size ∙ ap (λ (all : List HitRegion). take (length more) all) (drop-append_seam rs more)
+    ∙ take-length more
 
 abbrev pub part_at : ℕ → ℕ → Part
 part_at start end = record { start = start; end = end }
 
-pub unfinished-is : (rs : List HitRegion) (n : FlatNode) → unpacked (rs ++ n.hits) (unfinished n (part_at (length rs) (length (rs ++ n.hits)))) ≡ flat_node (as_node n Empty) 0
+pub unfinished-is : (rs : List HitRegion) (n : FlatNode)
+    → unpacked (rs ++ n.hits) (unfinished n (part_at (length rs) (length (rs ++ n.hits)))) ≡ flat_node (as_node n Empty) 0
 unfinished-is rs n = rw (range-behind rs n.hits) refl
 
 map-push : {X Y : Type 0} (f : X → Y) (xs : List X) (x : X) → map f (xs ++ x ∷ []) ≡ map f xs ++ f x ∷ []
@@ -67,7 +70,8 @@ packed-enters rs rs' flat flat' places places' n start end at is within e f g h 
     (i ∙ sym (length-map flat (unpacked rs))) j
 
 -- the regions of all nodes lie in the grown list
-pub within-more : (size size' : ℕ) (flat flat' : List PackedNode) (n : FlatNode) (start end : ℕ) → All (IsWithin size) flat → size ≤ size' → start ≡ size → end ≡ size'
+pub within-more : (size size' : ℕ) (flat flat' : List PackedNode) (n : FlatNode) (start end : ℕ) → All (IsWithin size) flat → size ≤ size' → start ≡ size
+    → end ≡ size'
     → flat' ≡ flat ++ unfinished n (part_at start end) ∷ [] → All (IsWithin size') flat'
 within-more size size' flat flat' n start end within h d e f =
     rw f (All-append (IsWithin size') flat (unfinished n (part_at start end) ∷ []) (within-grown size size' flat h within)
@@ -90,25 +94,31 @@ abbrev pub content_of : PackedNode → Option Content
 content_of n = n.content
 
 -- the number of one more viewport is noted
-pub noted : (flat flat' : List PackedNode) (u : PackedNode) (at : ℕ) (found found' : List ℕ) → found ≡ viewport_places 0 (map content_of flat) → at ≡ length flat
+pub noted : (flat flat' : List PackedNode) (u : PackedNode) (at : ℕ) (found found' : List ℕ) → found ≡ viewport_places 0 (map content_of flat)
+    → at ≡ length flat
     → flat' ≡ flat ++ u ∷ [] → found' ≡ found ++ viewport_places at (u.content ∷ []) → found' ≡ viewport_places 0 (map content_of flat')
 noted flat flat' u at found found' is e f g =
     let size : at ≡ 0 + length (map content_of flat) = omega (arith, e, length-map flat content_of) in
-    g ∙ ap (λ (all : List ℕ). all ++ viewport_places at (u.content ∷ [])) is ∙ ap (λ (n : ℕ). viewport_places 0 (map content_of flat) ++ viewport_places n (u.content ∷ [])) size
-    ∙ sym (places-more 0 (map content_of flat) u.content) ∙ ap (viewport_places 0) (sym (map-push content_of flat u)) ∙ ap (λ (all : List PackedNode). viewport_places 0 (map content_of all)) (sym f)
+    g ∙ ap (λ (all : List ℕ). all ++ viewport_places at (u.content ∷ [])) is
+    ∙ ap (λ (n : ℕ). viewport_places 0 (map content_of flat) ++ viewport_places n (u.content ∷ [])) size
+    ∙ sym (places-more 0 (map content_of flat) u.content) ∙ ap (viewport_places 0) (sym (map-push content_of flat u))
+    ∙ ap (λ (all : List PackedNode). viewport_places 0 (map content_of all)) (sym f)
 
 -- ---- the lists of a builder that got more regions, and no node
 
-pub grown : (rs rs' more : List HitRegion) (flat : List PackedNode) → rs' ≡ rs ++ more → All (IsWithin (length rs)) flat → unpacked_all rs flat ≡ unpacked_all rs' flat
+pub grown : (rs rs' more : List HitRegion) (flat : List PackedNode) → rs' ≡ rs ++ more → All (IsWithin (length rs)) flat
+    → unpacked_all rs flat ≡ unpacked_all rs' flat
 grown rs rs' more flat e within = rw e (sym (all-grown rs more flat within))
 
-pub within-larger : (rs rs' more : List HitRegion) (flat : List PackedNode) → rs' ≡ rs ++ more → All (IsWithin (length rs)) flat → All (IsWithin (length rs')) flat
+pub within-larger : (rs rs' more : List HitRegion) (flat : List PackedNode) → rs' ≡ rs ++ more → All (IsWithin (length rs)) flat
+    → All (IsWithin (length rs')) flat
 within-larger rs rs' more flat e within = within-grown (length rs) (length rs') flat (omega (arith, ap length e, length-append rs more)) within
 
 pub whole-grown : (ns ns' : List FlatNode) (places : List ℕ) → ns ≡ ns' → IsWhole ns places → IsWhole ns' places
 whole-grown ns ns' places e is = rw e at is
 
-pub building-grown : (room : ℕ) (ns ns' : List FlatNode) (places : List ℕ) → ns ≡ ns' → building room (whole_part ns' places) ≡ building room (whole_part ns places)
+pub building-grown : (room : ℕ) (ns ns' : List FlatNode) (places : List ℕ) → ns ≡ ns'
+    → building room (whole_part ns' places) ≡ building room (whole_part ns places)
 building-grown room ns ns' places e = rw e refl
 
 -- what holds in any case, holds at an error

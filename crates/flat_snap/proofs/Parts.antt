@@ -43,7 +43,8 @@ part-inwards (o ∷ path) done rest to leaves e =
     let after : List FlatNode = flat_from (place + 1) done ++ rest in
     let here : FlatNode = flat_node o.node 0 in
     let left : flat_path (o ∷ path) ++ after ≡ flat_path path ++ (flat_from outer o.before ++ here ∷ after)
-    = append_assoc (flat_path path) (flat_from outer o.before ++ here ∷ []) after ∙ ap (λ (xs : List FlatNode). flat_path path ++ xs) (append_assoc (flat_from outer o.before) (here ∷ []) after) in
+    = append_assoc (flat_path path) (flat_from outer o.before ++ here ∷ []) after
+    ∙ ap (λ (xs : List FlatNode). flat_path path ++ xs) (append_assoc (flat_from outer o.before) (here ∷ []) after) in
     let right : flat_path path ++ (flat_from outer o.before ++ here ∷ after) ≡ (flat_path path ++ flat_from outer o.before) ++ here ∷ after
     = sym (append_assoc (flat_path path) (flat_from outer o.before) (here ∷ after)) in
     let size : length (flat_path path ++ flat_from outer o.before) ≡ place
@@ -65,7 +66,8 @@ pub part-whole : (ns : List FlatNode) (places : List ℕ) (path : List Opened) (
     → part ns (length ns) (reverse places) ≡ record { path = path; done = done }
 part-whole ns places path done is =
     let size : length ns ≡ path_count path + node_count done
-    = ap length is.flat ∙ length-append (flat_path path) (flat_from (path_count path) done) ∙ omega (arith, length-path path, length-flat (path_count path) done) in
+    = ap length is.flat ∙ length-append (flat_path path) (flat_from (path_count path) done)
+    ∙ omega (arith, length-path path, length-flat (path_count path) done) in
     let e : part (flat_path path ++ (flat_from (path_count path) done ++ [])) (length ns) (inwards path) ≡ record { path = path; done = done }
     = part-inwards path done [] (length ns) is.leaves size in
     let e' : part (flat_path path ++ flat_from (path_count path) done) (length ns) (inwards path) ≡ record { path = path; done = done }
@@ -89,7 +91,8 @@ part-entered ns places path done n is leaf = record {
   at = rw (is.at, length-part ns places path done is) refl;
 }
 
-pub flat-followed : (next : ℕ) (all others : Children) → flat_from next (followed_by all others) ≡ flat_from next all ++ flat_from (next + node_count all) others
+pub flat-followed : (next : ℕ) (all others : Children)
+    → flat_from next (followed_by all others) ≡ flat_from next all ++ flat_from (next + node_count all) others
 flat-followed next Empty others = let e : next + 0 ≡ next = omega arith in rw e refl
 flat-followed next (first serial scale turn place clip opacity hits content children rest) others =
     let end : ℕ = next + 1 + node_count children in
@@ -112,18 +115,21 @@ part-split ns places o path done is =
     ∙ sym (append_assoc (flat_path path) (flat_from (path_count path) o.before) (here ∷ after))
 
 pub length-before : (o : Opened) (path : List Opened) → length (flat_path path ++ flat_from (path_count path) o.before) ≡ place_of o path
-length-before o path = length-append (flat_path path) (flat_from (path_count path) o.before) ∙ omega (arith, length-path path, length-flat (path_count path) o.before)
+length-before o path = length-append (flat_path path) (flat_from (path_count path) o.before)
+    ∙ omega (arith, length-path path, length-flat (path_count path) o.before)
 
 -- the innermost open node lies at its place
 pub part-innermost : (ns : List FlatNode) (places : List ℕ) (o : Opened) (path : List Opened) (done : Children) → IsPart ns places (o ∷ path) done
     → slice_get ns (place_of o path) ≡ Some (flat_node o.node 0)
 part-innermost ns places o path done is =
     ap (λ (xs : List FlatNode). slice_get xs (place_of o path)) (part-split ns places o path done is)
-    ∙ slice_get-at (flat_path path ++ flat_from (path_count path) o.before) (flat_node o.node 0) (flat_from (place_of o path + 1) done) (place_of o path) (length-before o path)
+    ∙ slice_get-at (flat_path path ++ flat_from (path_count path) o.before) (flat_node o.node 0) (flat_from (place_of o path + 1) done) (place_of o path)
+    (length-before o path)
 
 -- the innermost open node is closed
 pub part-left : (ns : List FlatNode) (places : List ℕ) (o : Opened) (path : List Opened) (done : Children) → IsPart ns places (o ∷ path) done
-    → IsPart (slice_set ns (place_of o path) (flat_node o.node (length ns))) (places_of path) path (followed_by o.before (more (with_children o.node done) Empty))
+    → IsPart (slice_set ns (place_of o path) (flat_node o.node (length ns))) (places_of path) path
+    (followed_by o.before (more (with_children o.node done) Empty))
 part-left ns places o path done is = record {
   leaves = is.leaves.1;
   flat =

@@ -24,7 +24,8 @@ use Rattle.flat_scene.specs.declared.trees.Content.{Content}
 use Rattle.flat_scene.specs.declared.trees.Content.TheVariants as content
 use Rattle.flat_scene.specs.contracts.trees.ContentPartialEq.TheImpl.{eq-value as content_eq}
 
-pub option-same : {X : Type 0} {E : X → X → Bool} → ((a b : X) → Decides (E a b) (a ≡ b)) → (one other : Option X) → Decides (option_eq E one other) (one ≡ other)
+pub option-same : {X : Type 0} {E : X → X → Bool} → ((a b : X) → Decides (E a b) (a ≡ b)) → (one other : Option X)
+    → Decides (option_eq E one other) (one ≡ other)
 option-same same None None = (λ h. refl, λ h. refl)
 option-same same None (Some b) = search rules
 option-same same (Some a) None = search rules
@@ -41,7 +42,8 @@ rect-of a b x y w h = same-rect a.x b.x a.y b.y a.w b.w a.h b.h x y w h
 
 pub rect-same : (a b : IntRect) → Decides (rect.it a b) (a ≡ b)
 rect-same a b =
-    Decides-like _ (λ p. rect-of a b p.0 p.1.0 p.1.1.0 p.1.1.1) (λ e. (ap (λ (r : IntRect). r.x) e, (ap (λ (r : IntRect). r.y) e, (ap (λ (r : IntRect). r.w) e, ap (λ (r : IntRect). r.h) e))))
+    Decides-like _ (λ p. rect-of a b p.0 p.1.0 p.1.1.0 p.1.1.1)
+    (λ e. (ap (λ (r : IntRect). r.x) e, (ap (λ (r : IntRect). r.y) e, (ap (λ (r : IntRect). r.w) e, ap (λ (r : IntRect). r.h) e))))
     (Decides-and _ _ (Decides-int_eq a.x b.x) (Decides-and _ _ (Decides-int_eq a.y b.y) (Decides-and _ _ (Decides-int_eq a.w b.w) (Decides-int_eq a.h b.h))))
 
 blend-same : (a b : BlendMode) → Decides (blend.it a b) (a ≡ b)
@@ -56,15 +58,18 @@ buffer_at n = record { 0 = n }
 buffer-of : (a b : BufferNo) → a.0 ≡ b.0 → a ≡ b
 buffer-of a b e = ap buffer_at e
 
-image-of : (serial serial' : ℕ) (buffers buffers' : BufferNo) (index index' : ℕ) (sample sample' : IntRect) (w w' h h' : ℕ) (b b' : BlendMode) (f f' : ImageFlip) (opacity opacity' : ℕ)
+image-of : (serial serial' : ℕ) (buffers buffers' : BufferNo) (index index' : ℕ) (sample sample' : IntRect) (w w' h h' : ℕ) (b b' : BlendMode)
+    (f f' : ImageFlip) (opacity opacity' : ℕ)
     → serial ≡ serial' → buffers.0 ≡ buffers'.0 → index ≡ index' → sample ≡ sample' → w ≡ w' → h ≡ h' → b ≡ b' → f ≡ f' → opacity ≡ opacity'
     → content.Image serial buffers index sample w h b f opacity ≡ content.Image serial' buffers' index' sample' w' h' b' f' opacity'
-image-of serial serial' buffers buffers' index index' sample sample' w w' h h' b b' f f' opacity opacity' e0 e1 e2 e3 e4 e5 e6 e7 e8 = let e : buffers ≡ buffers' = buffer-of buffers buffers' e1 in cc
+image-of serial serial' buffers buffers' index index' sample sample' w w' h h' b b' f f' opacity opacity' e0 e1 e2 e3 e4 e5 e6 e7 e8 =
+    let e : buffers ≡ buffers' = buffer-of buffers buffers' e1 in cc
 
 pub content-same : (one other : Content) → Decides (content_eq.it one other) (one ≡ other)
 content-same (content.Fill serial rgba w h) (content.Fill serial' rgba' w' h') = search rules
 content-same (content.Image serial buffers index sample w h b f opacity) (content.Image serial' buffers' index' sample' w' h' b' f' opacity') =
-    Decides-like _ (λ p. image-of serial serial' buffers buffers' index index' sample sample' w w' h h' b b' f f' opacity opacity' p.0 p.1.0 p.1.1.0 p.1.1.1.0 p.1.1.1.1.0 p.1.1.1.1.1.0 p.1.1.1.1.1.1.0 p.1.1.1.1.1.1.1.0 p.1.1.1.1.1.1.1.1)
+    Decides-like _ (λ p. image-of serial serial' buffers buffers' index index' sample sample' w w' h h' b b' f f' opacity opacity' p.0 p.1.0 p.1.1.0 p.1.1.1.0
+    p.1.1.1.1.0 p.1.1.1.1.1.0 p.1.1.1.1.1.1.0 p.1.1.1.1.1.1.1.0 p.1.1.1.1.1.1.1.1)
     (λ e. let same : buffers ≡ buffers' = cc in (cc, (ap (λ (n : BufferNo). n.0) same, (cc, (cc, (cc, (cc, (cc, (cc, cc)))))))))
     (Decides-and _ _ (Decides-eqb serial serial') (Decides-and _ _ (Decides-eqb buffers.0 buffers'.0) (Decides-and _ _ (Decides-eqb index index')
     (Decides-and _ _ (rect-same sample sample') (Decides-and _ _ (Decides-eqb w w') (Decides-and _ _ (Decides-eqb h h')
@@ -100,7 +105,8 @@ tree-same a b view viewports nodes =
 -- ---- lists
 
 -- two lists begin with the same items, and have the same next one
-pub front-next : {X : Type 0} (xs ys : List X) (i : ℕ) (x y : X) → slice_get xs i ≡ Some x → slice_get ys i ≡ Some y → x ≡ y → take i xs ≡ take i ys → take (i + 1) xs ≡ take (i + 1) ys
+pub front-next : {X : Type 0} (xs ys : List X) (i : ℕ) (x y : X) → slice_get xs i ≡ Some x → slice_get ys i ≡ Some y → x ≡ y → take i xs ≡ take i ys
+    → take (i + 1) xs ≡ take (i + 1) ys
 front-next {X = X} xs ys i x y at at' same front =
     let more : take (i + 1) xs ≡ take i xs ++ get_or xs i x ∷ [] = take_more xs i x (slice_get_within xs i x at) in
     let more' : take (i + 1) ys ≡ take i ys ++ get_or ys i y ∷ [] = take_more ys i y (slice_get_within ys i y at') in

@@ -22,7 +22,8 @@ pub record Enters (ns : List FlatNode) (places : List ℕ) (n : Node) (ns' : Lis
   pub is : IsWhole ns' places'
 
 pub enters : (ns : List FlatNode) (places : List ℕ) (n : Node) (u : FlatNode) (at : ℕ) (ns' : List FlatNode) (places' : List ℕ)
-    → IsWhole ns places → n.children ≡ Empty → u ≡ flat_node n 0 → ns' ≡ ns ++ u ∷ [] → at ≡ length ns → places' ≡ places ++ at ∷ [] → Enters ns places n ns' places'
+    → IsWhole ns places → n.children ≡ Empty → u ≡ flat_node n 0 → ns' ≡ ns ++ u ∷ [] → at ≡ length ns → places' ≡ places ++ at ∷ []
+    → Enters ns places n ns' places'
 enters ns places n u at ns' places' is leaf e f g h =
     let then : IsPart ns' places' (record { node = n; before = (whole_part ns places).done } ∷ (whole_part ns places).path) Empty
     = rw (f, h, e, g) (part-entered ns places (whole_part ns places).path (whole_part ns places).done n is leaf) in
@@ -36,7 +37,10 @@ pub record Leaves (ns : List FlatNode) (places : List ℕ) (at : ℕ) (places' :
   pub within : at < length ns
   pub there : (d : FlatNode) → get_or ns at d ≡ flat_node innermost.node 0
   pub now : (u : FlatNode) → u ≡ flat_node innermost.node (length ns)
-      → whole_part (slice_set ns at u) places' ≡ record { path = path; done = followed_by innermost.before (more (with_children innermost.node (whole_part ns places).done) Empty) }
+      → whole_part (slice_set ns at u) places' ≡ record {
+        path = path;
+        done = followed_by innermost.before (more (with_children innermost.node (whole_part ns places).done) Empty);
+      }
   pub is : (u : FlatNode) → u ≡ flat_node innermost.node (length ns) → IsWhole (slice_set ns at u) places'
 
 leaves-from : (ns : List FlatNode) (places : List ℕ) (at : ℕ) (places' : List ℕ) (path : List Opened) → (whole_part ns places).path ≡ path
@@ -54,7 +58,8 @@ leaves-from ns places at places' (o ∷ path) e is has_open popped =
       was = e;
       within = omega (arith, length-part ns places (o ∷ path) done is, ends.1);
       there = λ d. rw (ends.1, part-split ns places o path done is)
-          (get_or_at (flat_path path ++ flat_from (path_count path) o.before) (flat_node o.node 0) (flat_from (place_of o path + 1) done) d (place_of o path) (length-before o path));
+          (get_or_at (flat_path path ++ flat_from (path_count path) o.before) (flat_node o.node 0) (flat_from (place_of o path + 1) done) d (place_of o path)
+          (length-before o path));
       now = λ u same. part-whole (slice_set ns at u) places' _ _ (after u same);
       is = λ u same. whole (slice_set ns at u) places' _ _ (after u same);
     }
@@ -66,7 +71,8 @@ leaves ns places at places' is has_open popped = leaves-from ns places at places
 rooted-head : (all : Children) → length (nodes all) ≤ 1 → rooted (head_of all) ≡ all
 rooted-head Empty few = refl
 rooted-head (first serial scale turn place clip opacity hits content children Empty) few = refl
-rooted-head (first serial scale turn place clip opacity hits content children (first serial' scale' turn' place' clip' opacity' hits' content' children' rest)) few = absurd (omega arith)
+rooted-head (first serial scale turn place clip opacity hits content children (first serial' scale' turn' place' clip' opacity' hits' content' children' rest))
+    few = absurd (omega arith)
 
 closed-flat : (ns : List FlatNode) (places : List ℕ) (path : List Opened) (done : Children) → IsPart ns places path done → path ≡ [] → ns ≡ flat_from 0 done
 closed-flat ns places [] done is e = is.flat

@@ -39,7 +39,11 @@ entered b n = record { room = b.room - 1; path = record { node = n; before = b.d
 -- the innermost of the open nodes is closed, with these children
 abbrev pub closed : ℕ → List Opened → Children → Building
 closed room [] done = record { room = room; path = []; done = done }
-closed room (o ∷ path) done = record { room = room; path = path; done = followed_by o.before (more (with_children o.node done) Empty) }
+closed room (o ∷ path) done = record {
+  room = room;
+  path = path;
+  done = followed_by o.before (more (with_children o.node done) Empty);
+}
 
 -- the innermost open node is closed
 abbrev pub left : Building → Building

@@ -56,7 +56,17 @@ flat_node n after = record {
 abbrev pub flat_from : ℕ → Children → List FlatNode
 flat_from next Empty = []
 flat_from next (first serial scale turn place clip opacity hits content children rest) =
-    record { serial = serial; scale = scale; turn = turn; place = place; clip = clip; opacity = opacity; hits = hits; content = content; end = next + 1 + node_count children }
+    record {
+      serial = serial;
+      scale = scale;
+      turn = turn;
+      place = place;
+      clip = clip;
+      opacity = opacity;
+      hits = hits;
+      content = content;
+      end = next + 1 + node_count children;
+    }
     ∷ (flat_from (next + 1) children ++ flat_from (next + 1 + node_count children) rest)
 
 -- the root, if there is one, as a list of nodes
@@ -76,4 +86,5 @@ is_viewport _ = false
 -- the places of the viewports among some contents, of which the first has this place
 abbrev pub viewport_places : ℕ → List (Option Content) → List ℕ
 viewport_places place [] = []
-viewport_places place (c ∷ cs) = if is_viewport c then place ∷ viewport_places (place + 1) cs else viewport_places (place + 1) cs
+viewport_places place (c ∷ cs) = if is_viewport c then place ∷ viewport_places (place + 1) cs else
+    viewport_places (place + 1) cs

@@ -25,7 +25,8 @@ abbrev pub forest_in : List FlatNode → ℕ → ℕ → ℕ → Children
 forest_in [] next from to = Empty
 forest_in (n ∷ ns) next from to =
     if nat_lt next from then forest_in ns (next + 1) from to else
-    (if nat_lt next to then more (as_node n (forest_in ns (next + 1) (next + 1) n.end)) (forest_in ns (next + 1) n.end to) else Empty)
+    (if nat_lt next to then more (as_node n (forest_in ns (next + 1) (next + 1) n.end))
+    (forest_in ns (next + 1) n.end to) else Empty)
 
 -- the trees of all nodes
 abbrev pub forest : List FlatNode → Children

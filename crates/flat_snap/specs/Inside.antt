@@ -15,7 +15,10 @@ pub record Part : Type 0 where
 -- one more node is open, and the nodes after it are closed
 abbrev pub opened_at : Option FlatNode → Part → Children → Part
 opened_at None outer done = record { path = outer.path; done = done }
-opened_at (Some n) outer done = record { path = record { node = as_node n Empty; before = outer.done } ∷ outer.path; done = done }
+opened_at (Some n) outer done = record {
+  path = record { node = as_node n Empty; before = outer.done } ∷ outer.path;
+  done = done;
+}
 
 -- what the nodes before a number stand for, where these are the places of the open ones, the innermost first
 abbrev pub part : List FlatNode → ℕ → List ℕ → Part

@@ -26,7 +26,8 @@ some-same o x y p q = cc
 pub first_is : (stage : StageView) (n : ℕ) (seats : List (Option SessionView)) (seat : SessionView) → AreFresh stage n seats → 0 < n
     → session_at seats (number 1) ≡ Some seat → seat ≡ fresh_view stage (number 1)
 first_is stage n seats seat fresh some at =
-    some-same (slice_index_or seats 0 None) seat (fresh_view stage (number 1)) at (get_or_from_slice_get seats 0 (Some (fresh_view stage (number 1))) None (fresh.each 0 some))
+    some-same (slice_index_or seats 0 None) seat (fresh_view stage (number 1)) at
+    (get_or_from_slice_get seats 0 (Some (fresh_view stage (number 1))) None (fresh.each 0 some))
 
 pub second_is : (stage : StageView) (n : ℕ) (seats : List (Option SessionView)) (seat : SessionView) → AreFresh stage n seats → 1 < n
     → session_at (seats_without seats (number 1)) (number 2) ≡ Some seat → seat ≡ fresh_view stage (number 2)

@@ -22,10 +22,12 @@ added-same f g (x ∷ xs) same = rw (same 0, added-same (λ i. f (suc i)) (λ i.
 added-more : (f g : ℕ → ℕ) (xs : List ℕ) (p : ℕ) → p < length xs → ((i : ℕ) → g i ≡ cond (p == i) 1 0 + f i) → added g xs ≡ suc (added f xs)
 added-more f g [] p below more = absurd (omega arith)
 added-more f g (x ∷ xs) zero below more =
-    let rest : added (λ i. g (suc i)) xs ≡ added (λ i. f (suc i)) xs = added-same (λ i. g (suc i)) (λ i. f (suc i)) xs (λ i. rw (more (suc i)) (grind (arith, nat_tests))) in
+    let rest : added (λ i. g (suc i)) xs ≡ added (λ i. f (suc i)) xs =
+    added-same (λ i. g (suc i)) (λ i. f (suc i)) xs (λ i. rw (more (suc i)) (grind (arith, nat_tests))) in
     rw (more 0, rest) (omega arith)
 added-more f g (x ∷ xs) (suc p) below more =
-    let rest : added (λ i. g (suc i)) xs ≡ suc (added (λ i. f (suc i)) xs) = added-more (λ i. f (suc i)) (λ i. g (suc i)) xs p (grind (arith, common_steps)) (λ i. rw (more (suc i)) (grind (arith, nat_tests))) in
+    let rest : added (λ i. g (suc i)) xs ≡ suc (added (λ i. f (suc i)) xs) =
+    added-more (λ i. f (suc i)) (λ i. g (suc i)) xs p (grind (arith, common_steps)) (λ i. rw (more (suc i)) (grind (arith, nat_tests))) in
     rw (more 0, rest) (grind (arith, nat_tests))
 
 made-more : (e : Entry) (h : List Entry) (place : ℕ) → made place (h ▹ e) ≡ cond (seat_number e.actor == place) 1 0 + made place h
@@ -43,7 +45,8 @@ none-made (x ∷ xs) = rw (zero-add _) (none-made xs)
 length-made : (shares : List ℕ) (h : List Entry) → AllPlaced (length shares) h → added (λ place. made place h) shares ≡ length h
 length-made shares [] placed = none-made shares
 length-made shares (h ▹ e) placed =
-    added-more (λ place. made place h) (λ place. made place (h ▹ e)) shares (seat_number e.actor) placed.1 (made-more e h) ∙ rw (length-made shares h placed.0) refl
+    added-more (λ place. made place h) (λ place. made place (h ▹ e)) shares (seat_number e.actor) placed.1 (made-more e h)
+    ∙ rw (length-made shares h placed.0) refl
 
 added-le : (f : ℕ → ℕ) (xs : List ℕ) → ((i : ℕ) → i < length xs → f i ≤ slice_index xs i) → added f xs ≤ sum xs
 added-le f [] le = omega arith
@@ -58,7 +61,8 @@ added-lt f (x ∷ xs) zero below le lt =
     let rest : added (λ i. f (suc i)) xs ≤ sum xs = added-le (λ i. f (suc i)) xs (λ i b. le (suc i) (grind (arith, common_steps))) in
     rw (sum_by-cons (λ n. n) x xs) (omega arith)
 added-lt f (x ∷ xs) (suc p) below le lt =
-    let rest : added (λ i. f (suc i)) xs < sum xs = added-lt (λ i. f (suc i)) xs p (grind (arith, common_steps)) (λ i b. le (suc i) (grind (arith, common_steps))) lt in
+    let rest : added (λ i. f (suc i)) xs < sum xs = added-lt (λ i. f (suc i)) xs p (grind (arith, common_steps))
+    (λ i b. le (suc i) (grind (arith, common_steps))) lt in
     let first : f 0 ≤ x = le 0 (grind (arith, common_steps)) in
     rw (sum_by-cons (λ n. n) x xs) (omega arith)
 
@@ -72,7 +76,8 @@ fair-at : (q p m n : ℕ) → m ≤ n → (q ≡ p → m < n) → (cond (q == p)
 fair-at q p m n le lt = grind (arith, nat_tests)
 
 -- the shares stay fair
-pub fair-more : (shares : List ℕ) (h : List Entry) (e : Entry) → ((p : ℕ) → p < length shares → made p h ≤ slice_index shares p) → made (seat_number e.actor) h < slice_index shares (seat_number e.actor)
+pub fair-more : (shares : List ℕ) (h : List Entry) (e : Entry) → ((p : ℕ) → p < length shares → made p h ≤ slice_index shares p)
+    → made (seat_number e.actor) h < slice_index shares (seat_number e.actor)
     → (p : ℕ) → p < length shares → made p (h ▹ e) ≤ slice_index shares p
 fair-more shares h e fair lt p below =
     rw (made-more e h p) (fair-at (seat_number e.actor) p (made p h) (slice_index shares p) (fair p below) (λ same. rw (← same) lt))

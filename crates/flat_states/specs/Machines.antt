@@ -70,21 +70,34 @@ pub record MayLook (setup : Setup) (who : Actor) (c : Cond) : Type 0 where
 
 -- the display's pixel ratios: that of now, and those of the begins of the last frame and of the last finished one
 abbrev pub ratios_of : Setup → List Entry → Ratios
-ratios_of setup history = record { latest = ratio setup history; begun = ratio setup (to_begin history); finished = ratio_told setup history }
+ratios_of setup history = record {
+  latest = ratio setup history;
+  begun = ratio setup (to_begin history);
+  finished = ratio_told setup history;
+}
 
 abbrev pub clock_of : Setup → List Entry → Clock
-clock_of setup history = record { frames = frames history; is_open = is_frame_open history; time = begin_time history; ratios = ratios_of setup history }
+clock_of setup history = record {
+  frames = frames history;
+  is_open = is_frame_open history;
+  time = begin_time history;
+  ratios = ratios_of setup history;
+}
 
 -- the clock after an entry of no frame: a pixel ratio may have been set
 abbrev pub clock_then : Kind → Clock → Clock
-clock_then kind clock = record clock { ratios = record clock.ratios { latest = unwrap_or (ratio_set kind) clock.ratios.latest } }
+clock_then kind clock = record clock {
+  ratios =
+      record clock.ratios { latest = unwrap_or (ratio_set kind) clock.ratios.latest };
+}
 
 -- how many events may still be posted to a session for what it presented
 abbrev pub due : SessionState → ℕ
 due state = 2 * length state.queue.waiting + cond (nat_lt 0 state.took) 1 0
 
 -- The parts that stand for the history.
-pub record Stands (setup : Setup) (history : List Entry) (clock : Clock) (fences views : List Bool) (sessions : List SessionState) : Type 0 where
+pub record Stands (setup : Setup) (history : List Entry) (clock : Clock) (fences views : List Bool)
+    (sessions : List SessionState) : Type 0 where
   pub legal : Legal setup history
   pub timed : clock ≡ clock_of setup history
   pub fence_count : length fences ≡ length setup.fences

@@ -30,11 +30,13 @@ next_present state = state.queue.taken + length state.queue.waiting + 1
 -- the reply to a present
 abbrev pub present_reply : SessionState → Reply
 present_reply state =
-    cond (nat_lt 0 (credits_of state.queue)) (Presented (next_present state) (credits_of state.queue - 1)) (Closed (Some NoPresentsRemaining) None)
+    cond (nat_lt 0 (credits_of state.queue)) (Presented (next_present state) (credits_of state.queue - 1))
+    (Closed (Some NoPresentsRemaining) None)
 
 -- a present joins those that wait, where the session has a credit
 abbrev pub with_waiting : SessionState → Arc Snapshot Global → PresentArgs → SessionState
-with_waiting state snap args = cond (nat_lt 0 (credits_of state.queue)) (record state { queue = pushed state.queue snap args }) state
+with_waiting state snap args = cond (nat_lt 0 (credits_of state.queue))
+    (record state { queue = pushed state.queue snap args }) state
 
 -- how many events may be posted for it
 abbrev pub owed_for : Reply → ℕ
@@ -55,10 +57,12 @@ pub record IsNew (state : SessionState) : Type 0 where
 -- what a frame takes of what is kept: all before the first present that isn't ready, and none after the first
 -- unsquashable one
 abbrev pub frame_takes : {T : Type 0} → ℕ → (FenceNo → Bool) → List (WaitingPresent T) → List (WaitingPresent T)
-frame_takes time is_signalled waiting = up_to_first (λ kept. kept.args.unsquashable) (ready_of time is_signalled waiting)
+frame_takes time is_signalled waiting = up_to_first (λ kept. kept.args.unsquashable)
+    (ready_of time is_signalled waiting)
 
 -- That was taken, this was the last of it, and it goes at the frame's end.
-pub record TookReady (time : ℕ) (is_signalled : FenceNo → Bool) (result : Option (Arc Snapshot Global)) (old new : SessionState) : Type 0 where
+pub record TookReady (time : ℕ) (is_signalled : FenceNo → Bool) (result : Option (Arc Snapshot Global))
+    (old new : SessionState) : Type 0 where
   pub took : new.took ≡ length (frame_takes time is_signalled old.queue.waiting)
   pub taken : new.queue.taken ≡ old.queue.taken + new.took
   pub waiting : new.queue.waiting ≡ drop new.took old.queue.waiting
@@ -90,7 +94,8 @@ use_reply false = refused_token
 -- what the reply to an entry decides of what is kept of its session:
 -- it is closed, made one more present, or has that view
 abbrev pub after_reply : Kind → Reply → SessionState → SessionState
-after_reply (Present args) (Presented number credits) state = record state { account = record state.account { presents = number } }
+after_reply (Present args) (Presented number credits) state =
+    record state { account = record state.account { presents = number } }
 after_reply (View p) Done state = record state { account = record state.account { view = Some p } }
 after_reply kind (Closed error reason) state = record state { closed = true }
 after_reply kind reply state = state

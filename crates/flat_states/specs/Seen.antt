@@ -15,7 +15,8 @@ module _ (setup : Setup) where
   -- how many events were posted before its last poll
   abbrev pub polled_at : List Entry → SessionNo → ℕ
   polled_at [] s = 0
-  polled_at (before ▹ entry) s = cond (is_session s entry.actor && is_poll entry.kind) (length (posts setup before)) (polled_at before s)
+  polled_at (before ▹ entry) s = cond (is_session s entry.actor && is_poll entry.kind) (length (posts setup before))
+      (polled_at before s)
 
   -- what its own entries alone decide
   abbrev pub account_of : List Entry → SessionNo → Account

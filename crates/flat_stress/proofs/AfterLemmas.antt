@@ -1,5 +1,6 @@
 -- Lines of the load one after another, and what they make of a body.
-use Rattle.std.proofs.Common.{◌≡◌, ℕ, zero, suc, ◌+◌, ◌*◌, ◌^◌, ◌<◌, ◌≤◌, max, true, false, cond, nat_lt, nat_le, List, [], ◌∷◌, ◌++◌, length, map, Some, Ok, refl, sym, ◌∙◌, ap, subst, codes, arith, append-nil, append_assoc, length-append}
+use Rattle.std.proofs.Common.{◌≡◌, ℕ, zero, suc, ◌+◌, ◌*◌, ◌^◌, ◌<◌, ◌≤◌, max, true, false, cond, nat_lt, nat_le, List, [], ◌∷◌, ◌++◌, length, map, Some, Ok}
+use Rattle.std.proofs.Common.{refl, sym, ◌∙◌, ap, subst, codes, arith, append-nil, append_assoc, length-append}
 use Rattle.std.specs.List.{flat_map, filter_map, range_with_len}
 use Rattle.std.proofs.lemmas.Bool.Decides.{nat_tests}
 use Rattle.std.proofs.lemmas.Grind.{fold-append}
@@ -44,10 +45,13 @@ few_lines us a few = let most = count_by-le-length (λ (l : ScriptLine). is_acto
     below : (n : ℕ) → n < 65536 → nat_lt n 65536 ≡ true
     below n fits = grind (arith, nat_tests)
 
-body_goes_on : (us : List ScriptLine) (k : ℕ) (a : Actor) (b : Body) (w : Word) (ws : List Word) (rest : List (List ℕ)) → IsLine (w ∷ ws) → length us < 65536 → actor_named start w ≡ Some a
-    → actor_line (with_lines start us) a ws ≡ Ok b → lines_read k (part.Body, with_lines start us) (line_of (w ∷ ws) ∷ rest) ≡ lines_read (k + 1) (part.Body, with_lines start (more us k a b)) rest
+body_goes_on : (us : List ScriptLine) (k : ℕ) (a : Actor) (b : Body) (w : Word) (ws : List Word) (rest : List (List ℕ)) → IsLine (w ∷ ws) → length us < 65536
+    → actor_named start w ≡ Some a
+    → actor_line (with_lines start us) a ws ≡ Ok b → lines_read k (part.Body, with_lines start us) (line_of (w ∷ ws) ∷ rest)
+    ≡ lines_read (k + 1) (part.Body, with_lines start (more us k a b)) rest
 body_goes_on us k a b w ws rest good few named is =
-    line_goes_on k (part.Body, with_lines start us) (part.Body, with_lines start (more us k a b)) (w ∷ ws) rest good (let fits = few_lines us a few in rw (named, fits, is) refl)
+    line_goes_on k (part.Body, with_lines start us) (part.Body, with_lines start (more us k a b)) (w ∷ ws) rest good
+    (let fits = few_lines us a few in rw (named, fits, is) refl)
 
 -- frames
 
@@ -57,16 +61,25 @@ pub record Frames (us : List ScriptLine) (begun ended : ℕ) : Type 0 where
   pub last : greatest (begin_times (with_lines start us)) ≡ begun
   pub ends : dones (with_lines start us) ≡ ended
 
-times_after : (us : List ScriptLine) (k : ℕ) (a : Actor) (b : Body) → begin_times (with_lines start (more us k a b)) ≡ begin_times (with_lines start us) ++ filter_map (λ (l : ScriptLine). time_begun l.body) (record { number = k; actor = a; body = b } ∷ [])
+times_after : (us : List ScriptLine) (k : ℕ) (a : Actor) (b : Body)
+    → begin_times (with_lines start (more us k a b)) ≡ begin_times (with_lines start us)
+    ++ filter_map (λ (l : ScriptLine). time_begun l.body) (record { number = k; actor = a; body = b } ∷ [])
 times_after us k a b = filter_map-append (λ (l : ScriptLine). time_begun l.body) us (record { number = k; actor = a; body = b } ∷ [])
 
-dones_after : (us : List ScriptLine) (k : ℕ) (a : Actor) (b : Body) → dones (with_lines start (more us k a b)) ≡ dones (with_lines start us) + cond (ends_frame b) 1 0
+dones_after : (us : List ScriptLine) (k : ℕ) (a : Actor) (b : Body)
+    → dones (with_lines start (more us k a b)) ≡ dones (with_lines start us) + cond (ends_frame b) 1 0
 dones_after us k a b = fold-append (λ n (l : ScriptLine). n + cond (ends_frame l.body) 1 0) 0 us (record { number = k; actor = a; body = b } ∷ [])
 
-said_frames : (us : List ScriptLine) (k : ℕ) (a : Actor) (l : Line) (begun ended : ℕ) → Frames us begun ended → Frames (more us k a (body.Session l)) begun ended
+said_frames : (us : List ScriptLine) (k : ℕ) (a : Actor) (l : Line) (begun ended : ℕ) → Frames us begun ended
+    → Frames (more us k a (body.Session l)) begun ended
 said_frames us k a l begun ended frames =
-    let times : begin_times (with_lines start (more us k a (body.Session l))) ≡ begin_times (with_lines start us) = times_after us k a (body.Session l) ∙ append-nil _ in
-    record { begins = ap length times ∙ frames.begins; last = ap greatest times ∙ frames.last; ends = dones_after us k a (body.Session l) ∙ omega (arith, frames.ends) }
+    let times : begin_times (with_lines start (more us k a (body.Session l))) ≡ begin_times (with_lines start us) =
+    times_after us k a (body.Session l) ∙ append-nil _ in
+    record {
+      begins = ap length times ∙ frames.begins;
+      last = ap greatest times ∙ frames.last;
+      ends = dones_after us k a (body.Session l) ∙ omega (arith, frames.ends);
+    }
 
 begin_frames : (us : List ScriptLine) (k f : ℕ) → Frames us f f → Frames (more us k Display (body.Display (display.Begin (f + 1)))) (f + 1) f
 begin_frames us k f frames =
@@ -101,7 +114,8 @@ opened us f frames = some (dones (with_lines start us)) (length (begin_times (wi
     some : (d n : ℕ) → n ≡ d + 1 → nat_lt d n ≡ true
     some d n one = grind (arith, nat_tests)
 
-begin_read : (us : List ScriptLine) (f : ℕ) → Frames us f f → f < 500 → display_line (with_lines start us) (codes "begin" ∷ number (f + 1) ∷ []) ≡ Ok (display.Begin (f + 1))
+begin_read : (us : List ScriptLine) (f : ℕ) → Frames us f f → f < 500
+    → display_line (with_lines start us) (codes "begin" ∷ number (f + 1) ∷ []) ≡ Ok (display.Begin (f + 1))
 begin_read us f frames few =
     let shut = closed us f frames in
     let room = below (length (begin_times (with_lines start us))) 512 (omega (arith, frames.begins)) in
@@ -125,14 +139,22 @@ pub record After (us : List ScriptLine) (k : ℕ) (wss : List (List Word)) (f : 
   pub behind : List ScriptLine
   pub frames : Frames behind f f
   pub many : length behind ≡ length us + length wss
-  pub read : (rest : List (List ℕ)) → lines_read k (part.Body, with_lines start us) (map line_of wss ++ rest) ≡ lines_read (k + length wss) (part.Body, with_lines start behind) rest
+  pub read : (rest : List (List ℕ)) → lines_read k (part.Body, with_lines start us) (map line_of wss ++ rest)
+      ≡ lines_read (k + length wss) (part.Body, with_lines start behind) rest
 
 -- no line
 pub none_after : (us : List ScriptLine) (k f : ℕ) → Frames us f f → After us k [] f
-none_after us k f frames = record { good = tt; behind = us; frames = frames; many = omega arith; read = λ rest. ap (λ i. lines_read i (part.Body, with_lines start us) rest) (omega arith) }
+none_after us k f frames = record {
+  good = tt;
+  behind = us;
+  frames = frames;
+  many = omega arith;
+  read = λ rest. ap (λ i. lines_read i (part.Body, with_lines start us) rest) (omega arith);
+}
 
 -- some lines, and others behind them
-pub then_after : (us : List ScriptLine) (k : ℕ) (xs ys : List (List Word)) (f g : ℕ) (x : After us k xs f) → After x.behind (k + length xs) ys g → After us k (xs ++ ys) g
+pub then_after : (us : List ScriptLine) (k : ℕ) (xs ys : List (List Word)) (f g : ℕ) (x : After us k xs f) → After x.behind (k + length xs) ys g
+    → After us k (xs ++ ys) g
 then_after us k xs ys f g x y = record {
   good = AllLines-append xs ys x.good y.good;
   behind = y.behind;
@@ -146,7 +168,8 @@ then_after us k xs ys f g x y = record {
 }
 
 -- a line at the front
-line_after : (us : List ScriptLine) (k : ℕ) (a : Actor) (b : Body) (w : Word) (ws : List Word) (wss : List (List Word)) (f : ℕ) → IsLine (w ∷ ws) → length us < 65536 → actor_named start w ≡ Some a
+line_after : (us : List ScriptLine) (k : ℕ) (a : Actor) (b : Body) (w : Word) (ws : List Word) (wss : List (List Word)) (f : ℕ) → IsLine (w ∷ ws)
+    → length us < 65536 → actor_named start w ≡ Some a
     → actor_line (with_lines start us) a ws ≡ Ok b → After (more us k a b) (k + 1) wss f → After us k ((w ∷ ws) ∷ wss) f
 line_after us k a b w ws wss f good few named is x = record {
   good = (good, x.good);
@@ -166,7 +189,8 @@ said_after (ws ∷ wss) all us k f frames few =
     let b : Body = body.Session s.what in
     let P : List Word → Type 0 = λ t. IsLine t → After us k (t ∷ wss) f in
     let read : actor_line (with_lines start us) (Session s.who) s.words ≡ Ok b = ap (λ r. mapped body.Session r) s.read in
-    let rest = said_after wss all.1 (more us k (Session s.who) b) (k + 1) f (said_frames us k (Session s.who) s.what f f frames) (omega (arith, few, length-append us (record { number = k; actor = Session s.who; body = b } ∷ []))) in
+    let rest = said_after wss all.1 (more us k (Session s.who) b) (k + 1) f (said_frames us k (Session s.who) s.what f f frames)
+    (omega (arith, few, length-append us (record { number = k; actor = Session s.who; body = b } ∷ []))) in
     subst P (sym s.begins) (λ good. line_after us k (Session s.who) b s.name s.words wss f good (omega arith) s.named read rest) s.good
 
 -- a frame
@@ -179,9 +203,11 @@ frame_after us k f frames few room =
     let many = length-append us (record { number = k; actor = Display; body = begun } ∷ []) in
     let word = tested (codes "display") refl refl in
     line_after us k Display begun (codes "display") (codes "begin" ∷ number (f + 1) ∷ []) ((codes "display" ∷ codes "done" ∷ []) ∷ []) (f + 1)
-    (line_good 100 _ _ refl word (tested (codes "begin") refl refl, (number_solid (f + 1) (omega arith), tt)) (omega arith)) (omega arith) refl (ap (mapped body.Display) (begin_read us f frames few))
+    (line_good 100 _ _ refl word (tested (codes "begin") refl refl, (number_solid (f + 1) (omega arith), tt)) (omega arith)) (omega arith) refl
+    (ap (mapped body.Display) (begin_read us f frames few))
     (line_after mid (k + 1) Display done (codes "display") (codes "done" ∷ []) [] (f + 1)
-    (line_good 100 _ _ refl word (tested (codes "done") refl refl, tt) (omega arith)) (omega arith) refl (ap (mapped body.Display) (done_read mid f open_frames))
+    (line_good 100 _ _ refl word (tested (codes "done") refl refl, tt) (omega arith)) (omega arith) refl
+    (ap (mapped body.Display) (done_read mid f open_frames))
     (none_after (more mid (k + 1) Display done) (k + 1 + 1) (f + 1) (done_frames mid (k + 1) f open_frames)))
 
 -- what is said before a later frame, and the frame
@@ -191,8 +217,10 @@ later_after us k f frames few room =
     then_after us k (moves (f + 1)) (frame (f + 1)) f (f + 1) x (frame_after x.behind (k + length (moves (f + 1))) f x.frames few (omega (arith, x.many)))
 
 -- the frames behind frame f
-pub rounds_after : (n f g : ℕ) → f + n ≡ g → (us : List ScriptLine) (k : ℕ) → Frames us f f → g ≤ 500 → length us + 24 * n ≤ 65536 → After us k (flat_map later (range_with_len (f + 1) n)) g
-rounds_after zero f g same us k frames few room = let P : ℕ → Type 0 = λ m. After us k [] m in subst P (let e : f ≡ g = omega arith in e) (none_after us k f frames)
+pub rounds_after : (n f g : ℕ) → f + n ≡ g → (us : List ScriptLine) (k : ℕ) → Frames us f f → g ≤ 500 → length us + 24 * n ≤ 65536
+    → After us k (flat_map later (range_with_len (f + 1) n)) g
+rounds_after zero f g same us k frames few room = let P : ℕ → Type 0 =
+    λ m. After us k [] m in subst P (let e : f ≡ g = omega arith in e) (none_after us k f frames)
 rounds_after (suc n) f g same us k frames few room =
     let x = later_after us k f frames (omega arith) (omega arith) in
     then_after us k (later (f + 1)) (flat_map later (range_with_len (f + 1 + 1) n)) (f + 1) g x

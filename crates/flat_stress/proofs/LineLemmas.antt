@@ -1,5 +1,6 @@
 -- Lines of words: how they stand in a text, and which of them a script may have.
-use Rattle.std.proofs.Common.{◌≡◌, ℕ, ◌*◌, ◌^◌, ◌<◌, ◌≤◌, ◌==◌, ◌&&◌, ◌||◌, Bool, true, false, nat_lt, nat_le, List, [], ◌∷◌, ◌++◌, length, get_or, map, refl, ◌∙◌, ap, arith, append-nil, append_assoc, length-append, lit<, lit≤}
+use Rattle.std.proofs.Common.{◌≡◌, ℕ, ◌*◌, ◌^◌, ◌<◌, ◌≤◌, ◌==◌, ◌&&◌, ◌||◌, Bool, true, false, nat_lt, nat_le, List, [], ◌∷◌, ◌++◌, length, get_or, map, refl}
+use Rattle.std.proofs.Common.{◌∙◌, ap, arith, append-nil, append_assoc, length-append, lit<, lit≤}
 use Rattle.std.specs.Prelude.{All}
 use Rattle.std.specs.List.{list_all, slice_split}
 use Rattle.std.specs.Char.{is_ascii_digit}
@@ -79,7 +80,8 @@ no_spaces w solid = λ k d within. no_space (get_or w k d) (AllPass-from_list_al
 
 words_are : (w : Word) (ws : List Word) → IsSolid w → AllSolid ws → words_of (line_of (w ∷ ws)) ≡ w ∷ ws
 words_are w [] first rest = ap words_of (append-nil w) ∙ slice_split_none is_space w (no_spaces w first.solid)
-words_are w (v ∷ ws) first rest = slice_split_at is_space w 32 (line_of (v ∷ ws)) (no_spaces w first.solid) refl ∙ ap (λ t. w ∷ t) (words_are v ws rest.0 rest.1)
+words_are w (v ∷ ws) first rest = slice_split_at is_space w 32 (line_of (v ∷ ws)) (no_spaces w first.solid) refl
+    ∙ ap (λ t. w ∷ t) (words_are v ws rest.0 rest.1)
 
 plain_byte : (b : ℕ) → is_solid b ≡ true → is_plain b ≡ true
 plain_byte b h = let parts = and_parts (nat_le 33 b) (nat_le b 126) h in and_from (nat_le 32 b) (nat_le b 126) (lower b parts.0) parts.1
@@ -89,11 +91,13 @@ plain_byte b h = let parts = and_parts (nat_le 33 b) (nat_le b 126) h in and_fro
 
 plain_word : (w : Word) → list_all is_solid w ≡ true → list_all is_plain w ≡ true
 plain_word [] h = refl
-plain_word (b ∷ w) h = let parts = and_parts (is_solid b) (list_all is_solid w) h in and_from (is_plain b) (list_all is_plain w) (plain_byte b parts.0) (plain_word w parts.1)
+plain_word (b ∷ w) h = let parts = and_parts (is_solid b) (list_all is_solid w) h in
+    and_from (is_plain b) (list_all is_plain w) (plain_byte b parts.0) (plain_word w parts.1)
 
 plain_words : (ws : List Word) → AllSolid ws → list_all is_plain (spaced ws) ≡ true
 plain_words [] all = refl
-plain_words (w ∷ ws) all = list_all-append is_plain w (spaced ws) ∙ and_from (list_all is_plain w) (list_all is_plain (spaced ws)) (plain_word w all.0.solid) (plain_words ws all.1)
+plain_words (w ∷ ws) all = list_all-append is_plain w (spaced ws)
+    ∙ and_from (list_all is_plain w) (list_all is_plain (spaced ws)) (plain_word w all.0.solid) (plain_words ws all.1)
 
 short_words : (ws : List Word) → AllSolid ws → length (spaced ws) ≤ 33 * length ws
 short_words [] all = omega arith
@@ -110,7 +114,8 @@ pub line_good : (c : ℕ) (cs : Word) (ws : List Word) → (c == 35) ≡ false �
 line_good c cs ws other first rest few =
     let w : Word = c ∷ cs in
     record {
-      plain = list_all-append is_plain w (spaced ws) ∙ and_from (list_all is_plain w) (list_all is_plain (spaced ws)) (plain_word w first.solid) (plain_words ws rest);
+      plain = list_all-append is_plain w (spaced ws) ∙ and_from (list_all is_plain w) (list_all is_plain (spaced ws)) (plain_word w first.solid)
+          (plain_words ws rest);
       short = below (length (line_of (w ∷ ws))) (omega (arith, length-append w (spaced ws), first.short, short_words ws rest));
       kept = not_skipped c (cs ++ spaced ws) other;
       words = words_are w ws first rest;
@@ -136,7 +141,8 @@ digit_solid b h = let parts = and_parts (nat_le 48 b) (nat_le b 57) h in and_fro
 
 digits_solid : (w : Word) → all_ascii_digits w ≡ true → list_all is_solid w ≡ true
 digits_solid [] h = refl
-digits_solid (b ∷ w) h = let parts = and_parts (is_ascii_digit b) (all_ascii_digits w) h in and_from (is_solid b) (list_all is_solid w) (digit_solid b parts.0) (digits_solid w parts.1)
+digits_solid (b ∷ w) h = let parts = and_parts (is_ascii_digit b) (all_ascii_digits w) h in
+    and_from (is_solid b) (list_all is_solid w) (digit_solid b parts.0) (digits_solid w parts.1)
 
 decimal_solid : (n : ℕ) → n < 10 ^ 20 → list_all is_solid (decimal n) ≡ true
 decimal_solid n small =
@@ -154,4 +160,7 @@ number_solid n small = record { solid = decimal_solid n small; short = omega (ar
 
 -- a letter and a number
 pub named_solid : (c n : ℕ) → is_solid c ≡ true → n < 10 ^ 20 → IsSolid (c ∷ decimal n)
-named_solid c n letter small = record { solid = and_from (is_solid c) (list_all is_solid (decimal n)) letter (decimal_solid n small); short = omega (arith, decimal_short n small) }
+named_solid c n letter small = record {
+  solid = and_from (is_solid c) (list_all is_solid (decimal n)) letter (decimal_solid n small);
+  short = omega (arith, decimal_short n small);
+}

@@ -1,5 +1,6 @@
 -- The text of each load is a script.
-use Rattle.std.proofs.Common.{◌≡◌, ℕ, zero, suc, ◌+◌, ◌-◌, ◌*◌, ◌<◌, ◌≤◌, false, nat_lt, List, [], ◌∷◌, ◌++◌, length, map, Result, Ok, refl, sym, ◌∙◌, ap, codes, arith, append-nil, append_assoc, length-append}
+use Rattle.std.proofs.Common.{◌≡◌, ℕ, zero, suc, ◌+◌, ◌-◌, ◌*◌, ◌<◌, ◌≤◌, false, nat_lt, List, [], ◌∷◌, ◌++◌, length, map, Result, Ok, refl, sym, ◌∙◌, ap}
+use Rattle.std.proofs.Common.{codes, arith, append-nil, append_assoc, length-append}
 use Rattle.std.specs.List.{flat_map, range_with_len}
 use Rattle.std.specs.Fmt.{digits}
 use Rattle.std.proofs.lemmas.Bool.Decides.{nat_tests}
@@ -37,13 +38,27 @@ head_good =
     let three : List (List Word) = (codes "pair" ∷ pair 1 ∷ codes "display" ∷ session 1 ∷ []) ∷ [] in
     let four : List (List Word) = map of_pair (from_to 2 8) in
     let word = tested (codes "display") refl refl in
-    let first : AllLines one = (line_good 102 _ _ refl (tested (codes "flatland") refl refl) (number_solid 1 (omega arith), tt) (omega arith), (line_good 100 _ _ refl word (number_solid 1000 (omega arith), (number_solid 1000 (omega arith), tt)) (omega arith), tt)) in
-    let second : AllLines two = each_good of_session 1 8 (λ i low high. (line_good 115 _ _ refl (tested (codes "session") refl refl) (named_solid 83 i refl (omega arith), tt) (omega arith), tt)) in
-    let third : AllLines three = (line_good 112 _ _ refl (tested (codes "pair") refl refl) (named_solid 116 1 refl (omega arith), (word, (named_solid 83 1 refl (omega arith), tt))) (omega arith), tt) in
-    let fourth : AllLines four = each_good of_pair 2 7 (λ i low high. (line_good 112 _ _ refl (tested (codes "pair") refl refl) (named_solid 116 i refl (omega arith), (named_solid 83 1 refl (omega arith), (named_solid 83 i refl (omega arith), tt))) (omega arith), tt)) in
+    let first : AllLines one = (
+      line_good 102 _ _ refl (tested (codes "flatland") refl refl) (number_solid 1 (omega arith), tt) (omega arith),
+      (line_good 100 _ _ refl word (number_solid 1000 (omega arith), (number_solid 1000 (omega arith), tt)) (omega arith), tt),
+    ) in
+    let second : AllLines two = each_good of_session 1 8
+    (λ i low high. (line_good 115 _ _ refl (tested (codes "session") refl refl) (named_solid 83 i refl (omega arith), tt) (omega arith), tt)) in
+    let third : AllLines three = (
+      line_good 112 _ _ refl (tested (codes "pair") refl refl)
+          (named_solid 116 1 refl (omega arith), (word, (named_solid 83 1 refl (omega arith), tt))) (omega arith),
+      tt,
+    ) in
+    let fourth : AllLines four = each_good of_pair 2 7 (λ i low
+    high. (
+      line_good 112 _ _ refl (tested (codes "pair") refl refl)
+          (named_solid 116 i refl (omega arith), (named_solid 83 1 refl (omega arith), (named_solid 83 i refl (omega arith), tt))) (omega arith),
+      tt,
+    )) in
     let five : List (List Word) = (codes "run" ∷ []) ∷ [] in
     let fifth : AllLines five = (line_good 114 _ _ refl (tested (codes "run") refl refl) tt (omega arith), tt) in
-    AllLines-append (one ++ two ++ three ++ four) five (AllLines-append (one ++ two ++ three) four (AllLines-append (one ++ two) three (AllLines-append one two first second) third) fourth) fifth
+    AllLines-append (one ++ two ++ three ++ four) five (AllLines-append (one ++ two ++ three) four
+    (AllLines-append (one ++ two) three (AllLines-append one two first second) third) fourth) fifth
 
 head_read : (rest : List (List ℕ)) → lines_read 1 (part.Start, empty) (map line_of head ++ rest) ≡ lines_read 20 (part.Body, with_lines start []) rest
 unfolding start digits
@@ -70,17 +85,26 @@ first_after : After [] 20 (host ++ flat_map guest (from_to 2 8) ++ frame 1) 1
 first_after =
     let guests : List (List Word) = flat_map guest (from_to 2 8) in
     let a = said_after host host_said [] 20 0 no_frames (omega (arith, host_many)) in
-    let b = then_after [] 20 host guests 0 0 a (said_after guests guests_said a.behind (20 + length host) 0 a.frames (omega (arith, a.many, host_many, guests_many))) in
-    then_after [] 20 (host ++ guests) (frame 1) 0 1 b (frame_after b.behind (20 + length (host ++ guests)) 0 b.frames (omega arith) (omega (arith, b.many, length-append host guests, host_many, guests_many)))
+    let b = then_after [] 20 host guests 0 0 a (said_after guests guests_said a.behind (20 + length host) 0 a.frames
+    (omega (arith, a.many, host_many, guests_many))) in
+    then_after [] 20 (host ++ guests) (frame 1) 0 1 b (frame_after b.behind (20 + length (host ++ guests)) 0 b.frames (omega arith)
+    (omega (arith, b.many, length-append host guests, host_many, guests_many)))
 
 first_many : length (host ++ flat_map guest (from_to 2 8) ++ frame 1) ≡ 1406
-first_many = omega (arith, length-append (host ++ flat_map guest (from_to 2 8)) (frame 1), length-append host (flat_map guest (from_to 2 8)), host_many, guests_many)
+first_many = omega (
+  arith,
+  length-append (host ++ flat_map guest (from_to 2 8)) (frame 1),
+  length-append host (flat_map guest (from_to 2 8)),
+  host_many,
+  guests_many,
+)
 
 acts_after : (n : ℕ) → 1 ≤ n → n ≤ 500 → After [] 20 (acts n) n
 acts_after n some few =
     let first : List (List Word) = host ++ flat_map guest (from_to 2 8) ++ frame 1 in
     let x = first_after in
-    then_after [] 20 first (flat_map later (from_to 2 n)) 1 n x (rounds_after (n + 1 - 2) 1 n (omega arith) x.behind (20 + length first) x.frames few (omega (arith, x.many, first_many)))
+    then_after [] 20 first (flat_map later (from_to 2 n)) 1 n x
+    (rounds_after (n + 1 - 2) 1 n (omega arith) x.behind (20 + length first) x.frames few (omega (arith, x.many, first_many)))
 
 within : (m n : ℕ) → 1 ≤ n → n ≤ 500 → m ≡ 1406 + 24 * (n + 1 - 2) → m ≤ 13382
 within m n some few is = omega arith
@@ -115,7 +139,8 @@ made wss n x few =
     let made : Script = record (with_lines start x.behind) { count = 20 + length wss - 1 } in
     let shut = closed x.behind n x.frames in
     let ended : lines_read (20 + length wss) (part.Body, with_lines start x.behind) [] ≡ Ok made = rw shut refl in
-    let lines : map line_of (head ++ wss) ≡ map line_of head ++ (map line_of wss ++ []) = map-append line_of head wss ∙ ap (λ t. map line_of head ++ t) (sym (append-nil (map line_of wss))) in
+    let lines : map line_of (head ++ wss) ≡ map line_of head ++ (map line_of wss ++ []) =
+    map-append line_of head wss ∙ ap (λ t. map line_of head ++ t) (sym (append-nil (map line_of wss))) in
     record {
       script = made;
       is =

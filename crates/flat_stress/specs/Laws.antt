@@ -8,8 +8,10 @@ use Rattle.flat_stress.specs.Load.{load_text}
 
 -- the text of a load of so many frames is a script, of eight sessions
 abbrev pub LoadsAreScripts : Type 0
-LoadsAreScripts = (n : ℕ) → 1 ≤ n → n ≤ LOAD_FRAMES_MAX → (script : Script) × IsScript (load_text n) script × (script.setup.sessions ≡ 8)
+LoadsAreScripts = (n : ℕ) → 1 ≤ n → n ≤ LOAD_FRAMES_MAX
+    → (script : Script) × IsScript (load_text n) script × (script.setup.sessions ≡ 8)
 
 -- the script of a load of so many frames has as many
 abbrev pub LoadsHaveTheirFrames : Type 0
-LoadsHaveTheirFrames = (n : ℕ) (script : Script) → 1 ≤ n → n ≤ LOAD_FRAMES_MAX → IsScript (load_text n) script → dones script ≡ n
+LoadsHaveTheirFrames = (n : ℕ) (script : Script) → 1 ≤ n → n ≤ LOAD_FRAMES_MAX → IsScript (load_text n) script
+    → dones script ≡ n

@@ -1,5 +1,6 @@
 -- The first line feed, and a text that is cut behind a line feed.
-use Rattle.std.proofs.Common.{◌≡◌, ℕ, ◌+◌, ◌<◌, Bool, true, false, not, cond, List, [], ◌∷◌, ◌++◌, length, get_or, take, drop, Option, Some, None, unwrap_or, refl, ap, sym, ◌∙◌, arith, append-nil, take-append-drop, length-drop, get_or-drop}
+use Rattle.std.proofs.Common.{◌≡◌, ℕ, ◌+◌, ◌<◌, Bool, true, false, not, cond, List, [], ◌∷◌, ◌++◌, length, get_or, take, drop, Option, Some, None, unwrap_or}
+use Rattle.std.proofs.Common.{refl, ap, sym, ◌∙◌, arith, append-nil, take-append-drop, length-drop, get_or-drop}
 use Rattle.std.specs.List.{slice_split, onto_first, position_or_len}
 use Rattle.std.proofs.lemmas.Bool.Decides.{nat_tests}
 use Rattle.std.proofs.lemmas.Bool.{not_from_false, false_from_ne_true, not-false}
@@ -15,10 +16,12 @@ not_then : (b : Bool) → (b ≡ true → ⊥) → not b ≡ true
 not_then b other = not_from_false b (false_from_ne_true b other)
 
 pub feed_at : (text : List ℕ) (r : Option ℕ) → IsFirstByte (is_byte 10) text r → unwrap_or r (length text) ≡ position_or_len is_feed text
-feed_at text None none = sym (prefix_len_is (λ b. not (is_feed b)) text (length text) 0 (omega arith) (λ k small. not_then (is_feed (get_or text k 0)) (none k (omega arith) small)) (λ wrong. absurd (omega arith)))
+feed_at text None none = sym (prefix_len_is (λ b. not (is_feed b)) text (length text) 0 (omega arith)
+    (λ k small. not_then (is_feed (get_or text k 0)) (none k (omega arith) small)) (λ wrong. absurd (omega arith)))
 feed_at text (Some k) found =
     let within = found.0.high in
-    sym (prefix_len_is (λ b. not (is_feed b)) text k 0 (omega arith) (λ j small. not_then (is_feed (get_or text j 0)) (found.0.before j (omega arith) small)) (λ _. ap not found.1))
+    sym (prefix_len_is (λ b. not (is_feed b)) text k 0 (omega arith) (λ j small. not_then (is_feed (get_or text j 0)) (found.0.before j (omega arith) small))
+    (λ _. ap not found.1))
 
 -- lines of two texts, of which the first ends with a line feed
 
@@ -29,7 +32,8 @@ onto_front x (part ∷ parts) more some = refl
 split_some : (text : List ℕ) → 0 < length (slice_split is_feed text)
 split_some text = omega (arith, length-slice_split is_feed text)
 
-split_step : (b : Bool) (x : ℕ) (parts more : List (List ℕ)) → 0 < length parts → cond b ([] ∷ (parts ++ more)) (onto_first x (parts ++ more)) ≡ cond b ([] ∷ parts) (onto_first x parts) ++ more
+split_step : (b : Bool) (x : ℕ) (parts more : List (List ℕ)) → 0 < length parts
+    → cond b ([] ∷ (parts ++ more)) (onto_first x (parts ++ more)) ≡ cond b ([] ∷ parts) (onto_first x parts) ++ more
 split_step true x parts more some = refl
 split_step false x parts more some = onto_front x parts more some
 
@@ -74,7 +78,8 @@ lines_at text e within feed =
     let whole : text ≡ take e text ++ 10 ∷ drop (e + 1) text = sym (take-append-drop e text) ∙ ap (λ ys. take e text ++ ys) back in
     ap lines_of whole ∙ lines_cut (take e text) (drop (e + 1) text) ∙ ap (λ f. lines_of f ++ lines_of (drop (e + 1) text)) (sym front)
 
-pub lines_found : (text part front back : List ℕ) (from p : ℕ) → part ≡ drop from text → p ≡ position_or_len is_feed part → from + p < length text → front ≡ take (from + p + 1) text → back ≡ drop (from + p + 1) text → lines_of text ≡ lines_of front ++ lines_of back
+pub lines_found : (text part front back : List ℕ) (from p : ℕ) → part ≡ drop from text → p ≡ position_or_len is_feed part → from + p < length text
+    → front ≡ take (from + p + 1) text → back ≡ drop (from + p + 1) text → lines_of text ≡ lines_of front ++ lines_of back
 lines_found text part front back from p cut is within before behind =
     lines_at text (from + p) within (feed_there text from p (is ∙ ap (position_or_len is_feed) cut) within)
     ∙ ap (λ f. lines_of f ++ lines_of (drop (from + p + 1) text)) (sym before) ∙ ap (λ b. lines_of front ++ lines_of b) (sym behind)

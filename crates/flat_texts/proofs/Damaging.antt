@@ -26,7 +26,8 @@ shown-of [] = refl
 shown-of (frame ∷ later) = shown-last [] frame later
 
 -- the damage of one frame more
-pub damaged-more : (before : List DrawItem) (frames : List FrameOut) (frame : FrameOut) (one : Damaged) (damaged : List Damaged) → one.frame ≡ frame.frame → IsDamage (shown_after before frames) frame.items one.rects
+pub damaged-more : (before : List DrawItem) (frames : List FrameOut) (frame : FrameOut) (one : Damaged) (damaged : List Damaged) → one.frame ≡ frame.frame
+    → IsDamage (shown_after before frames) frame.items one.rects
     → AreDamaged before frames damaged → AreDamaged before (frames ++ frame ∷ []) (damaged ++ one ∷ [])
 damaged-more before [] frame one [] number damage none = next number damage none
 damaged-more before [] frame one (of_first ∷ damaged) number damage later = elim later [ ]

@@ -63,7 +63,8 @@ black_picture = header 2 1 ++ (0 ∷ 0 ∷ 0 ∷ 0 ∷ 0 ∷ 0 ∷ [])
 a_film_without_frames_is_black : film_text two_pixels [] ≡ black_picture
 a_film_without_frames_is_black = refl
 
-each_frame_has_its_picture : film_text two_pixels (frame_with 1 (left_pixel ∷ []) ∷ frame_with 2 [] ∷ []) ≡ picture_of two_pixels (Some (frame_with 1 (left_pixel ∷ []))) ++ black_picture
+each_frame_has_its_picture : film_text two_pixels (frame_with 1 (left_pixel ∷ []) ∷ frame_with 2 [] ∷ [])
+    ≡ picture_of two_pixels (Some (frame_with 1 (left_pixel ∷ []))) ++ black_picture
 unfolding digits
 each_frame_has_its_picture = refl
 

@@ -13,9 +13,11 @@ pub any-more : (frames : List FrameOut) (frame : FrameOut) → is_any (frames ++
 any-more [] frame = refl
 any-more (first ∷ later) frame = refl
 
-pub pictures-more : (setup : Setup) (frames : List FrameOut) (frame : FrameOut) → pictures_of setup (frames ++ frame ∷ []) ≡ pictures_of setup frames ++ picture_of setup (Some frame)
+pub pictures-more : (setup : Setup) (frames : List FrameOut) (frame : FrameOut)
+    → pictures_of setup (frames ++ frame ∷ []) ≡ pictures_of setup frames ++ picture_of setup (Some frame)
 pictures-more setup frames frame =
-    flat_map-append (λ (f : FrameOut). picture_of setup (Some f)) frames (frame ∷ []) ∙ ap (λ t. pictures_of setup frames ++ t) (append-nil (picture_of setup (Some frame)))
+    flat_map-append (λ (f : FrameOut). picture_of setup (Some f)) frames (frame ∷ [])
+    ∙ ap (λ t. pictures_of setup frames ++ t) (append-nil (picture_of setup (Some frame)))
 
 -- the text of a film with frames
 pub film-some : (setup : Setup) (frames : List FrameOut) → is_any frames ≡ true → pictures_of setup frames ≡ film_text setup frames

@@ -19,7 +19,8 @@ use Rattle.flat_topology.specs.Draw.{draw_list}
 use Rattle.flat_topology.specs.Views.{view_nodes, apart_sessions}
 use Rattle.flat_topology.specs.Hits.{hit_list}
 use Rattle.flat_topology.specs.Connected.{connected_sessions}
-use Rattle.flat_topology.proofs.Samples.{session, rect, whole, shell_setup, shell_shown, shell_without_mail, nested_setup, nested_shown, round_setup, round_shown, alone_setup, red_at, image_of_opacities, turned_shown, two_regions, stacked_regions, rootless_shown}
+use Rattle.flat_topology.proofs.Samples.{session, rect, whole, shell_setup, shell_shown, shell_without_mail, nested_setup, nested_shown, round_setup}
+use Rattle.flat_topology.proofs.Samples.{round_shown, alone_setup, red_at, image_of_opacities, turned_shown, two_regions, stacked_regions, rootless_shown}
 
 abbrev moved_matrix : ℤ → ℤ → SceneMatrix
 moved_matrix x y = record { swap = false; a = pos 65536; b = pos 65536; x = x; y = y }
@@ -100,7 +101,8 @@ nested_places = refl
 
 -- what is linked is cut by its viewport and the display, and seen through it; its bounds are uncut
 nested_items : draw_list nested_setup nested_shown
-    ≡ item 2 3 (paint.Fill (9 ∷ 9 ∷ 9 ∷ 255 ∷ [])) 50 50 (moved_matrix (pos 5898240) (pos 0)) (rect (pos 5898240) (pos 0) (pos 6553600) (pos 1310720)) 32768 Src ∷ []
+    ≡ item 2 3 (paint.Fill (9 ∷ 9 ∷ 9 ∷ 255 ∷ [])) 50 50 (moved_matrix (pos 5898240) (pos 0)) (rect (pos 5898240) (pos 0) (pos 6553600) (pos 1310720)) 32768 Src
+    ∷ []
 nested_items = refl
 
 nested_views : view_nodes nested_setup nested_shown
@@ -129,7 +131,8 @@ rootless_places = refl
 
 -- a fill is cut by the display's edge, and gives no item where it only touches it
 red_cut : draw_list alone_setup (red_at (pos 95))
-    ≡ item 1 1 (paint.Fill (255 ∷ 0 ∷ 0 ∷ 255 ∷ [])) 10 10 (moved_matrix (pos 6225920) (pos 0)) (rect (pos 6225920) (pos 0) (pos 6553600) (pos 655360)) 65536 Src ∷ []
+    ≡ item 1 1 (paint.Fill (255 ∷ 0 ∷ 0 ∷ 255 ∷ [])) 10 10 (moved_matrix (pos 6225920) (pos 0)) (rect (pos 6225920) (pos 0) (pos 6553600) (pos 655360)) 65536
+    Src ∷ []
 red_cut = refl
 
 red_touching : draw_list alone_setup (red_at (pos 100)) ≡ []

@@ -44,7 +44,8 @@ module _ (setup : Setup) (shown : Shown) (fit : FitsSetup setup shown) where
   few-viewed views p (Some viewer) e few =
       let own : node_count viewer.nodes ≤ TREE_NODES_MAX = rw (viewer-state shown p viewer e).1 (fit.small viewer.session) in
       let all : joined_count (joined_nodes (led_to shown views) viewer.session viewer.nodes)
-      ≤ node_count viewer.nodes + length (sessions_in (joined_nodes (led_to shown views) viewer.session viewer.nodes)) * TREE_NODES_MAX = few-nodes (led_to shown views) few viewer.session viewer.nodes in
+      ≤ node_count viewer.nodes + length (sessions_in (joined_nodes (led_to shown views) viewer.session viewer.nodes)) * TREE_NODES_MAX =
+      few-nodes (led_to shown views) few viewer.session viewer.nodes in
       omega (arith, own, all)
 
   few-led : (views p : ℕ) → IsFew (led_to shown views p)

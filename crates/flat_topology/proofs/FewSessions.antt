@@ -24,7 +24,8 @@ few_sessions setup shown fit =
     omega (arith, low)
   where
     within : (s : ℕ) → In s (joined_sessions setup shown) → (0 < s) × (s ≤ length shown)
-    within s on = let connected = standing_connected setup shown fit s (display_pair setup) refl on in connected-within setup shown fit connected.0 s connected.1
+    within s on = let connected = standing_connected setup shown fit s (display_pair setup) refl on in
+        connected-within setup shown fit connected.0 s connected.1
 
     all_differ : Distinct (0 ∷ joined_sessions setup shown)
     all_differ = (λ on. let h = within 0 on in absurd (omega (arith, h.0)), distinct-from setup shown fit (display_pair setup) refl)

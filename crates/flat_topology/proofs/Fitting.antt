@@ -84,7 +84,8 @@ module _ (tree : Tree) (view : tree.view ≡ Some (pair 0)) (none : pairs_in (no
   alone_low low (suc (suc s)) = lit≤ tt
 
 pub alone_fits : (tree : Tree) → tree.view ≡ Some (pair 0) → pairs_in (nodes_of (Some tree)) ≡ [] → node_count (nodes_of (Some tree)) ≤ TREE_NODES_MAX
-    → greatest_opacity (nodes_of (Some tree)) ≤ OPACITY_MAX → (setup : Setup) (shown : Shown) → setup ≡ alone_setup → shown ≡ Some tree ∷ [] → FitsSetup setup shown
+    → greatest_opacity (nodes_of (Some tree)) ≤ OPACITY_MAX → (setup : Setup) (shown : Shown) → setup ≡ alone_setup → shown ≡ Some tree ∷ []
+    → FitsSetup setup shown
 alone_fits tree view none few low setup shown same_setup same_shown = rw (same_setup, same_shown) (record {
   views = alone_views tree view none;
   viewports = λ s p has. absurd (in-contains p [] (rw (alone_pairs tree view none s) at has));

@@ -61,7 +61,8 @@ module _ (led : ℕ → JoinedTree) (each : (q : ℕ) (outer : Space) → outer.
       let after : List Placed = placed_in outer (joined_nodes led s rest) in
       All-cons HasLowOpacity (placed_node s inner n) (linked ++ (below ++ after)) (inner_low, image_low)
       (All-append HasLowOpacity linked (below ++ after) (low-linked inner what inner_low)
-      (All-append HasLowOpacity below after (low-nodes s inner children inner_low (omega (arith, greatest))) (low-nodes s outer rest low (omega (arith, greatest)))))
+      (All-append HasLowOpacity below after (low-nodes s inner children inner_low (omega (arith, greatest)))
+      (low-nodes s outer rest low (omega (arith, greatest)))))
 
 module _ (setup : Setup) (shown : Shown) (fit : FitsSetup setup shown) where
   low-viewed : (views p : ℕ) (found : Option Viewer) → viewer_from 1 shown p ≡ found

@@ -23,7 +23,8 @@ from first (n ∷ rest) = nat_le first n
 all-append : {A : Type 0} (p : A → Bool) (xs ys : List A) → list_all p xs ≡ true → list_all p ys ≡ true → list_all p (xs ++ ys) ≡ true
 all-append p xs ys left right = list_all-append p xs ys ∙ and_from (list_all p xs) (list_all p ys) left right
 
-all-map : {A B : Type 0} (p : B → Bool) (f : A → B) (q : A → Bool) → ((x : A) → q x ≡ true → p (f x) ≡ true) → (xs : List A) → list_all q xs ≡ true → list_all p (map f xs) ≡ true
+all-map : {A B : Type 0} (p : B → Bool) (f : A → B) (q : A → Bool) → ((x : A) → q x ≡ true → p (f x) ≡ true) → (xs : List A) → list_all q xs ≡ true
+    → list_all p (map f xs) ≡ true
 all-map p f q step [] all = refl
 all-map p f q step (x ∷ xs) all =
     let rest = all-map p f q step xs (grind arith) in
@@ -97,7 +98,8 @@ module _ (first : ℕ) (linked below after : JoinedTree) where
 
   before-later : (rest : Address) → list_all (comes_before (first ∷ rest)) later ≡ true
   unfolding later
-  before-later rest = all-weaker (comes_before (first ∷ rest)) (from (suc first)) (later-after first rest) (addresses (suc first) after) (addresses-from (suc first) after)
+  before-later rest = all-weaker (comes_before (first ∷ rest)) (from (suc first)) (later-after first rest) (addresses (suc first) after)
+      (addresses-from (suc first) after)
 
   here-before : (branch : ℕ) (a : Address) → comes_before (first ∷ []) (first ∷ branch ∷ a) ≡ true
   here-before branch a = grind (arith, common_steps)
@@ -199,13 +201,17 @@ nodes-placed first (node s fields linked below after) outer =
     let here : kept_at first tree (first ∷ []) ≡ Some (kept_of (s, fields)) = ap (option_map kept_of) (at-here first s fields linked below after) in
     let view : map (kept_at first tree) (map (λ a. first ∷ 0 ∷ a) (addresses 0 linked))
     ≡ map (λ (at : Placed). Some (kept_by at)) (placed_in (linked_space (node_space outer fields) fields.content) linked) =
-    map-through (kept_at first tree) (λ a. first ∷ 0 ∷ a) (kept_at 0 linked) (λ a. ap (option_map kept_of) (at-linked first s fields linked below after a)) (addresses 0 linked)
+    map-through (kept_at first tree) (λ a. first ∷ 0 ∷ a) (kept_at 0 linked) (λ a. ap (option_map kept_of) (at-linked first s fields linked below after a))
+    (addresses 0 linked)
     ∙ nodes-placed 0 linked (linked_space (node_space outer fields) fields.content) in
-    let kids : map (kept_at first tree) (map (λ a. first ∷ 1 ∷ a) (addresses 0 below)) ≡ map (λ (at : Placed). Some (kept_by at)) (placed_in (node_space outer fields) below) =
-    map-through (kept_at first tree) (λ a. first ∷ 1 ∷ a) (kept_at 0 below) (λ a. ap (option_map kept_of) (at-below first s fields linked below after a)) (addresses 0 below)
+    let kids : map (kept_at first tree) (map (λ a. first ∷ 1 ∷ a) (addresses 0 below))
+    ≡ map (λ (at : Placed). Some (kept_by at)) (placed_in (node_space outer fields) below) =
+    map-through (kept_at first tree) (λ a. first ∷ 1 ∷ a) (kept_at 0 below) (λ a. ap (option_map kept_of) (at-below first s fields linked below after a))
+    (addresses 0 below)
     ∙ nodes-placed 0 below (node_space outer fields) in
     let rest : map (kept_at first tree) (addresses (suc first) after) ≡ map (λ (at : Placed). Some (kept_by at)) (placed_in outer after) =
-    map-same (kept_at first tree) (kept_at (suc first) after) (from (suc first)) (λ a late. ap (option_map kept_of) (at-later first s fields linked below after a late))
+    map-same (kept_at first tree) (kept_at (suc first) after) (from (suc first))
+    (λ a late. ap (option_map kept_of) (at-later first s fields linked below after a late))
     (addresses (suc first) after) (addresses-from (suc first) after)
     ∙ nodes-placed (suc first) after outer in
     joined here view kids rest
@@ -215,11 +221,13 @@ nodes-placed first (node s fields linked below after) outer =
         ≡ map (λ (at : Placed). Some (kept_by at)) (placed_in (linked_space (node_space outer fields) fields.content) linked)
         → map (kept_at first (node s fields linked below after)) (map (λ a. first ∷ 1 ∷ a) (addresses 0 below))
         ≡ map (λ (at : Placed). Some (kept_by at)) (placed_in (node_space outer fields) below)
-        → map (kept_at first (node s fields linked below after)) (addresses (suc first) after) ≡ map (λ (at : Placed). Some (kept_by at)) (placed_in outer after)
+        → map (kept_at first (node s fields linked below after)) (addresses (suc first) after)
+        ≡ map (λ (at : Placed). Some (kept_by at)) (placed_in outer after)
         → map (kept_at first (node s fields linked below after)) (addresses first (node s fields linked below after))
         ≡ map (λ (at : Placed). Some (kept_by at)) (placed_in outer (node s fields linked below after))
     joined here view kids rest =
-        map-node (kept_at first (node s fields linked below after)) (first ∷ []) (map (λ a. first ∷ 0 ∷ a) (addresses 0 linked)) (map (λ a. first ∷ 1 ∷ a) (addresses 0 below)) (addresses (suc first) after)
+        map-node (kept_at first (node s fields linked below after)) (first ∷ []) (map (λ a. first ∷ 0 ∷ a) (addresses 0 linked))
+        (map (λ a. first ∷ 1 ∷ a) (addresses 0 below)) (addresses (suc first) after)
         ∙ same-parts here view kids rest
         ∙ sym (map-node (λ (at : Placed). Some (kept_by at)) (placed_node s (node_space outer fields) fields)
         (placed_in (linked_space (node_space outer fields) fields.content) linked) (placed_in (node_space outer fields) below) (placed_in outer after))

@@ -67,7 +67,8 @@ module _ (setup : Setup) (shown : Shown) where
       let first_views : List ViewNode = views_in (Some (record { 0 = s })) at under (linked_to led what) in
       let second_views : List ViewNode = views_in parent bounds inner (joined_nodes led s children) in
       let third_views : List ViewNode = views_in parent bounds outer (joined_nodes led s rest) in
-      let linked : AllHave first_views = children-linked led each s at under what (λ q on. own q (in-first q (pair_in what) (pairs_in children) (pairs_in rest) on)) in
+      let linked : AllHave first_views = children-linked led each s at under what
+      (λ q on. own q (in-first q (pair_in what) (pairs_in children) (pairs_in rest) on)) in
       let below : AllHave second_views =
       children-nodes led each s parent bounds inner children (λ q on. own q (in-second q (pair_in what) (pairs_in children) (pairs_in rest) on)) in
       let after : AllHave third_views =
@@ -97,5 +98,8 @@ module _ (setup : Setup) (shown other : Shown) (fit : FitsSetup setup shown) (gr
   connected-in-both zero c is top = record { pair = top.pair; viewport = top.viewport; view = rw (agree c is) at top.view }
   connected-in-both (suc d) c is x =
       let below : IsBelow shown c x.0 = x.1 in
-      let above : IsTrue (group x.0) = parents x.0 c below.pair is (fit.views c below.pair below.view) (fit.viewports x.0 below.pair below.viewport) in
-      (x.0, record { pair = below.pair; viewport = rw (agree x.0 above) at below.viewport; view = rw (agree c is) at below.view }, connected-in-both d x.0 above x.2)
+      let above : IsTrue (group x.0) = parents x.0 c below.pair is (fit.views c below.pair below.view) (fit.viewports x.0 below.pair below.viewport) in (
+        x.0,
+        record { pair = below.pair; viewport = rw (agree x.0 above) at below.viewport; view = rw (agree c is) at below.view },
+        connected-in-both d x.0 above x.2,
+      )

@@ -134,7 +134,8 @@ abbrev pub stacked_regions : Interaction → Shown
 stacked_regions lower =
     shows 0 (Some (moved 1 (pos 0) (pos 0) [] None
     (more (moved 2 (pos 0) (pos 0) (record { area = Some (whole 10 10); interaction = lower } ∷ []) None Empty)
-    (more (record (moved 3 (pos 0) (pos 0) (record { area = Some (whole 50 50); interaction = Default } ∷ []) None Empty) { clip = Some (whole 20 20) }) Empty))))
+    (more (record (moved 3 (pos 0) (pos 0) (record { area = Some (whole 50 50); interaction = Default } ∷ []) None Empty) { clip = Some (whole 20 20) })
+    Empty))))
     ∷ []
 
 -- a red fill of 10 by 10, moved to the right

@@ -12,7 +12,8 @@ use Rattle.flat_topology.specs.Pairs.{display_pair}
 use Rattle.flat_topology.specs.Links.{IsBelow, IsConnectedThrough, HangsBelow}
 use Rattle.flat_topology.specs.Fit.{FitsSetup}
 use Rattle.flat_topology.specs.Join.{JoinedTree, Viewer, viewer_from, linked_to, joined_nodes, viewed, led_to, led_from, sessions_in}
-use Rattle.flat_topology.proofs.lemmas.Distinct.{in-first, in-second, in-third, In, Distinct, in-left, in-right, in-append, distinct-append, distinct-left, distinct-right, distinct-apart, contains-in, in-contains, distinct-pairs}
+use Rattle.flat_topology.proofs.lemmas.Distinct.{in-first, in-second, in-third, In, Distinct, in-left, in-right, in-append, distinct-append, distinct-left}
+use Rattle.flat_topology.proofs.lemmas.Distinct.{distinct-right, distinct-apart, contains-in, in-contains, distinct-pairs}
 use Rattle.flat_topology.proofs.lemmas.Distances.{viewer-state, viewer-found, view-one, below-one, distance-one, distance-below, no-cycle}
 
 -- ---- nodes and their viewports, whatever a pair leads to
@@ -65,10 +66,12 @@ module _ (led : ℕ → JoinedTree) where
       → In c (sessions_in (joined_nodes led s nodes))
   nodes-in s Empty q c has on = absurd has
   nodes-in s (first serial scale turn place clip opacity hits what children rest) q c has on =
-      by_first (in-append q (pair_in what ++ pairs_in children) (pairs_in rest) has) (λ below. nodes-in s children q c below on) (λ after. nodes-in s rest q c after on)
+      by_first (in-append q (pair_in what ++ pairs_in children) (pairs_in rest) has) (λ below. nodes-in s children q c below on)
+      (λ after. nodes-in s rest q c after on)
     where
       by_first : In q (pair_in what ++ pairs_in children) ⊎ In q (pairs_in rest)
-          → (In q (pairs_in children) → In c (sessions_in (joined_nodes led s children))) → (In q (pairs_in rest) → In c (sessions_in (joined_nodes led s rest)))
+          → (In q (pairs_in children) → In c (sessions_in (joined_nodes led s children)))
+          → (In q (pairs_in rest) → In c (sessions_in (joined_nodes led s rest)))
           → In c (sessions_in (linked_to led what) ++ (sessions_in (joined_nodes led s children) ++ sessions_in (joined_nodes led s rest)))
       by_first (inr late) below after =
           in-right c (sessions_in (linked_to led what)) (sessions_in (joined_nodes led s children) ++ sessions_in (joined_nodes led s rest))
@@ -77,7 +80,8 @@ module _ (led : ℕ → JoinedTree) where
         where
           by_own : In q (pair_in what) ⊎ In q (pairs_in children)
               → In c (sessions_in (linked_to led what) ++ (sessions_in (joined_nodes led s children) ++ sessions_in (joined_nodes led s rest)))
-          by_own (inl own) = in-left c (sessions_in (linked_to led what)) (sessions_in (joined_nodes led s children) ++ sessions_in (joined_nodes led s rest)) (linked-in what q c own on)
+          by_own (inl own) = in-left c (sessions_in (linked_to led what)) (sessions_in (joined_nodes led s children) ++ sessions_in (joined_nodes led s rest))
+              (linked-in what q c own on)
           by_own (inr under) =
               in-right c (sessions_in (linked_to led what)) (sessions_in (joined_nodes led s children) ++ sessions_in (joined_nodes led s rest))
               (in-left c (sessions_in (joined_nodes led s children)) (sessions_in (joined_nodes led s rest)) (below under))
@@ -96,7 +100,8 @@ module _ (led : ℕ → JoinedTree) where
       (distinct-nodes s rest (distinct-right (pair_in what ++ pairs_in children) (pairs_in rest) pairs)
       (λ q on. each q (after q on)) (λ q r c on on'. one q r c (after q on) (after r on')))
       (λ c left right. apart-rest c (in-nodes s children c left) (in-nodes s rest c right)))
-      (λ c left right. apart-own c (in-linked what c left) (in-append c (sessions_in (joined_nodes led s children)) (sessions_in (joined_nodes led s rest)) right))
+      (λ c left right. apart-own c (in-linked what c left)
+      (in-append c (sessions_in (joined_nodes led s children)) (sessions_in (joined_nodes led s rest)) right))
     where
       own : (q : ℕ) → In q (pair_in what) → In q ((pair_in what ++ pairs_in children) ++ pairs_in rest)
       own q on = in-first q (pair_in what) (pairs_in children) (pairs_in rest) on
@@ -160,7 +165,8 @@ module _ (setup : Setup) (shown : Shown) (fit : FitsSetup setup shown) where
   in-viewed views p c (Some viewer) e (inl same) again = (0, rw same (viewer-state shown p viewer e).0)
   in-viewed views p c (Some viewer) e (inr on) again =
       let state = viewer-state shown p viewer e in
-      let found : (q : ℕ) × In q (pairs_in viewer.nodes) × In c (sessions_in (led_to shown views q)) = in-nodes (led_to shown views) viewer.session viewer.nodes c on in
+      let found : (q : ℕ) × In q (pairs_in viewer.nodes) × In c (sessions_in (led_to shown views q)) =
+      in-nodes (led_to shown views) viewer.session viewer.nodes c on in
       let way : (between : ℕ) × IsReached between found.0 c = again found.0 found.2 in
       let has : Contains (pairs_shown shown viewer.session) found.0 = contains-in found.0 _ (rw (← state.1) found.1) in
       (suc way.0, reached-more way.0 p found.0 viewer.session c way.1 has state.0)
@@ -175,7 +181,8 @@ module _ (setup : Setup) (shown : Shown) (fit : FitsSetup setup shown) where
   IsLive : ℕ → Type 0
   IsLive p = (s : ℕ) → view_of (state_of shown s) ≡ Some p → (d : ℕ) × IsConnectedThrough setup shown d s
 
-  module _ (views p : ℕ) (viewer : Viewer) (is_viewer : viewer_from 1 shown p ≡ Some viewer) (d : ℕ) (connected : IsConnectedThrough setup shown d viewer.session) where
+  module _ (views p : ℕ) (viewer : Viewer) (is_viewer : viewer_from 1 shown p ≡ Some viewer) (d : ℕ)
+      (connected : IsConnectedThrough setup shown d viewer.session) where
     shows : (q : ℕ) → In q (pairs_in viewer.nodes) → Contains (pairs_shown shown viewer.session) q
     shows q on = contains-in q _ (rw (← (viewer-state shown p viewer is_viewer).1) on)
 
@@ -206,8 +213,16 @@ module _ (setup : Setup) (shown : Shown) (fit : FitsSetup setup shown) where
       let state = viewer-state shown p viewer e in
       let above : (d : ℕ) × IsConnectedThrough setup shown d viewer.session = live viewer.session state.0 in (
         λ on. not_below_itself views p viewer e above.0 above.1 (in-nodes (led_to shown views) viewer.session viewer.nodes viewer.session on),
-        distinct-nodes (led_to shown views) viewer.session viewer.nodes (rw state.1 (distinct-pairs (pairs_shown shown viewer.session) (fit.once viewer.session)))
-            (λ q on. again q (λ c view. (suc above.0, (viewer.session, record { pair = q; viewport = shows views p viewer e above.0 above.1 q on; view = view }, above.1))))
+        distinct-nodes (led_to shown views) viewer.session viewer.nodes
+            (rw state.1 (distinct-pairs (pairs_shown shown viewer.session) (fit.once viewer.session)))
+            (λ q on. again q (λ c view. (
+              suc above.0,
+              (
+                viewer.session,
+                record { pair = q; viewport = shows views p viewer e above.0 above.1 q on; view = view },
+                above.1,
+              ),
+            )))
             (below_one_pair views p viewer e above.0 above.1),
       )
 

@@ -1,5 +1,6 @@
 -- The state of a session in the list of all.
-use Rattle.std.proofs.Common.{ℕ, zero, suc, ◌+◌, ◌-◌, ◌<◌, ◌≤◌, ◌≡◌, refl, Bool, cond, List, [], ◌∷◌, length, map, drop, Option, Some, None, slice_index_or, arith, Bor}
+use Rattle.std.proofs.Common.{ℕ, zero, suc, ◌+◌, ◌-◌, ◌<◌, ◌≤◌, ◌≡◌, refl, Bool, cond, List, [], ◌∷◌, length, map, drop, Option, Some, None, slice_index_or}
+use Rattle.std.proofs.Common.{arith, Bor}
 use Rattle.std.proofs.lemmas.List.{drop_more, drop_all}
 use Rattle.flat_base.specs.declared.ids.SessionNo.{SessionNo}
 use Rattle.std.specs.Prelude.{option_map}
@@ -23,7 +24,8 @@ state-at shown zero some = absurd (omega arith)
 state-at shown (suc k) some = let e : suc k - 1 ≡ k = omega arith in rw e refl
 
 -- who shows the view of a pair, from a session on
-pub viewer-next : (shown : Shown) (s p : ℕ) (session : SessionNo) (is : Bool) → session.0 ≡ s → 0 < s → s ≤ length shown → is ≡ is_view_of p (view_of (state_of shown s))
+pub viewer-next : (shown : Shown) (s p : ℕ) (session : SessionNo) (is : Bool) → session.0 ≡ s → 0 < s → s ≤ length shown
+    → is ≡ is_view_of p (view_of (state_of shown s))
     → viewer_from s (drop (s - 1) shown) p ≡ cond is (Some (viewer_at shown session)) (viewer_from (s + 1) (drop (s + 1 - 1) shown) p)
 viewer-next shown s p session is number some few tells =
     let low : s - 1 < length shown = omega arith in

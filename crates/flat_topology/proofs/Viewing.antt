@@ -62,7 +62,8 @@ stands-right all next count (p ∷ ps) qs counted stands =
 
 -- the views are those of the connected sessions, where these nodes stand among all from the next number on, and a session that hangs there
 -- has this parent and these bounds
-pub views-connected : (display : Rect) (all : List Placed) (next : ℕ) (at : Option ℕ) (parent : Option SessionNo) (bounds : Rect) (outer : Space) (tree : JoinedTree)
+pub views-connected : (display : Rect) (all : List Placed) (next : ℕ) (at : Option ℕ) (parent : Option SessionNo) (bounds : Rect) (outer : Space)
+    (tree : JoinedTree)
     → StandsFrom all next (placed_in outer tree)
     → ((s : ℕ) → connected_view display all (record { session = record { 0 = s }; at = at })
     ≡ record { session = record { 0 = s }; parent = parent; bounds = bounds })

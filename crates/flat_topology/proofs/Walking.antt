@@ -1,5 +1,6 @@
 -- The steps of the walk that places the nodes of the joined tree.
-use Rattle.std.proofs.Common.{ℕ, zero, suc, ◌+◌, ◌<◌, ◌≤◌, ◌≡◌, refl, sym, ap, ◌∙◌, Bool, true, false, cond, nat_lt, List, [], ◌∷◌, ◌++◌, length, Option, Some, None, All, slice_get, arith}
+use Rattle.std.proofs.Common.{ℕ, zero, suc, ◌+◌, ◌<◌, ◌≤◌, ◌≡◌, refl, sym, ap, ◌∙◌, Bool, true, false, cond, nat_lt, List, [], ◌∷◌, ◌++◌, length, Option, Some}
+use Rattle.std.proofs.Common.{None, All, slice_get, arith}
 use Rattle.std.proofs.lemmas.Bool.Decides.{nat_tests}
 use Rattle.std.proofs.lemmas.List.{append_assoc, append-nil, length-append, length_push, take_at, drop_at}
 use Rattle.std.proofs.lemmas.List.Elements.{All-nil, All-push, All-pop, All-head, All-take, All-drop}
@@ -24,11 +25,13 @@ use Rattle.flat_topology.specs.Join.{JoinedTree, node, child_view, nothing, view
 use Rattle.flat_topology.specs.Place.{Space, seen_through, node_space, linked_space, placed_node, placed_in}
 use Rattle.flat_topology.specs.Connected.{joined_count, connected_in}
 use Rattle.flat_topology.proofs.lemmas.Rooted.{rooted-alone}
-use Rattle.flat_topology.specs.Walking.{viewer_at, flat_of, space_of, tree_of, still_count, still_placed, still_connected, work, work_in, below_stretch, after_stretch, pushed, HasPut, IsOf, Continues, IsOnTheWay}
+use Rattle.flat_topology.specs.Walking.{viewer_at, flat_of, space_of, tree_of, still_count, still_placed, still_connected, work, work_in, below_stretch}
+use Rattle.flat_topology.specs.Walking.{after_stretch, pushed, HasPut, IsOf, Continues, IsOnTheWay}
 
 -- ---- one more stretch, which comes first
 
-pub count-more : (shown : Shown) (left : List Stretch) (s : Stretch) → still_count shown (left ++ s ∷ []) ≡ joined_count (tree_of shown s) + still_count shown left
+pub count-more : (shown : Shown) (left : List Stretch) (s : Stretch)
+    → still_count shown (left ++ s ∷ []) ≡ joined_count (tree_of shown s) + still_count shown left
 count-more shown [] s = omega arith
 count-more shown (x ∷ left) s = omega (arith, count-more shown left s)
 
@@ -40,15 +43,19 @@ placed-more shown (x ∷ left) s =
     ∙ append_assoc (placed_in (space_of s.scope) (tree_of shown s)) (still_placed shown left) (placed_in (space_of x.scope) (tree_of shown x))
 
 pub connected-more : (shown : Shown) (next : ℕ) (left : List Stretch) (s : Stretch)
-    → still_connected shown next (left ++ s ∷ []) ≡ connected_in next None (tree_of shown s) ++ still_connected shown (next + joined_count (tree_of shown s)) left
+    → still_connected shown next (left ++ s ∷ []) ≡ connected_in next None (tree_of shown s)
+    ++ still_connected shown (next + joined_count (tree_of shown s)) left
 connected-more shown next [] s =
     let e : next + 0 ≡ next = omega arith in
     ap (λ (n : ℕ). connected_in n None (tree_of shown s)) e ∙ sym (append-nil (connected_in next None (tree_of shown s)))
 connected-more shown next (x ∷ left) s =
-    let e : next + still_count shown (left ++ s ∷ []) ≡ next + joined_count (tree_of shown s) + still_count shown left = omega (arith, count-more shown left s) in
+    let e : next + still_count shown (left ++ s ∷ []) ≡ next + joined_count (tree_of shown s) + still_count shown left =
+    omega (arith, count-more shown left s) in
     ap (λ (cs : List Connected). cs ++ connected_in (next + still_count shown (left ++ s ∷ [])) None (tree_of shown x)) (connected-more shown next left s)
-    ∙ ap (λ (n : ℕ). (connected_in next None (tree_of shown s) ++ still_connected shown (next + joined_count (tree_of shown s)) left) ++ connected_in n None (tree_of shown x)) e
-    ∙ append_assoc (connected_in next None (tree_of shown s)) (still_connected shown (next + joined_count (tree_of shown s)) left) (connected_in (next + joined_count (tree_of shown s) + still_count shown left) None (tree_of shown x))
+    ∙ ap (λ (n : ℕ). (connected_in next None (tree_of shown s) ++ still_connected shown (next + joined_count (tree_of shown s)) left)
+    ++ connected_in n None (tree_of shown x)) e
+    ∙ append_assoc (connected_in next None (tree_of shown s)) (still_connected shown (next + joined_count (tree_of shown s)) left)
+    (connected_in (next + joined_count (tree_of shown s) + still_count shown left) None (tree_of shown x))
 
 pub work-more : (shown : Shown) (left : List Stretch) (s : Stretch) → work shown (left ++ s ∷ []) ≡ work shown left + work_in (tree_of shown s)
 work-more shown [] s = omega arith
@@ -65,16 +72,19 @@ pub placed-pushed : (shown : Shown) (left : List Stretch) (s : Stretch) → IsOf
     → still_placed shown (pushed left s) ≡ placed_in (space_of s.scope) (tree_of shown s) ++ still_placed shown left
 placed-pushed shown left s is = by_test (nat_lt s.next s.end) refl
   where
-    by_test : (b : Bool) → nat_lt s.next s.end ≡ b → still_placed shown (cond b (left ++ s ∷ []) left) ≡ placed_in (space_of s.scope) (tree_of shown s) ++ still_placed shown left
+    by_test : (b : Bool) → nat_lt s.next s.end ≡ b → still_placed shown (cond b (left ++ s ∷ []) left) ≡ placed_in (space_of s.scope) (tree_of shown s)
+        ++ still_placed shown left
     by_test true e = placed-more shown left s
     by_test false e = rw (none-in shown s is e) refl
 
 pub connected-pushed : (shown : Shown) (next : ℕ) (left : List Stretch) (s : Stretch) → IsOf shown s
-    → still_connected shown next (pushed left s) ≡ connected_in next None (tree_of shown s) ++ still_connected shown (next + joined_count (tree_of shown s)) left
+    → still_connected shown next (pushed left s) ≡ connected_in next None (tree_of shown s)
+    ++ still_connected shown (next + joined_count (tree_of shown s)) left
 connected-pushed shown next left s is = by_test (nat_lt s.next s.end) refl
   where
     by_test : (b : Bool) → nat_lt s.next s.end ≡ b
-        → still_connected shown next (cond b (left ++ s ∷ []) left) ≡ connected_in next None (tree_of shown s) ++ still_connected shown (next + joined_count (tree_of shown s)) left
+        → still_connected shown next (cond b (left ++ s ∷ []) left) ≡ connected_in next None (tree_of shown s)
+        ++ still_connected shown (next + joined_count (tree_of shown s)) left
     by_test true e = connected-more shown next left s
     by_test false e = let same : next + 0 ≡ next = omega arith in rw (none-in shown s is e, same) refl
 
@@ -104,7 +114,8 @@ connected-anywhere led s next at at' (first serial scale turn place clip opacity
 
 -- ---- a child view
 
-pub continue-none : (shown : Shown) (walk : Walk) (outer : Space) (at : Option ℕ) → All (IsOf shown) walk.left.items → Continues shown walk outer at nothing walk
+pub continue-none : (shown : Shown) (walk : Walk) (outer : Space) (at : Option ℕ) → All (IsOf shown) walk.left.items
+    → Continues shown walk outer at nothing walk
 continue-none shown walk outer at whole =
     let e : length walk.nodes + 0 ≡ length walk.nodes = omega arith in
     record { placed = refl; connected = rw e refl; whole = whole }
@@ -177,7 +188,8 @@ work-view shown left p allowed session views end scope more found ends =
 pub record HasFirst (shown : Shown) (s : Stretch) (n : FlatNode) (scope : Scope) : Type 0 where
   pub fields : Node
   pub is : fields ≡ as_node n fields.children
-  pub tree : tree_of shown s ≡ node s.session.0 fields (linked_to (led_to shown s.views) n.content) (tree_of shown (below_stretch s n scope)) (tree_of shown (after_stretch s n))
+  pub tree : tree_of shown s ≡ node s.session.0 fields (linked_to (led_to shown s.views) n.content) (tree_of shown (below_stretch s n scope))
+      (tree_of shown (after_stretch s n))
   pub below : IsOf shown (below_stretch s n scope)
   pub after : IsOf shown (after_stretch s n)
 
@@ -198,7 +210,8 @@ has-first shown s n scope is some at =
 pub low-first : (shown : Shown) (s : Stretch) (n : FlatNode) (scope : Scope) (limit : ℕ) → HasFirst shown s n scope
     → All (λ at. at.opacity < limit) (placed_in (space_of s.scope) (tree_of shown s)) → seen_through s.scope.opacity n.opacity < limit
 low-first shown s n scope limit f low =
-    let all : All (λ at. at.opacity < limit) (placed_in (space_of s.scope) (node s.session.0 f.fields (linked_to (led_to shown s.views) n.content) (tree_of shown (below_stretch s n scope)) (tree_of shown (after_stretch s n))))
+    let all : All (λ at. at.opacity < limit) (placed_in (space_of s.scope)
+    (node s.session.0 f.fields (linked_to (led_to shown s.views) n.content) (tree_of shown (below_stretch s n scope)) (tree_of shown (after_stretch s n))))
     = rw f.tree at low in
     let own : seen_through s.scope.opacity f.fields.opacity < limit = All-head (λ at. at.opacity < limit) _ _ all in
     rw f.is at own
@@ -206,7 +219,8 @@ low-first shown s n scope limit f low =
 pub whole-first : (shown : Shown) (old : Walk) (s : Stretch) (n : FlatNode) (scope : Scope) (mid : Walk) → HasFirst shown s n scope → HasPut old s n scope mid
     → All (IsOf shown) old.left.items → All (IsOf shown) mid.left.items
 whole-first shown old s n scope mid f m whole =
-    rw m.left (whole-pushed shown (pushed old.left.items (after_stretch s n)) (below_stretch s n scope) (whole-pushed shown old.left.items (after_stretch s n) whole f.after) f.below)
+    rw m.left (whole-pushed shown (pushed old.left.items (after_stretch s n)) (below_stretch s n scope)
+    (whole-pushed shown old.left.items (after_stretch s n) whole f.after) f.below)
 
 five-lists : {X : Type 0} (old : List X) (own : X) (linked below after left : List X)
     → (old ++ own ∷ []) ++ (linked ++ (below ++ (after ++ left))) ≡ old ++ ((own ∷ (linked ++ (below ++ after))) ++ left)
@@ -222,7 +236,8 @@ placed-tree : (outer here : Space) (s : ℕ) (fields : Node) (n : FlatNode) (lin
     ≡ placed_node s here (as_node n Empty) ∷ (placed_in (linked_space here n.content) linked ++ (placed_in here below ++ placed_in outer after))
 placed-tree outer here s fields n linked below after is inner = rw (is, inner) refl
 
-pub continue-first : (shown : Shown) (old : Walk) (s : Stretch) (n : FlatNode) (scope : Scope) (mid new : Walk) → HasFirst shown s n scope → HasPut old s n scope mid
+pub continue-first : (shown : Shown) (old : Walk) (s : Stretch) (n : FlatNode) (scope : Scope) (mid new : Walk) → HasFirst shown s n scope
+    → HasPut old s n scope mid
     → space_of scope ≡ node_space (space_of s.scope) (as_node n Empty)
     → Continues shown mid (linked_space (space_of scope) n.content) (Some (length old.nodes)) (linked_to (led_to shown s.views) n.content) new
     → Continues shown old (space_of s.scope) None (tree_of shown s) new
@@ -235,8 +250,10 @@ continue-first shown old s n scope mid new f m inner next =
     let all : JoinedTree = node s.session.0 f.fields linked (tree_of shown below) (tree_of shown after) in
     let placed : placed_in (space_of s.scope) (tree_of shown s)
     ≡ placed_node s.session.0 (space_of scope) (as_node n Empty)
-    ∷ (placed_in (linked_space (space_of scope) n.content) linked ++ (placed_in (space_of scope) (tree_of shown below) ++ placed_in (space_of s.scope) (tree_of shown after)))
-    = ap (placed_in (space_of s.scope)) f.tree ∙ placed-tree (space_of s.scope) (space_of scope) s.session.0 f.fields n linked (tree_of shown below) (tree_of shown after) f.is inner in
+    ∷ (placed_in (linked_space (space_of scope) n.content) linked
+    ++ (placed_in (space_of scope) (tree_of shown below) ++ placed_in (space_of s.scope) (tree_of shown after)))
+    = ap (placed_in (space_of s.scope)) f.tree ∙ placed-tree (space_of s.scope) (space_of scope) s.session.0 f.fields n linked (tree_of shown below)
+    (tree_of shown after) f.is inner in
     let still : still_placed shown mid.left.items
     ≡ placed_in (space_of scope) (tree_of shown below) ++ (placed_in (space_of s.scope) (tree_of shown after) ++ still_placed shown left)
     = ap (still_placed shown) m.left ∙ placed-pushed shown (pushed left after) below f.below
@@ -246,7 +263,8 @@ continue-first shown old s n scope mid new f m inner next =
     let then : ℕ = from + joined_count (tree_of shown below) in
     let end : then + joined_count (tree_of shown after) ≡ count + joined_count (tree_of shown s) = rw f.tree (omega arith) in
     let sessions : still_connected shown from mid.left.items
-    ≡ connected_in from None (tree_of shown below) ++ (connected_in then None (tree_of shown after) ++ still_connected shown (count + joined_count (tree_of shown s)) left)
+    ≡ connected_in from None (tree_of shown below) ++ (connected_in then None (tree_of shown after)
+    ++ still_connected shown (count + joined_count (tree_of shown s)) left)
     = ap (still_connected shown from) m.left ∙ connected-pushed shown from (pushed left after) below f.below
     ∙ ap (λ (cs : List Connected). connected_in from None (tree_of shown below) ++ cs)
     (connected-pushed shown then left after f.after ∙ ap (λ (k : ℕ). connected_in then None (tree_of shown after) ++ still_connected shown k left) end) in
@@ -256,7 +274,8 @@ continue-first shown old s n scope mid new f m inner next =
       whole = next.whole;
     }
 
-pub work-first : (shown : Shown) (old : Walk) (s : Stretch) (n : FlatNode) (scope : Scope) (mid new : Walk) → HasFirst shown s n scope → HasPut old s n scope mid
+pub work-first : (shown : Shown) (old : Walk) (s : Stretch) (n : FlatNode) (scope : Scope) (mid new : Walk) → HasFirst shown s n scope
+    → HasPut old s n scope mid
     → work shown new.left.items ≤ work shown mid.left.items + work_in (linked_to (led_to shown s.views) n.content)
     → work shown new.left.items < work shown old.left.items + work_in (tree_of shown s)
 work-first shown old s n scope mid new f m less =
@@ -301,11 +320,13 @@ start-view shown old new outer tree nodes connected left next = record {
 -- a stretch is taken from those that are left
 pub record IsTaken (shown : Shown) (all_nodes : List Placed) (all_sessions : List Connected) (s : Stretch) (walk : Walk) : Type 0 where
   pub placed : walk.nodes ++ (placed_in (space_of s.scope) (tree_of shown s) ++ still_placed shown walk.left.items) ≡ all_nodes
-  pub connected : walk.connected ++ (connected_in (length walk.nodes) None (tree_of shown s) ++ still_connected shown (length walk.nodes + joined_count (tree_of shown s)) walk.left.items) ≡ all_sessions
+  pub connected : walk.connected ++ (connected_in (length walk.nodes) None (tree_of shown s)
+      ++ still_connected shown (length walk.nodes + joined_count (tree_of shown s)) walk.left.items) ≡ all_sessions
   pub whole : All (IsOf shown) walk.left.items
   pub is : IsOf shown s
 
-pub taken : (shown : Shown) (all_nodes : List Placed) (all_sessions : List Connected) (s : Stretch) (old walk : Walk) → IsOnTheWay shown all_nodes all_sessions old
+pub taken : (shown : Shown) (all_nodes : List Placed) (all_sessions : List Connected) (s : Stretch) (old walk : Walk)
+    → IsOnTheWay shown all_nodes all_sessions old
     → old.left.items ≡ walk.left.items ++ s ∷ [] → walk.nodes ≡ old.nodes → walk.connected ≡ old.connected → IsTaken shown all_nodes all_sessions s walk
 taken shown all_nodes all_sessions s old walk way left nodes connected =
     let whole = All-pop (IsOf shown) old.left.items walk.left.items (Some s) left way.whole in
@@ -316,7 +337,8 @@ taken shown all_nodes all_sessions s old walk way left nodes connected =
       is = whole.1;
     }
 
-pub taken-goes-on : (shown : Shown) (all_nodes : List Placed) (all_sessions : List Connected) (s : Stretch) (walk new : Walk) → IsTaken shown all_nodes all_sessions s walk
+pub taken-goes-on : (shown : Shown) (all_nodes : List Placed) (all_sessions : List Connected) (s : Stretch) (walk new : Walk)
+    → IsTaken shown all_nodes all_sessions s walk
     → Continues shown walk (space_of s.scope) None (tree_of shown s) new → IsOnTheWay shown all_nodes all_sessions new
 taken-goes-on shown all_nodes all_sessions s walk new is next =
     record { placed = next.placed ∙ is.placed; connected = next.connected ∙ is.connected; whole = next.whole }
@@ -331,15 +353,18 @@ pub continue-empty : (shown : Shown) (walk : Walk) (s : Stretch) → All (IsOf s
 continue-empty shown walk s whole is low = rw (tree-none shown s is low) (continue-none shown walk (space_of s.scope) None whole)
 
 -- the nodes of a stretch are some of all
-pub taken-low : (shown : Shown) (all_nodes : List Placed) (all_sessions : List Connected) (s : Stretch) (walk : Walk) (P : Placed → Type 0) → IsTaken shown all_nodes all_sessions s walk
+pub taken-low : (shown : Shown) (all_nodes : List Placed) (all_sessions : List Connected) (s : Stretch) (walk : Walk) (P : Placed → Type 0)
+    → IsTaken shown all_nodes all_sessions s walk
     → All P all_nodes → All P (placed_in (space_of s.scope) (tree_of shown s))
 taken-low shown all_nodes all_sessions s walk P is low =
     let mine : List Placed = placed_in (space_of s.scope) (tree_of shown s) in
     let all : All P (walk.nodes ++ (mine ++ still_placed shown walk.left.items)) = rw is.placed low in
-    let right : All P (mine ++ still_placed shown walk.left.items) = rw (drop_at walk.nodes (mine ++ still_placed shown walk.left.items) (length walk.nodes) refl) at (All-drop P (length walk.nodes) _ all) in
+    let right : All P (mine ++ still_placed shown walk.left.items) =
+    rw (drop_at walk.nodes (mine ++ still_placed shown walk.left.items) (length walk.nodes) refl) at (All-drop P (length walk.nodes) _ all) in
     rw (take_at mine (still_placed shown walk.left.items) (length mine) refl) at (All-take P (length mine) _ right)
 
-pub taken-few : (shown : Shown) (all_nodes : List Placed) (all_sessions : List Connected) (s : Stretch) (walk : Walk) → IsTaken shown all_nodes all_sessions s walk
+pub taken-few : (shown : Shown) (all_nodes : List Placed) (all_sessions : List Connected) (s : Stretch) (walk : Walk)
+    → IsTaken shown all_nodes all_sessions s walk
     → length walk.nodes ≤ length all_nodes
 taken-few shown all_nodes all_sessions s walk is =
     let size : length walk.nodes + length (placed_in (space_of s.scope) (tree_of shown s) ++ still_placed shown walk.left.items) ≡ length all_nodes
@@ -350,7 +375,8 @@ taken-few shown all_nodes all_sessions s walk is =
 pub work-taken : (shown : Shown) (old left : List Stretch) (s : Stretch) → old ≡ left ++ s ∷ [] → work shown old ≡ work shown left + work_in (tree_of shown s)
 work-taken shown old left s e = ap (work shown) e ∙ work-more shown left s
 
-pub end-placed : (shown : Shown) (all_nodes : List Placed) (all_sessions : List Connected) (walk : Walk) → IsOnTheWay shown all_nodes all_sessions walk → walk.left.items ≡ []
+pub end-placed : (shown : Shown) (all_nodes : List Placed) (all_sessions : List Connected) (walk : Walk) → IsOnTheWay shown all_nodes all_sessions walk
+    → walk.left.items ≡ []
     → (walk.nodes ≡ all_nodes) × (walk.connected ≡ all_sessions)
 end-placed shown all_nodes all_sessions walk way none =
     (sym (append-nil walk.nodes) ∙ rw none at way.placed, sym (append-nil walk.connected) ∙ rw none at way.connected)

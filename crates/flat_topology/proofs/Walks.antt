@@ -4,7 +4,8 @@ use Rattle.flat_geom.specs.Identity.{identity_matrix}
 use Rattle.flat_topology.specs.declared.scope.Scope.{Scope}
 use Rattle.flat_topology.specs.declared.walk.Stretch.{Stretch}
 use Rattle.flat_topology.specs.Place.{display_rect, display_space, placed_nodes}
-use Rattle.flat_topology.specs.Walking.{viewer_at, flat_of, space_of, tree_of, still_count, still_placed, still_connected, work, below_stretch, after_stretch, pushed}
+use Rattle.flat_topology.specs.Walking.{viewer_at, flat_of, space_of, tree_of, still_count, still_placed, still_connected, work, below_stretch, after_stretch}
+use Rattle.flat_topology.specs.Walking.{pushed}
 use Rattle.flat_topology.specs.Distances.{leads_to, is_view_among, NotesViews}
 use Rattle.flat_topology.specs.Shown.{is_shown_by, state_of, view_of}
 use Rattle.flat_topology.specs.Links.{IsConnectedThrough}
@@ -46,7 +47,8 @@ all_work : work shell_shown (whole_shell ∷ []) ≡ 16
 all_work = refl
 
 -- the mail's viewport is the root's first child, and nothing is beside the root
-first_parts : map {B = ℕ × ℕ} (λ s. (s.next, s.end)) (map (λ n. below_stretch whole_shell n display_scope) (flat_of (state_of shell_shown 1))) ≡ (1, 3) ∷ (1, 2) ∷ (1, 3) ∷ []
+first_parts : map {B = ℕ × ℕ} (λ s. (s.next, s.end)) (map (λ n. below_stretch whole_shell n display_scope) (flat_of (state_of shell_shown 1))) ≡ (1, 3) ∷ (1, 2)
+    ∷ (1, 3) ∷ []
 first_parts = refl
 
 other_parts : map {B = ℕ × ℕ} (λ s. (s.next, s.end)) (map (after_stretch whole_shell) (flat_of (state_of shell_shown 1))) ≡ (3, 3) ∷ (2, 3) ∷ (3, 3) ∷ []
@@ -88,7 +90,8 @@ shell_notes : NotesViews shell_shown (λ p. is_shown_by shell_shown p 1) 1 (Some
 shell_notes = record { count = refl; each = each }
   where
     each : (s : ℕ) → slice_index_or {A = Option ℕ} (Some 0 ∷ Some 1 ∷ Some 1 ∷ []) s None
-        ≡ cond (is_view_among (λ p. is_shown_by shell_shown p 1) (view_of (state_of shell_shown (suc s)))) (Some 1) (slice_index_or {A = Option ℕ} (Some 0 ∷ None ∷ None ∷ []) s None)
+        ≡ cond (is_view_among (λ p. is_shown_by shell_shown p 1) (view_of (state_of shell_shown (suc s)))) (Some 1)
+        (slice_index_or {A = Option ℕ} (Some 0 ∷ None ∷ None ∷ []) s None)
     each zero = refl
     each (suc zero) = refl
     each (suc (suc zero)) = refl

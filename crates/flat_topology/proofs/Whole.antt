@@ -1,5 +1,6 @@
 -- The joined tree is whole: no session is farther from the display than there are sessions.
-use Rattle.std.proofs.Common.{sym, ℕ, zero, suc, ◌+◌, ◌<◌, ◌≤◌, ◌≡◌, ◌≢◌, ◌⊎◌, inl, inr, refl, ap, true, false, ◌||◌, eqb, List, [], ◌∷◌, length, Option, Some, None, slice_index_or, arith}
+use Rattle.std.proofs.Common.{sym, ℕ, zero, suc, ◌+◌, ◌<◌, ◌≤◌, ◌≡◌, ◌≢◌, ◌⊎◌, inl, inr, refl, ap, true, false, ◌||◌, eqb, List, [], ◌∷◌, length, Option, Some}
+use Rattle.std.proofs.Common.{None, slice_index_or, arith}
 use Rattle.std.specs.List.{IsDistinct, AllByRecursion, list_any}
 use Rattle.std.proofs.lemmas.Bool.Decides.{eqb_tells}
 use Rattle.std.proofs.lemmas.List.{get_or_past}
@@ -109,7 +110,8 @@ module _ (setup : Setup) (shown : Shown) (fit : FitsSetup setup shown) where
   unfolding upwards
   distinct-upwards zero c x = (λ on. on, tt)
   distinct-upwards (suc d) c x = (
-    λ on. let up = in-upwards d x.0 x.2 c on in let same : up.0 ≡ suc d = distance-one setup shown fit up.0 (suc d) c up.2 x in absurd (omega (arith, same, up.1)),
+    λ on. let up = in-upwards d x.0 x.2 c on in let same : up.0 ≡ suc d =
+        distance-one setup shown fit up.0 (suc d) c up.2 x in absurd (omega (arith, same, up.1)),
     distinct-upwards d x.0 x.2,
   )
 
@@ -157,13 +159,18 @@ module _ (setup : Setup) (shown : Shown) (fit : FitsSetup setup shown) where
   led-more (suc views) d p live enough = by_viewer (viewer_from 1 shown p) refl (λ q below. led-more views (suc d) q below (omega (arith, enough)))
     where
       by_viewer : (found : Option Viewer) → viewer_from 1 shown p ≡ found
-          → ((q : ℕ) → ((s : ℕ) → view_of (state_of shown s) ≡ Some q → IsConnectedThrough setup shown (suc d) s) → led_to shown views q ≡ led_to shown (suc views) q)
+          → ((q : ℕ) → ((s : ℕ) → view_of (state_of shown s) ≡ Some q → IsConnectedThrough setup shown (suc d) s)
+          → led_to shown views q ≡ led_to shown (suc views) q)
           → viewed (led_to shown views) found ≡ viewed (led_to shown (suc views)) found
       by_viewer None e again = refl
       by_viewer (Some viewer) e again =
           let state = viewer-state shown p viewer e in
           ap (child_view viewer.session) (nodes-same (led_to shown views) (led_to shown (suc views)) viewer.session viewer.nodes
-          (λ q on. again q (λ s view. (viewer.session, record { pair = q; viewport = contains-in q _ (rw (← state.1) on); view = view }, live viewer.session state.0))))
+          (λ q on. again q (λ s view. (
+            viewer.session,
+            record { pair = q; viewport = contains-in q _ (rw (← state.1) on); view = view },
+            live viewer.session state.0,
+          ))))
 
   pub led-whole : (p : ℕ) → display_pair setup ≡ Some p → led_to shown (length shown) p ≡ led_to shown (suc (length shown)) p
   led-whole p display = led-more (length shown) 0 p (λ s view. record { pair = p; viewport = display; view = view }) (omega arith)

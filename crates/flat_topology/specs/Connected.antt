@@ -24,7 +24,8 @@ abbrev pub connected_in : ℕ → Option ℕ → JoinedTree → List Connected
 connected_in next at nothing = []
 connected_in next at (node s n linked below after) =
     connected_in (suc next) (Some next) linked
-    ++ (connected_in (suc next + joined_count linked) at below ++ connected_in (suc next + joined_count linked + joined_count below) at after)
+    ++ (connected_in (suc next + joined_count linked) at below
+    ++ connected_in (suc next + joined_count linked + joined_count below) at after)
 connected_in next at (child_view s root) = record { session = record { 0 = s }; at = at } ∷ connected_in next at root
 
 -- the connected sessions; the first hangs below no node
@@ -33,7 +34,11 @@ connected_sessions setup shown = connected_in 0 None (join setup shown)
 
 -- the joined tree as a list of placed nodes and one of connected sessions
 abbrev pub joined_lists : Setup → Shown → Joined
-joined_lists setup shown = record { display = display_rect setup; nodes = placed_nodes setup shown; connected = connected_sessions setup shown }
+joined_lists setup shown = record {
+  display = display_rect setup;
+  nodes = placed_nodes setup shown;
+  connected = connected_sessions setup shown;
+}
 
 -- the view of a session that hangs below a placed node, or else fills the display
 abbrev pub view_below : Rect → SessionNo → Option Placed → ViewNode

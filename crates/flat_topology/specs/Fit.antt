@@ -17,7 +17,8 @@ image_opacity _ = 0
 
 -- the greatest opacity of a node or of an image
 abbrev pub greatest_opacity : Children → ℕ
-greatest_opacity = fold_nodes (λ node below after. max (max node.opacity (image_opacity node.content)) (max below after)) 0
+greatest_opacity = fold_nodes (λ node below after. max (max node.opacity (image_opacity node.content))
+    (max below after)) 0
 
 -- The shown states of all sessions fit the setup.
 pub record FitsSetup (setup : Setup) (shown : Shown) : Type 0 where

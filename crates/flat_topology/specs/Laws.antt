@@ -16,11 +16,13 @@ use Rattle.flat_topology.specs.Connected.{connected_sessions, connected_view}
 
 -- the sessions in the joined tree are exactly the connected ones
 abbrev pub JoinsTheConnected : Type 0
-JoinsTheConnected = (setup : Setup) (shown : Shown) → FitsSetup setup shown → (s : ℕ) → IsTrue (is_joined setup shown s) ↔ IsConnected setup shown s
+JoinsTheConnected = (setup : Setup) (shown : Shown) → FitsSetup setup shown → (s : ℕ)
+    → IsTrue (is_joined setup shown s) ↔ IsConnected setup shown s
 
 -- each session stands in the joined tree at most once
 abbrev pub JoinsEachOnce : Type 0
-JoinsEachOnce = (setup : Setup) (shown : Shown) → FitsSetup setup shown → AllPairs (λ s t. s ≢ t) (joined_sessions setup shown)
+JoinsEachOnce = (setup : Setup) (shown : Shown) → FitsSetup setup shown
+    → AllPairs (λ s t. s ≢ t) (joined_sessions setup shown)
 
 -- no cycle of links is reached from the display: no connected session hangs below itself
 abbrev pub ReachesNoCycle : Type 0
@@ -34,11 +36,13 @@ JoinsAll = (setup : Setup) (shown : Shown) → FitsSetup setup shown
 
 -- it has no more sessions than there are states
 abbrev pub JoinsFewSessions : Type 0
-JoinsFewSessions = (setup : Setup) (shown : Shown) → FitsSetup setup shown → length (joined_sessions setup shown) ≤ length shown
+JoinsFewSessions = (setup : Setup) (shown : Shown) → FitsSetup setup shown
+    → length (joined_sessions setup shown) ≤ length shown
 
 -- it has no more nodes than so many trees may have
 abbrev pub JoinsFew : Type 0
-JoinsFew = (setup : Setup) (shown : Shown) → FitsSetup setup shown → length (placed_nodes setup shown) ≤ length shown * TREE_NODES_MAX
+JoinsFew = (setup : Setup) (shown : Shown) → FitsSetup setup shown
+    → length (placed_nodes setup shown) ≤ length shown * TREE_NODES_MAX
 
 -- no placed node, nor an image on one, has an opacity above the greatest
 abbrev pub PlacesLowOpacities : Type 0
@@ -53,20 +57,24 @@ ParentsDecide = (setup : Setup) (shown other : Shown) → FitsSetup setup shown 
 
 -- the view tree has the sessions of the joined tree, in the same order
 abbrev pub ViewsTheJoined : Type 0
-ViewsTheJoined = (setup : Setup) (shown : Shown) → map (λ v. v.session.0) (view_nodes setup shown) ≡ joined_sessions setup shown
+ViewsTheJoined = (setup : Setup) (shown : Shown)
+    → map (λ v. v.session.0) (view_nodes setup shown) ≡ joined_sessions setup shown
 
 -- each view's parent is the session that it is below, and the first view is the display's
 abbrev pub ViewsBelowParents : Type 0
-ViewsBelowParents = (setup : Setup) (shown : Shown) → All (λ v. IsChild setup shown v.session.0 v.parent) (view_nodes setup shown)
+ViewsBelowParents = (setup : Setup) (shown : Shown)
+    → All (λ v. IsChild setup shown v.session.0 v.parent) (view_nodes setup shown)
 
 -- the views are those of the connected sessions, each at the placed node below which it hangs
 abbrev pub ViewsTheConnected : Type 0
 ViewsTheConnected = (setup : Setup) (shown : Shown)
-    → view_nodes setup shown ≡ map (connected_view (display_rect setup) (placed_nodes setup shown)) (connected_sessions setup shown)
+    → view_nodes setup shown ≡ map (connected_view (display_rect setup) (placed_nodes setup shown))
+    (connected_sessions setup shown)
 
 -- no session is hit twice
 abbrev pub HitsEachOnce : Type 0
-HitsEachOnce = (setup : Setup) (shown : Shown) (x y : ℤ) → AllPairs (λ s t. s ≢ t) (map (λ hit. hit.session.0) (hit_list setup shown x y))
+HitsEachOnce = (setup : Setup) (shown : Shown) (x y : ℤ)
+    → AllPairs (λ s t. s ≢ t) (map (λ hit. hit.session.0) (hit_list setup shown x y))
 
 -- the placed nodes, and with them the draw list, stand in preorder of the joined tree
 abbrev pub DrawsInPreorder : Type 0

@@ -10,4 +10,5 @@ OwnsView setup s p = (pair : PairDecl) × (slice_get setup.pairs p ≡ Some pair
 
 -- session s owns the viewport end of pair p
 abbrev pub OwnsViewport : Setup → ℕ → ℕ → Type 0
-OwnsViewport setup s p = (pair : PairDecl) × (slice_get setup.pairs p ≡ Some pair) × (pair.viewport ≡ Session (record { 0 = s }))
+OwnsViewport setup s p = (pair : PairDecl) × (slice_get setup.pairs p ≡ Some pair)
+    × (pair.viewport ≡ Session (record { 0 = s }))

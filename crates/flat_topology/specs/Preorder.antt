@@ -30,7 +30,8 @@ are_in_order (one ∷ later) = list_all (comes_before one) later && are_in_order
 abbrev pub node_at : ℕ → JoinedTree → Address → Option (ℕ × Node)
 node_at first nothing address = None
 node_at first (node s fields linked below after) [] = None
-node_at first (node s fields linked below after) (n ∷ []) = if n == first then Some (s, fields) else node_at (suc first) after (n ∷ [])
+node_at first (node s fields linked below after) (n ∷ []) =
+    if n == first then Some (s, fields) else node_at (suc first) after (n ∷ [])
 node_at first (node s fields linked below after) (n ∷ zero ∷ address) =
     if n == first then node_at 0 linked address else node_at (suc first) after (n ∷ 0 ∷ address)
 node_at first (node s fields linked below after) (n ∷ suc zero ∷ address) =
@@ -43,7 +44,8 @@ abbrev pub addresses : ℕ → JoinedTree → List Address
 addresses first nothing = []
 addresses first (node s fields linked below after) =
     (first ∷ [])
-    ∷ (map (λ address. first ∷ 0 ∷ address) (addresses 0 linked) ++ (map (λ address. first ∷ 1 ∷ address) (addresses 0 below) ++ addresses (suc first) after))
+    ∷ (map (λ address. first ∷ 0 ∷ address) (addresses 0 linked)
+    ++ (map (λ address. first ∷ 1 ∷ address) (addresses 0 below) ++ addresses (suc first) after))
 addresses first (child_view s root) = addresses first root
 
 -- what a placed node has of its session's transform: the serial number, the content and the hit regions
@@ -64,5 +66,6 @@ kept_by at = record { session = at.session.0; serial = at.serial; content = at.c
 -- before all later ones.
 pub record IsPreorder (tree : JoinedTree) (placed : List Placed) : Type 0 where
   pub in_order : are_in_order (addresses 0 tree) ≡ true
-  pub nodes : map (λ address. option_map kept_of (node_at 0 tree address)) (addresses 0 tree) ≡ map (λ at. Some (kept_by at)) placed
+  pub nodes : map (λ address. option_map kept_of (node_at 0 tree address)) (addresses 0 tree)
+      ≡ map (λ at. Some (kept_by at)) placed
   pub all : (address : Address) (n : ℕ × Node) → node_at 0 tree address ≡ Some n → Contains (addresses 0 tree) address

@@ -33,7 +33,8 @@ space_of scope = record { matrix = scope.matrix; clip = scope.clip; opacity = sc
 
 -- the nodes of a stretch, each viewport with what its pair leads to
 abbrev pub tree_of : Shown → Stretch → JoinedTree
-tree_of shown s = joined_nodes (led_to shown s.views) s.session.0 (forest_in (flat_of (state_of shown s.session.0)) 0 s.next s.end)
+tree_of shown s = joined_nodes (led_to shown s.views) s.session.0
+    (forest_in (flat_of (state_of shown s.session.0)) 0 s.next s.end)
 
 -- how many nodes are still to be placed; the last stretch comes first
 abbrev pub still_count : Shown → List Stretch → ℕ
@@ -48,7 +49,8 @@ still_placed shown (s ∷ left) = still_placed shown left ++ placed_in (space_of
 -- the sessions below them, where the nodes have the numbers from this one on
 abbrev pub still_connected : Shown → ℕ → List Stretch → List Connected
 still_connected shown next [] = []
-still_connected shown next (s ∷ left) = still_connected shown next left ++ connected_in (next + still_count shown left) None (tree_of shown s)
+still_connected shown next (s ∷ left) = still_connected shown next left
+    ++ connected_in (next + still_count shown left) None (tree_of shown s)
 
 -- how much is left to do: a stretch with each node makes two more, or three
 abbrev pub work_in : JoinedTree → ℕ
@@ -83,14 +85,18 @@ pub record HasPut (old : Walk) (s : Stretch) (n : FlatNode) (scope : Scope) (new
   pub left : new.left.items ≡ pushed (pushed old.left.items (after_stretch s n)) (below_stretch s n scope)
 
 -- The nodes and sessions of a tree come next, and then what was left before.
-pub record Continues (shown : Shown) (old : Walk) (outer : Space) (at : Option ℕ) (tree : JoinedTree) (new : Walk) : Type 0 where
-  pub placed : new.nodes ++ still_placed shown new.left.items ≡ old.nodes ++ (placed_in outer tree ++ still_placed shown old.left.items)
+pub record Continues (shown : Shown) (old : Walk) (outer : Space) (at : Option ℕ) (tree : JoinedTree)
+    (new : Walk) : Type 0 where
+  pub placed : new.nodes ++ still_placed shown new.left.items ≡ old.nodes
+      ++ (placed_in outer tree ++ still_placed shown old.left.items)
   pub connected : new.connected ++ still_connected shown (length new.nodes) new.left.items
-      ≡ old.connected ++ (connected_in (length old.nodes) at tree ++ still_connected shown (length old.nodes + joined_count tree) old.left.items)
+      ≡ old.connected ++ (connected_in (length old.nodes) at tree
+      ++ still_connected shown (length old.nodes + joined_count tree) old.left.items)
   pub whole : All (IsOf shown) new.left.items
 
 -- What is placed, and what is left, are all nodes and all sessions.
-pub record IsOnTheWay (shown : Shown) (all_nodes : List Placed) (all_sessions : List Connected) (walk : Walk) : Type 0 where
-  pub placed : walk.nodes ++ still_placed shown walk.left.items ≡ all_nodes
-  pub connected : walk.connected ++ still_connected shown (length walk.nodes) walk.left.items ≡ all_sessions
-  pub whole : All (IsOf shown) walk.left.items
+pub record IsOnTheWay (shown : Shown) (all_nodes : List Placed) (all_sessions : List Connected) (walk : Walk) : Type 0
+  where
+    pub placed : walk.nodes ++ still_placed shown walk.left.items ≡ all_nodes
+    pub connected : walk.connected ++ still_connected shown (length walk.nodes) walk.left.items ≡ all_sessions
+    pub whole : All (IsOf shown) walk.left.items

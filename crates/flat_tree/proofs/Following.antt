@@ -38,7 +38,8 @@ pub apart-more : (before : ℕ) (views : List ViewNode) (with_view : SessionSet)
 apart-more before views with_view =
     let test : ℕ → Bool = is_apart views with_view in
     let e : 1 + before ≡ before + 1 = omega arith in
-    let range : range_with_len 1 (before + 1) ≡ range_with_len 1 before ++ (before + 1) ∷ [] = range-more 1 before ∙ ap (λ (s : ℕ). range_with_len 1 before ++ s ∷ []) e in
+    let range : range_with_len 1 (before + 1) ≡ range_with_len 1 before ++ (before + 1) ∷ [] =
+    range-more 1 before ∙ ap (λ (s : ℕ). range_with_len 1 before ++ s ∷ []) e in
     ap (λ (all : List ℕ). map numbered (filter test all)) range
     ∙ ap (map numbered) (filter-append test (range_with_len 1 before) ((before + 1) ∷ []))
     ∙ map-append numbered (filter test (range_with_len 1 before)) (filter test ((before + 1) ∷ []))
@@ -68,11 +69,13 @@ filter-range test other from (suc count) more same beyond =
     = filter-range test other (from + 1) count more (λ s low high. same s (omega arith) (omega arith)) (λ s high. beyond s (omega arith)) in
     rw (e, here, rest) refl
 
-apart-same : ViewsTheJoined → (setup : Setup) (shown : Shown) (has_view : ℕ → Bool) (with_view : SessionSet) (limit : ℕ) → setup.sessions ≤ limit → IsSetOf setup has_view with_view
+apart-same : ViewsTheJoined → (setup : Setup) (shown : Shown) (has_view : ℕ → Bool) (with_view : SessionSet) (limit : ℕ) → setup.sessions ≤ limit
+    → IsSetOf setup has_view with_view
     → apart_below limit (view_nodes setup shown) with_view ≡ apart_sessions setup shown has_view
 apart-same views setup shown has_view with_view limit few is =
     let e : limit ≡ setup.sessions + (limit - setup.sessions) = omega arith in
-    let same = filter-range (is_apart (view_nodes setup shown) with_view) (λ s. has_view s && not (is_joined setup shown s)) 1 setup.sessions (limit - setup.sessions)
+    let same = filter-range (is_apart (view_nodes setup shown) with_view) (λ s. has_view s && not (is_joined setup shown s)) 1 setup.sessions
+    (limit - setup.sessions)
     (λ s low high. rw (is.within s (omega arith) (omega arith), among-joined views setup shown s) refl)
     (λ s high. rw (is.beyond s (omega arith)) refl) in
     ap (map numbered) (ap (λ (n : ℕ). filter (is_apart (view_nodes setup shown) with_view) (range_with_len 1 n)) e ∙ same)

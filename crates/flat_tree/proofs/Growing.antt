@@ -1,5 +1,6 @@
 -- The views of a joined tree are a tree: each one stands behind its parent.
-use Rattle.std.proofs.Common.{ℕ, zero, suc, ◌≡◌, ◌==◌, refl, sym, ap, ◌∙◌, subst, inl, inr, Bool, true, false, not, List, [], ◌∷◌, ◌++◌, length, map, reverse, Option, Some, None, append_assoc, append-nil}
+use Rattle.std.proofs.Common.{ℕ, zero, suc, ◌≡◌, ◌==◌, refl, sym, ap, ◌∙◌, subst, inl, inr, Bool, true, false, not, List, [], ◌∷◌, ◌++◌, length, map, reverse}
+use Rattle.std.proofs.Common.{Option, Some, None, append_assoc, append-nil}
 use Rattle.std.proofs.Math.Bool.{or-true}
 use Rattle.std.proofs.lemmas.Bool.{eq-eqb, eqb-true}
 use Rattle.std.proofs.lemmas.List.{map-append, reverse-append}
@@ -50,7 +51,8 @@ onto-append (node ∷ xs) ys earlier = onto-append xs ys (node ∷ earlier)
 onto-turned : (xs earlier : List ViewNode) → onto xs earlier ≡ reverse xs ++ earlier
 onto-turned [] earlier = refl
 onto-turned (node ∷ xs) earlier =
-    onto-turned xs (node ∷ earlier) ∙ sym (ap (λ (turned : List ViewNode). turned ++ earlier) (reverse-append (node ∷ []) xs) ∙ append_assoc (reverse xs) (node ∷ []) earlier)
+    onto-turned xs (node ∷ earlier) ∙ sym (ap (λ (turned : List ViewNode). turned ++ earlier) (reverse-append (node ∷ []) xs)
+    ∙ append_assoc (reverse xs) (node ∷ []) earlier)
 
 -- a node stays one
 node-onto : (xs earlier : List ViewNode) (s : SessionNo) → is_node earlier s ≡ true → is_node (onto xs earlier) s ≡ true
@@ -58,15 +60,18 @@ node-onto [] earlier s there = there
 node-onto (node ∷ xs) earlier s there = node-onto xs (node ∷ earlier) s (rw there (or-true (node.session.0 == s.0)))
 
 -- a session that is on neither list is none
-none-onto : (xs earlier : List ViewNode) (t : ℕ) → (In t (sessions_of xs) → ⊥) → is_node earlier (numbered t) ≡ false → is_node (onto xs earlier) (numbered t) ≡ false
+none-onto : (xs earlier : List ViewNode) (t : ℕ) → (In t (sessions_of xs) → ⊥) → is_node earlier (numbered t) ≡ false
+    → is_node (onto xs earlier) (numbered t) ≡ false
 none-onto [] earlier t apart none = none
-none-onto (node ∷ xs) earlier t apart none = none-onto xs (node ∷ earlier) t (λ on. apart (inr on)) (or-false (differs node.session.0 t (λ same. apart (inl same))) none)
+none-onto (node ∷ xs) earlier t apart none = none-onto xs (node ∷ earlier) t (λ on. apart (inr on))
+    (or-false (differs node.session.0 t (λ same. apart (inl same))) none)
 
 -- ---- a tree that grows
 
 -- behind a tree, these nodes make a tree, where their sessions differ and are none of its
 abbrev Grows : List ViewNode → List ViewNode → Type 0
-Grows earlier nodes = Distinct (sessions_of nodes) → ((t : ℕ) → In t (sessions_of nodes) → is_node earlier (numbered t) ≡ false) → is_tree_in earlier ≡ true → is_tree_in (onto nodes earlier) ≡ true
+Grows earlier nodes = Distinct (sessions_of nodes) → ((t : ℕ) → In t (sessions_of nodes) → is_node earlier (numbered t) ≡ false) → is_tree_in earlier ≡ true
+    → is_tree_in (onto nodes earlier) ≡ true
 
 grows-none : (earlier : List ViewNode) → Grows earlier []
 grows-none earlier = λ differ new tree. tree
@@ -85,7 +90,8 @@ grows-append earlier xs ys left right = λ differ new tree.
     ap is_tree_in (onto-append xs ys earlier) ∙ right (distinct-right (sessions_of xs) (sessions_of ys) apart) new_right grown
 
 -- one node, and those behind it
-grows-first : (own : ViewNode) (others earlier : List ViewNode) → is_below own.parent earlier ≡ true → Grows (own ∷ earlier) others → Grows earlier (own ∷ others)
+grows-first : (own : ViewNode) (others earlier : List ViewNode) → is_below own.parent earlier ≡ true → Grows (own ∷ earlier) others
+    → Grows earlier (own ∷ others)
 grows-first own others earlier below later = λ differ new tree.
     let alone : is_node earlier own.session ≡ false = new own.session.0 (inl refl) in
     let grown : is_tree_in (own ∷ earlier) ≡ true = and-true (ap not alone) (and-true below tree) in
@@ -97,7 +103,8 @@ grows-first own others earlier below later = λ differ new tree.
 
 -- what a pair leads to goes on a tree, below one of its sessions, or as its first
 abbrev GoesOn : (ℕ → JoinedTree) → ℕ → Type 0
-GoesOn led p = (parent : Option SessionNo) (bounds : Rect) (outer : Space) (earlier : List ViewNode) → is_below parent earlier ≡ true → Grows earlier (views_in parent bounds outer (led p))
+GoesOn led p = (parent : Option SessionNo) (bounds : Rect) (outer : Space) (earlier : List ViewNode) → is_below parent earlier ≡ true
+    → Grows earlier (views_in parent bounds outer (led p))
 
 grows-linked : (led : ℕ → JoinedTree) → ((q : ℕ) → GoesOn led q) → (s : ℕ) (bounds : Rect) (outer : Space) (what : Option Content) (earlier : List ViewNode)
     → is_node earlier (numbered s) ≡ true → Grows earlier (views_in (Some (numbered s)) bounds outer (linked_to led what))
@@ -106,7 +113,8 @@ grows-linked led each s bounds outer (Some (content.Fill serial rgba w h)) earli
 grows-linked led each s bounds outer (Some (content.Image serial buffers index sample w h blend flip opacity)) earlier there = grows-none earlier
 grows-linked led each s bounds outer (Some (content.Viewport serial pair props)) earlier there = each pair.0 (Some (numbered s)) bounds outer earlier there
 
-grows-nodes : (led : ℕ → JoinedTree) → ((q : ℕ) → GoesOn led q) → (s : ℕ) (parent : Option SessionNo) (bounds : Rect) (outer : Space) (nodes : Children) (earlier : List ViewNode)
+grows-nodes : (led : ℕ → JoinedTree) → ((q : ℕ) → GoesOn led q)
+    → (s : ℕ) (parent : Option SessionNo) (bounds : Rect) (outer : Space) (nodes : Children) (earlier : List ViewNode)
     → is_node earlier (numbered s) ≡ true → Grows earlier (views_in parent bounds outer (joined_nodes led s nodes))
 grows-nodes led each s parent bounds outer Empty earlier there = grows-none earlier
 grows-nodes led each s parent bounds outer (first serial scale turn place clip opacity hits what children rest) earlier there =
@@ -132,10 +140,12 @@ grows-nodes led each s parent bounds outer (first serial scale turn place clip o
     let still : is_node with_first (numbered s) ≡ true = node-onto first_views earlier (numbered s) there in
     let linked : Grows earlier first_views = grows-linked led each s at under what earlier there in
     let below : Grows with_first second_views = grows-nodes led each s parent bounds inner children with_first still in
-    let after : Grows with_second third_views = grows-nodes led each s parent bounds outer rest with_second (node-onto second_views with_first (numbered s) still) in
+    let after : Grows with_second third_views = grows-nodes led each s parent bounds outer rest with_second
+    (node-onto second_views with_first (numbered s) still) in
     grows-append earlier first_views (second_views ++ third_views) linked (grows-append with_first second_views third_views below after)
 
-grows-viewed : (led : ℕ → JoinedTree) → ((q : ℕ) → GoesOn led q) → (found : Option Viewer) (parent : Option SessionNo) (bounds : Rect) (outer : Space) (earlier : List ViewNode)
+grows-viewed : (led : ℕ → JoinedTree) → ((q : ℕ) → GoesOn led q)
+    → (found : Option Viewer) (parent : Option SessionNo) (bounds : Rect) (outer : Space) (earlier : List ViewNode)
     → is_below parent earlier ≡ true → Grows earlier (views_in parent bounds outer (viewed led found))
 grows-viewed led each None parent bounds outer earlier below = grows-none earlier
 grows-viewed led each (Some viewer) parent bounds outer earlier below =
@@ -156,5 +166,6 @@ grows-from shown (Some p) bounds outer = grows-led shown (length shown) p None b
 pub views-tree : (setup : Setup) (shown : Shown) → Distinct (sessions_of (view_nodes setup shown)) → is_tree (view_nodes setup shown) ≡ true
 views-tree setup shown differ =
     let views : List ViewNode = view_nodes setup shown in
-    let grown : is_tree_in (onto views []) ≡ true = grows-from shown (display_pair setup) (display_rect setup) (display_space setup) differ (λ t on. refl) refl in
+    let grown : is_tree_in (onto views []) ≡ true = grows-from shown (display_pair setup) (display_rect setup) (display_space setup) differ (λ t on. refl)
+    refl in
     ap is_tree_in (sym (onto-turned views [] ∙ append-nil (reverse views))) ∙ grown

@@ -18,12 +18,14 @@ pub record IsSetOf (setup : Setup) (test : ℕ → Bool) (set : SessionSet) : Ty
 
 -- the view tree of the views of shown states is theirs
 abbrev pub ViewsGiveTrees : Type 0
-ViewsGiveTrees = (setup : Setup) (shown : Shown) (has_view : ℕ → Bool) (with_view : SessionSet) → setup.sessions ≤ SESSIONS_MAX → IsSetOf setup has_view with_view
+ViewsGiveTrees = (setup : Setup) (shown : Shown) (has_view : ℕ → Bool) (with_view : SessionSet)
+    → setup.sessions ≤ SESSIONS_MAX → IsSetOf setup has_view with_view
     → tree_of (view_nodes setup shown) with_view ≡ view_tree setup shown has_view
 
 -- so is that of what was joined
 abbrev pub TreesFollow : Type 0
-TreesFollow = (setup : Setup) (shown : Shown) (has_view : ℕ → Bool) (with_view : SessionSet) → setup.sessions ≤ SESSIONS_MAX → IsSetOf setup has_view with_view
+TreesFollow = (setup : Setup) (shown : Shown) (has_view : ℕ → Bool) (with_view : SessionSet)
+    → setup.sessions ≤ SESSIONS_MAX → IsSetOf setup has_view with_view
     → tree_from (joined_lists setup shown) with_view ≡ view_tree setup shown has_view
 
 -- the views are a tree

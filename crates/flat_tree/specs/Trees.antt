@@ -25,7 +25,8 @@ if_apart true s = record { 0 = s } ∷ []
 
 -- those of so many sessions, in order
 abbrev pub apart_below : ℕ → List ViewNode → SessionSet → List SessionNo
-apart_below sessions views with_view = map (λ s. record { 0 = s }) (filter (is_apart views with_view) (range_with_len 1 sessions))
+apart_below sessions views with_view = map (λ s. record { 0 = s })
+    (filter (is_apart views with_view) (range_with_len 1 sessions))
 
 -- the view tree of the views
 abbrev pub tree_of : List ViewNode → SessionSet → ViewTree

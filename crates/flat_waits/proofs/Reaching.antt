@@ -27,12 +27,15 @@ Sees now entries owed (Waits m seen) = IsRecent now entries owed m seen
 Sees now entries owed doing = ⊤
 
 -- nothing new was counted
-sees-still : (now entries owed entries' owed' : ℕ) → entries ≤ entries' → entries' + owed ≤ entries + owed' → (d : Doing) → Sees now entries owed d → Sees now entries' owed' d
+sees-still : (now entries owed entries' owed' : ℕ) → entries ≤ entries' → entries' + owed ≤ entries + owed' → (d : Doing) → Sees now entries owed d
+    → Sees now entries' owed' d
 sees-still now n c n' c' more owed Acts h = tt
 sees-still now n c n' c' more owed Counts h = tt
 sees-still now n c n' c' more owed (Reads m) h = h
-sees-still now n c n' c' more owed (Finds m seen) h = record { old = h.old; within = λ e. let w = h.within e in omega (arith, w, more); near = λ e. let w = h.near e in omega (arith, w, owed) }
-sees-still now n c n' c' more owed (Waits m seen) h = record { old = h.old; within = λ e. let w = h.within e in omega (arith, w, more); near = λ e. let w = h.near e in omega (arith, w, owed) }
+sees-still now n c n' c' more owed (Finds m seen) h =
+    record { old = h.old; within = λ e. let w = h.within e in omega (arith, w, more); near = λ e. let w = h.near e in omega (arith, w, owed) }
+sees-still now n c n' c' more owed (Waits m seen) h =
+    record { old = h.old; within = λ e. let w = h.within e in omega (arith, w, more); near = λ e. let w = h.near e in omega (arith, w, owed) }
 sees-still now n c n' c' more owed Gone h = tt
 
 -- something new was counted
@@ -40,8 +43,10 @@ sees-next : (now entries owed entries' owed' : ℕ) (d : Doing) → Sees now ent
 sees-next now n c n' c' Acts h = tt
 sees-next now n c n' c' Counts h = tt
 sees-next now n c n' c' (Reads m) h = omega (arith, h)
-sees-next now n c n' c' (Finds m seen) h = let old = h.old in record { old = omega (arith, old); within = λ e. absurd (omega (arith, old, e)); near = λ e. absurd (omega (arith, old, e)) }
-sees-next now n c n' c' (Waits m seen) h = let old = h.old in record { old = omega (arith, old); within = λ e. absurd (omega (arith, old, e)); near = λ e. absurd (omega (arith, old, e)) }
+sees-next now n c n' c' (Finds m seen) h = let old = h.old in
+    record { old = omega (arith, old); within = λ e. absurd (omega (arith, old, e)); near = λ e. absurd (omega (arith, old, e)) }
+sees-next now n c n' c' (Waits m seen) h = let old = h.old in
+    record { old = omega (arith, old); within = λ e. absurd (omega (arith, old, e)); near = λ e. absurd (omega (arith, old, e)) }
 sees-next now n c n' c' Gone h = tt
 
 -- nobody has counted itself at news that come next
@@ -134,32 +139,38 @@ module _ (before later : List Doing) where
   -- an actor that counts itself, or no more
   noting : (m s : ℕ) (t : Tally) (n : ℕ) (b : Bool) → (m == t.news) ≡ b → Holds t n (within before later (Finds m s))
       → Holds (if b then record t { waiting = suc t.waiting } else t) n (within before later (Waits m s))
-  noting m s t n true e h = counted (Finds m s) (Waits m s) t n (suc t.waiting) refl refl (let more = one-less (waits_at t.news) (Waits m s) (Finds m s) e refl in ap (λ k. suc k) h.waiting ∙ sym more) (known m s t n) h
+  noting m s t n true e h = counted (Finds m s) (Waits m s) t n (suc t.waiting) refl refl
+      (let more = one-less (waits_at t.news) (Waits m s) (Finds m s) e refl in ap (λ k. suc k) h.waiting ∙ sym more) (known m s t n) h
   noting m s t n false e h = quiet (Finds m s) (Waits m s) t n refl (sym e) refl (known m s t n) h
 
   stopping : (m s : ℕ) (t : Tally) (n : ℕ) (b : Bool) → (m == t.news) ≡ b → Holds t n (within before later (Waits m s))
       → Holds (if b then record t { waiting = t.waiting - 1 } else t) n (within before later Acts)
-  stopping m s t n true e h = counted (Waits m s) Acts t n (t.waiting - 1) refl refl (let less = one-less (waits_at t.news) (Waits m s) Acts e refl in let was = h.waiting in omega (arith, less, was)) (λ x. tt) h
+  stopping m s t n true e h = counted (Waits m s) Acts t n (t.waiting - 1) refl refl
+      (let less = one-less (waits_at t.news) (Waits m s) Acts e refl in let was = h.waiting in omega (arith, less, was)) (λ x. tt) h
   stopping m s t n false e h = quiet (Waits m s) Acts t n refl e refl (λ x. tt) h
 
   entering : (t : Tally) (n : ℕ) → Holds t n (within before later Acts) → Holds t (suc n) (within before later Counts)
   entering t n h = record {
     acting = h.acting ∙ same-count acts Acts Counts refl;
     waiting = h.waiting ∙ same-count (waits_at t.news) Acts Counts refl;
-    seen = all-within before later _ _ Acts Counts (sees-still t.news n _ (suc n) _ (omega arith) (let more = one-less owes Counts Acts refl refl in omega (arith, more))) (λ x. tt) h.seen;
+    seen = all-within before later _ _ Acts Counts (sees-still t.news n _ (suc n) _ (omega arith)
+        (let more = one-less owes Counts Acts refl refl in omega (arith, more))) (λ x. tt) h.seen;
   }
 
   step : (d d' : Doing) (t t' : Tally) (n n' : ℕ) → Steps d t n d' t' n' → Holds t n (within before later d) → Holds t' n' (within before later d')
   step _ _ _ _ _ _ (reads t n) h = quiet Acts (Reads t.news) t n refl refl refl (λ x. omega arith) h
   step _ _ _ _ _ _ (reads_again m s t n other) h = quiet (Waits m s) (Reads t.news) t n refl other refl (λ x. omega arith) h
-  step _ _ _ _ _ _ (finds m t n) h = quiet (Reads m) (Finds m n) t n refl refl refl (λ x. record { old = x; within = λ e. omega arith; near = λ e. omega arith }) h
+  step _ _ _ _ _ _ (finds m t n) h = quiet (Reads m) (Finds m n) t n refl refl refl
+      (λ x. record { old = x; within = λ e. omega arith; near = λ e. omega arith }) h
   step _ _ _ _ _ _ (is_met m t n) h = quiet (Reads m) Acts t n refl refl refl (λ x. tt) h
   step _ _ _ _ _ _ (notes m s t n) h = noting m s t n (m == t.news) refl h
   step _ _ _ _ _ _ (stops m s t n) h = stopping m s t n (m == t.news) refl h
   step _ _ _ _ _ _ (enters t n) h = entering t n h
   step _ _ _ _ _ _ (counts t n) h = renewed Counts Acts t n t.acting (h.acting ∙ same-count acts Counts Acts refl) refl (λ x. tt) h
-  step _ _ _ _ _ _ (leaves t n) h = renewed Acts Gone t n (t.acting - 1) (let less = one-less acts Acts Gone refl refl in let was = h.acting in omega (arith, less, was)) refl (λ x. tt) h
-  step _ _ _ _ _ _ (returns t n) h = renewed Gone Acts t n (suc t.acting) (let more = one-less acts Acts Gone refl refl in ap (λ k. suc k) h.acting ∙ sym more) refl (λ x. tt) h
+  step _ _ _ _ _ _ (leaves t n) h = renewed Acts Gone t n (t.acting - 1)
+      (let less = one-less acts Acts Gone refl refl in let was = h.acting in omega (arith, less, was)) refl (λ x. tt) h
+  step _ _ _ _ _ _ (returns t n) h = renewed Gone Acts t n (suc t.acting) (let more = one-less acts Acts Gone refl refl in ap (λ k. suc k) h.acting ∙ sym more)
+      refl (λ x. tt) h
 
 -- what stands of what a race may come to
 reached-holds : (many : ℕ) (race : Race) → IsReached many race → Holds race.tally race.entries race.actors

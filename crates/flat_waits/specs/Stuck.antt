@@ -27,7 +27,8 @@ pub data Steps : Doing → Tally → ℕ → Doing → Tally → ℕ → Type 0 
       → Steps (Waits news seen) t n (Reads t.news) t n
   finds : (news : ℕ) (t : Tally) (n : ℕ) → Steps (Reads news) t n (Finds news n) t n
   is_met : (news : ℕ) (t : Tally) (n : ℕ) → Steps (Reads news) t n Acts t n
-  notes : (news seen : ℕ) (t : Tally) (n : ℕ) → Steps (Finds news seen) t n (Waits news seen) (after (change.Waits news) t) n
+  notes : (news seen : ℕ) (t : Tally) (n : ℕ)
+      → Steps (Finds news seen) t n (Waits news seen) (after (change.Waits news) t) n
   stops : (news seen : ℕ) (t : Tally) (n : ℕ) → Steps (Waits news seen) t n Acts (after (change.Stops news) t) n
   enters : (t : Tally) (n : ℕ) → Steps Acts t n Counts t (suc n)
   counts : (t : Tally) (n : ℕ) → Steps Counts t n Acts (after change.Enters t) n
@@ -42,7 +43,11 @@ pub record Race : Type 0 where
 
 -- before any entry, where all act
 abbrev pub new_race : ℕ → Race
-new_race count = record { tally = record { news = 0; waiting = 0; acting = count }; entries = 0; actors = replicate count Acts }
+new_race count = record {
+  tally = record { news = 0; waiting = 0; acting = count };
+  entries = 0;
+  actors = replicate count Acts;
+}
 
 -- One of the actors does what it may do next.
 pub record GoesOn (old new : Race) : Type 0 where

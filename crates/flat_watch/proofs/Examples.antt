@@ -32,18 +32,21 @@ first_is_news = refl
 at_once : after_get watch.Layout (Some (sized 5)) new_cell ≡ record { last = Some (sized 5); waits = None }
 at_once = refl
 
-held_until_it_changes : answers_from watch.Layout (Some (sized 5)) (Some (sized 5) ∷ Some (sized 6) ∷ Some (sized 7) ∷ []) (record { last = Some (sized 5); waits = None }) ≡ None ∷ None ∷ Some (sized 6) ∷ None ∷ []
+held_until_it_changes : answers_from watch.Layout (Some (sized 5)) (Some (sized 5) ∷ Some (sized 6) ∷ Some (sized 7) ∷ [])
+    (record { last = Some (sized 5); waits = None }) ≡ None ∷ None ∷ Some (sized 6) ∷ None ∷ []
 held_until_it_changes = refl
 
 -- what changes and changes back is not told
-changes_back : after_get watch.Status (Some Connected) (after_all (record { last = Some Connected; waits = None }) (Some Disconnected ∷ Some Connected ∷ [])) ≡ record { last = Some Connected; waits = Some watch.Status }
+changes_back : after_get watch.Status (Some Connected) (after_all (record { last = Some Connected; waits = None }) (Some Disconnected ∷ Some Connected ∷ []))
+    ≡ record { last = Some Connected; waits = Some watch.Status }
 changes_back = refl
 
 -- a second get while one is held
 second_get : got true (Some Gone) ≡ BadHangingGet
 second_get = refl
 
-second_changes_nothing : after_get watch.Status (Some Gone) (record { last = None; waits = Some watch.Layout }) ≡ record { last = None; waits = Some watch.Layout }
+second_changes_nothing : after_get watch.Status (Some Gone) (record { last = None; waits = Some watch.Layout })
+    ≡ record { last = None; waits = Some watch.Layout }
 second_changes_nothing = refl
 
 first_get : got false (news None None) ≡ Held

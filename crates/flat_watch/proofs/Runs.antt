@@ -20,7 +20,8 @@ record SaysFirst (n : ℕ) (get : Watch) (last : Option Told) (told said : List 
   held : list_any is_some said ≡ false → waits ≡ Some get
 
 -- a moment without news
-silent : (n : ℕ) (get : Watch) (last now : Option Told) (told said : List (Option Told)) (waits : Option Watch) → news now last ≡ None → SaysFirst (n + 1) get last told said waits → SaysFirst n get last (now ∷ told) (None ∷ said) waits
+silent : (n : ℕ) (get : Watch) (last now : Option Told) (told said : List (Option Told)) (waits : Option Watch) → news now last ≡ None
+    → SaysFirst (n + 1) get last told said waits → SaysFirst n get last (now ∷ told) (None ∷ said) waits
 silent n get last now told said waits none later = record {
   value = rw none later.value;
   moment = rw none later.moment;
@@ -28,32 +29,39 @@ silent n get last now told said waits none later = record {
 }
 
 -- a moment with news
-spoken : (n : ℕ) (get : Watch) (last now : Option Told) (v : Told) (told said : List (Option Told)) (waits : Option Watch) → news now last ≡ Some v → SaysFirst n get last (now ∷ told) (Some v ∷ said) waits
+spoken : (n : ℕ) (get : Watch) (last now : Option Told) (v : Told) (told said : List (Option Told)) (waits : Option Watch) → news now last ≡ Some v
+    → SaysFirst n get last (now ∷ told) (Some v ∷ said) waits
 spoken n get last now v told said waits some = record {
   value = rw some (ap (λ x. Some x) (sym (news-value now last v some)));
   moment = rw some refl;
   held = λ e. absurd (cc);
 }
 
-while_waiting : (told : List (Option Told)) (n : ℕ) (get : Watch) (last : Option Told) → SaysFirst n get last told (answers (waiting get last) told) (after_all (waiting get last) told).waits
+while_waiting : (told : List (Option Told)) (n : ℕ) (get : Watch) (last : Option Told)
+    → SaysFirst n get last told (answers (waiting get last) told) (after_all (waiting get last) told).waits
 while_waiting [] n get last = record { value = refl; moment = refl; held = λ _. refl }
 while_waiting (now ∷ told) n get last = by_news (news now last) refl (while_waiting told (n + 1) get last)
   where
-    by_news : (m : Option Told) → news now last ≡ m → SaysFirst (n + 1) get last told (answers (waiting get last) told) (after_all (waiting get last) told).waits
+    by_news : (m : Option Told) → news now last ≡ m → SaysFirst (n + 1) get last told (answers (waiting get last) told)
+        (after_all (waiting get last) told).waits
         → SaysFirst n get last (now ∷ told) (m ∷ answers (answered_by m (waiting get last)) told) (after_all (answered_by m (waiting get last)) told).waits
     by_news None e later = silent n get last now told (answers (waiting get last) told) (after_all (waiting get last) told).waits e later
-    by_news (Some v) e later = spoken n get last now v told (answers (answered_by (Some v) (waiting get last)) told) (after_all (answered_by (Some v) (waiting get last)) told).waits e
+    by_news (Some v) e later = spoken n get last now v told (answers (answered_by (Some v) (waiting get last)) told)
+        (after_all (answered_by (Some v) (waiting get last)) told).waits e
 
 from_rest : (get : Watch) (last now : Option Told) (told : List (Option Told)) (m : Option Told) → news now last ≡ m
     → SaysFirst 0 get last (now ∷ told) (m ∷ answers (answered_by m (waiting get last)) told) (after_all (answered_by m (waiting get last)) told).waits
-from_rest get last now told None e = silent 0 get last now told (answers (waiting get last) told) (after_all (waiting get last) told).waits e (while_waiting told (0 + 1) get last)
-from_rest get last now told (Some v) e = spoken 0 get last now v told (answers (answered_by (Some v) (waiting get last)) told) (after_all (answered_by (Some v) (waiting get last)) told).waits e
+from_rest get last now told None e = silent 0 get last now told (answers (waiting get last) told) (after_all (waiting get last) told).waits e
+    (while_waiting told (0 + 1) get last)
+from_rest get last now told (Some v) e = spoken 0 get last now v told (answers (answered_by (Some v) (waiting get last)) told)
+    (after_all (answered_by (Some v) (waiting get last)) told).waits e
 
 at_rest : (get : Watch) (last now : Option Told) (later : List (Option Told)) → AnswersFirstNews (record { last = last; waits = None }) get now later
 at_rest get last now later = let m = from_rest get last now later (news now last) refl in record { value = m.value; moment = m.moment; waits = m.held }
 
 pub first-news-is-answered : FirstNewsIsAnswered
-first-news-is-answered w free get now later = subst (λ (o : Option Watch). AnswersFirstNews (record { last = w.last; waits = o }) get now later) (sym free) (at_rest get w.last now later)
+first-news-is-answered w free get now later = subst (λ (o : Option Watch). AnswersFirstNews (record { last = w.last; waits = o }) get now later) (sym free)
+    (at_rest get w.last now later)
 
 pub silent-unasked : SilentUnasked
 silent-unasked w free now = rw free refl

@@ -23,14 +23,17 @@ answers_from get now later w = news now w.last ∷ answers (after_get get now w)
 pub record AnswersFirstNews (w : Watching) (get : Watch) (now : Option Told) (later : List (Option Told)) : Type 0 where
   pub value : find is_some (answers_from get now later w) ≡ find (is_news w.last) (now ∷ later)
   pub moment : position_from is_some 0 (answers_from get now later w) ≡ position_from (is_news w.last) 0 (now ∷ later)
-  pub waits : list_any is_some (answers_from get now later w) ≡ false → (after_all (after_get get now w) later).waits ≡ Some get
+  pub waits : list_any is_some (answers_from get now later w) ≡ false
+      → (after_all (after_get get now w) later).waits ≡ Some get
 
 abbrev pub FirstNewsIsAnswered : Type 0
-FirstNewsIsAnswered = (w : Watching) → w.waits ≡ None → (get : Watch) (now : Option Told) (later : List (Option Told)) → AnswersFirstNews w get now later
+FirstNewsIsAnswered = (w : Watching) → w.waits ≡ None → (get : Watch) (now : Option Told) (later : List (Option Told))
+    → AnswersFirstNews w get now later
 
 -- a value that answers leaves no get held, and is the one answered last
 abbrev pub AnswersOnce : Type 0
-AnswersOnce = (w : Watching) (now : Option Told) (value : Told) → answer now w ≡ Some value → settled true now w ≡ record { last = Some value; waits = None }
+AnswersOnce = (w : Watching) (now : Option Told) (value : Told) → answer now w ≡ Some value
+    → settled true now w ≡ record { last = Some value; waits = None }
 
 -- a value that answers nothing changes nothing
 abbrev pub SilenceChangesNothing : Type 0

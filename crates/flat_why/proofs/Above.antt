@@ -9,7 +9,8 @@ use Rattle.flat_why.specs.declared.causes.Standing.{Standing}
 use Rattle.flat_why.specs.declared.causes.Standing.TheVariants.{OnDisplay, Below, Nowhere}
 use Rattle.flat_why.specs.Hidden.{ancestors, hidden_by, hidden_in, is_cyclic, node_of}
 
-module _ (n : ℕ) (f g : SessionNo → Standing) (same : (s : SessionNo) → 0 < s.0 → s.0 ≤ n → f s ≡ g s) (there : (s q : SessionNo) → g s ≡ Below q → (0 < q.0) × (q.0 ≤ n)) where
+module _ (n : ℕ) (f g : SessionNo → Standing) (same : (s : SessionNo) → 0 < s.0 → s.0 ≤ n → f s ≡ g s)
+    (there : (s q : SessionNo) → g s ≡ Below q → (0 < q.0) × (q.0 ≤ n)) where
   ancestors-alike : (steps : ℕ) (standing : Standing) (s : SessionNo) → g s ≡ standing → ancestors f steps standing ≡ ancestors g steps standing
   ancestors-alike zero standing s is = refl
   ancestors-alike (suc steps) OnDisplay s is = refl
@@ -19,7 +20,8 @@ module _ (n : ℕ) (f g : SessionNo → Standing) (same : (s : SessionNo) → 0 
       ap (λ (above : List SessionNo). q ∷ above) (ap (ancestors f steps) (same q declared.0 declared.1) ∙ ancestors-alike steps (g q) q refl)
 
   cyclic-alike : (s : SessionNo) → 0 < s.0 → s.0 ≤ n → is_cyclic n f s ≡ is_cyclic n g s
-  cyclic-alike s some few = ap (λ (above : List SessionNo). list_any (λ (one : SessionNo). one.0 == s.0) above) (ap (ancestors f n) (same s some few) ∙ ancestors-alike n (g s) s refl)
+  cyclic-alike s some few = ap (λ (above : List SessionNo). list_any (λ (one : SessionNo). one.0 == s.0) above)
+      (ap (ancestors f n) (same s some few) ∙ ancestors-alike n (g s) s refl)
 
   pub hidden-alike : (nodes : List ViewNode) (s : SessionNo) → 0 < s.0 → s.0 ≤ n → hidden_in n f nodes s ≡ hidden_in n g nodes s
   hidden-alike nodes s some few = ap (λ (standing : Standing). hidden_by n f nodes s standing) (same s some few) ∙ by (g s)

@@ -18,7 +18,8 @@ module _ (stands : SessionNo → Standing) (s : SessionNo) where
   pub come : (n i : ℕ) (standing : Standing) (q : SessionNo) → i < n → standing ≡ Below q → (q.0 == s.0) ≡ true → comes (n - i) standing ≡ true
   come n i standing q low is here = ap (comes (n - i)) is ∙ one-step n i q low ∙ ap (λ (b : Bool). b || comes (n - (i + 1)) (stands q)) here
 
-  pub go-on : (n i : ℕ) (standing : Standing) (q : SessionNo) → i < n → standing ≡ Below q → (q.0 == s.0) ≡ false → comes (n - i) standing ≡ comes (n - (i + 1)) (stands q)
+  pub go-on : (n i : ℕ) (standing : Standing) (q : SessionNo) → i < n → standing ≡ Below q → (q.0 == s.0) ≡ false
+      → comes (n - i) standing ≡ comes (n - (i + 1)) (stands q)
   go-on n i standing q low is apart = ap (comes (n - i)) is ∙ one-step n i q low ∙ ap (λ (b : Bool). b || comes (n - (i + 1)) (stands q)) apart
 
   pub at-end : (n i : ℕ) (standing : Standing) → n ≤ i → comes (n - i) standing ≡ false

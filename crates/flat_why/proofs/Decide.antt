@@ -1,5 +1,6 @@
 -- A session is in the view tree exactly where it hangs on the display, or below one that is in it.
-use Rattle.std.proofs.Common.{ℕ, zero, suc, ◌+◌, ◌<◌, ◌≡◌, refl, sym, ap, ◌∙◌, subst, Bool, true, false, cond, List, [], ◌∷◌, length, filter, Option, Some, None, slice_get, arith}
+use Rattle.std.proofs.Common.{ℕ, zero, suc, ◌+◌, ◌<◌, ◌≡◌, refl, sym, ap, ◌∙◌, subst, Bool, true, false, cond, List, [], ◌∷◌, length, filter, Option, Some}
+use Rattle.std.proofs.Common.{None, slice_get, arith}
 use Rattle.std.specs.Prelude.{◌↔◌, IsTrue, option_map}
 use Rattle.std.specs.List.{Contains, position_from}
 use Rattle.std.proofs.lemmas.Bool.{eqb-true}
@@ -62,7 +63,8 @@ some-left test (y ∷ ys) (suc i) x at passes = by (test y) (some-left test ys i
     by false some = some
 
 -- the one that passes is found where it is
-one-found : {A : Type 0} (test : A → Bool) (xs : List A) (from i : ℕ) (x : A) → length (filter test xs) ≡ 1 → slice_get xs i ≡ Some x → test x ≡ true → position_from test from xs ≡ Some (from + i)
+one-found : {A : Type 0} (test : A → Bool) (xs : List A) (from i : ℕ) (x : A) → length (filter test xs) ≡ 1 → slice_get xs i ≡ Some x → test x ≡ true
+    → position_from test from xs ≡ Some (from + i)
 one-found test [] from i x one at passes = absurd (cc)
 one-found test (y ∷ ys) from zero x one at passes = let same : y ≡ x = cc in let here : from + 0 ≡ from = omega arith in rw (same, passes, here) refl
 one-found test (y ∷ ys) from (suc i) x one at passes = by (test y) one (some-left test ys i x at passes) (one-found test ys (from + 1) i x)
@@ -81,7 +83,8 @@ shown-contains shown p s e = contains-in p (pairs_shown shown s) (found-in p (pa
 contains-shown : (shown : Shown) (p s : ℕ) → Contains (pairs_shown shown s) p → is_shown_by shown p s ≡ true
 contains-shown shown p s has = in-found p (pairs_shown shown s) (in-contains p (pairs_shown shown s) has)
 
-module _ (setup : Setup) (shown : Shown) (fit : FitsSetup setup shown) (single : has_one_display_pair setup ≡ true) (joins : JoinsTheConnected) (taken : SessionNo → ℕ) (last_use : PairNo → Option ℕ) (s : SessionNo) where
+module _ (setup : Setup) (shown : Shown) (fit : FitsSetup setup shown) (single : has_one_display_pair setup ≡ true) (joins : JoinsTheConnected)
+    (taken : SessionNo → ℕ) (last_use : PairNo → Option ℕ) (s : SessionNo) where
   abbrev Joined : ℕ → Type 0
   Joined t = IsTrue (is_joined setup shown t)
 
@@ -92,9 +95,11 @@ module _ (setup : Setup) (shown : Shown) (fit : FitsSetup setup shown) (single :
   joined t on = (joins setup shown fit t).1 on
 
   -- the session whose view's pair is the display's
-  on-top : (p : PairNo) (pair : PairDecl) → view_of (state_of shown s.0) ≡ Some p.0 → slice_get setup.pairs p.0 ≡ Some pair → pair.viewport ≡ Display → Joined s.0
+  on-top : (p : PairNo) (pair : PairDecl) → view_of (state_of shown s.0) ≡ Some p.0 → slice_get setup.pairs p.0 ≡ Some pair → pair.viewport ≡ Display
+      → Joined s.0
   on-top p pair view at display =
-      let found : display_pair setup ≡ Some p.0 = one-found displays setup.pairs 0 p.0 pair (eqb-true (length (filter displays setup.pairs)) 1 single) at (ap is_display display) ∙ ap Some (let same : 0 + p.0 ≡ p.0 = omega arith in same) in
+      let found : display_pair setup ≡ Some p.0 = one-found displays setup.pairs 0 p.0 pair (eqb-true (length (filter displays setup.pairs)) 1 single) at
+      (ap is_display display) ∙ ap Some (let same : 0 + p.0 ≡ p.0 = omega arith in same) in
       joined s.0 (0, record { pair = p.0; viewport = found; view = view })
 
   -- a session below another one
@@ -137,8 +142,11 @@ module _ (setup : Setup) (shown : Shown) (fit : FitsSetup setup shown) (single :
             let one : own.0 ≡ pair = cc in
             let actors : Session (record { 0 = t }) ≡ Session q = sym own.2 ∙ ap (λ (d : PairDecl). d.viewport) one ∙ owner in
             let who : ◌≡◌ {A = SessionNo} (record { 0 = t }) q = cc in
-            let number : t ≡ q.0 = ap (λ (n : SessionNo). n.0) who in
-            (ap (is_shown_by shown p.0) (sym number) ∙ ap (λ (n : ℕ). is_shown_by shown n t) (sym same) ∙ contains-shown shown below.pair t below.viewport, subst Joined number (joined t (between, rest)))
+            let number : t ≡ q.0 = ap (λ (n : SessionNo). n.0) who in (
+              ap (is_shown_by shown p.0) (sym number) ∙ ap (λ (n : ℕ). is_shown_by shown n t) (sym same)
+                  ∙ contains-shown shown below.pair t below.viewport,
+              subst Joined number (joined t (between, rest)),
+            )
 
     -- by the owner of the viewport end
     by-owner : (owner : Actor) → pair.viewport ≡ owner → Joined s.0 ↔ IsOn setup shown (hanging_by setup shown taken last_use p (Some owner))
@@ -175,7 +183,8 @@ module _ (setup : Setup) (shown : Shown) (fit : FitsSetup setup shown) (single :
             absurd (cc)
 
   -- by what it shows
-  by-view : (view : Option PairNo) → view_of (state_of shown s.0) ≡ option_map (λ (p : PairNo). p.0) view → Joined s.0 ↔ IsOn setup shown (viewed_by setup shown taken last_use view)
+  by-view : (view : Option PairNo) → view_of (state_of shown s.0) ≡ option_map (λ (p : PairNo). p.0) view
+      → Joined s.0 ↔ IsOn setup shown (viewed_by setup shown taken last_use view)
   by-view None none = (λ on. (let some = viewed on in let wrong : None ≡ Some some.0 = sym none ∙ some.1 in absurd (cc)), λ on. absurd on)
   by-view (Some p) some =
       let own : OwnsView setup s.0 p.0 = fit.views s.0 p.0 some in
@@ -183,9 +192,11 @@ module _ (setup : Setup) (shown : Shown) (fit : FitsSetup setup shown) (single :
       let P : Option Actor → Type 0 = λ o. Joined s.0 ↔ IsOn setup shown (hanging_by setup shown taken last_use p o) in
       subst P (sym owner) (by-owner p own.0 some own.1 own.0.viewport refl)
 
-  by-state : (nothing : Cause) (state : Option Tree) → state_of shown s.0 ≡ state → Joined s.0 ↔ IsOn setup shown (standing_by setup shown taken last_use nothing state)
+  by-state : (nothing : Cause) (state : Option Tree) → state_of shown s.0 ≡ state
+      → Joined s.0 ↔ IsOn setup shown (standing_by setup shown taken last_use nothing state)
   by-state nothing None is = (λ on. (let some = viewed on in let wrong : None ≡ Some some.0 = sym (ap view_of is) ∙ some.1 in absurd (cc)), λ on. absurd on)
   by-state nothing (Some tree) is = by-view tree.view (ap view_of is)
 
 pub standings-decide : JoinsTheConnected → StandingsDecide
-standings-decide joins setup shown taken last_use nothing fit single s = by-state setup shown fit single joins taken last_use s nothing (state_of shown s.0) refl
+standings-decide joins setup shown taken last_use nothing fit single s =
+    by-state setup shown fit single joins taken last_use s nothing (state_of shown s.0) refl

@@ -87,7 +87,9 @@ script = record {
 abbrev begun : List Entry
 begun = []
     ▹ by (Session (s 1)) 10 ((call.CreateView (p 0)) ∷ []) (kind.View (p 0)) reply.Done
-    ▹ by (Session (s 1)) 13 ((call.CreateTransform (t 1)) ∷ (call.SetRootTransform (t 1)) ∷ (call.CreateViewport (c 1) (p 1) 50 50 (record { top = 0; right = 0; bottom = 0; left = 0 })) ∷ []) (kind.Viewport (p 1) (record { w = 50; h = 50; inset = record { top = 0; right = 0; bottom = 0; left = 0 } })) reply.Done
+    ▹ by (Session (s 1)) 13 ((call.CreateTransform (t 1)) ∷ (call.SetRootTransform (t 1))
+    ∷ (call.CreateViewport (c 1) (p 1) 50 50 (record { top = 0; right = 0; bottom = 0; left = 0 })) ∷ [])
+    (kind.Viewport (p 1) (record { w = 50; h = 50; inset = record { top = 0; right = 0; bottom = 0; left = 0 } })) reply.Done
     ▹ by (Session (s 1)) 15 ((call.SetContent (t 1) (c 1)) ∷ []) (kind.Present (present 0 [] [])) (reply.Presented 1 0)
     ▹ by (Session (s 2)) 16 ((call.CreateView (p 1)) ∷ []) (kind.View (p 1)) reply.Done
     ▹ by (Session (s 2)) 17 [] (kind.Present (present 0 (f 0 ∷ []) [])) (reply.Presented 1 0)

@@ -1,5 +1,6 @@
 -- The begin and the end of a frame, in what is kept.
-use Rattle.std.proofs.Common.{ℕ, zero, suc, ◌+◌, ◌-◌, ◌<◌, ◌≤◌, ◌≡◌, refl, sym, ap, ◌∙◌, subst, true, false, not, ◌&&◌, ◌||◌, cond, nat_le, nat_lt, List, [], ◌∷◌, ◌++◌, length, filter, map, Option, Some, None, slice_get, arith, append-nil}
+use Rattle.std.proofs.Common.{ℕ, zero, suc, ◌+◌, ◌-◌, ◌<◌, ◌≤◌, ◌≡◌, refl, sym, ap, ◌∙◌, subst, true, false, not, ◌&&◌, ◌||◌, cond, nat_le, nat_lt, List, []}
+use Rattle.std.proofs.Common.{◌∷◌, ◌++◌, length, filter, map, Option, Some, None, slice_get, arith, append-nil}
 use Rattle.std.specs.Prelude.{option_map}
 use Rattle.std.specs.List.{All}
 use Rattle.std.proofs.lemmas.List.{map-append}
@@ -41,7 +42,8 @@ use Rattle.flat_why.specs.declared.causes.Hidden.{Hidden}
 use Rattle.flat_why.specs.declared.causes.Standing.TheVariants.{OnDisplay, Below, Nowhere}
 use Rattle.flat_why.specs.declared.whys.Whys.{Whys}
 use Rattle.flat_why.specs.Blanks.{blank_of}
-use Rattle.flat_why.specs.Causes.{closing_of, dues, dues_by, first_of, hanging_by, is_waiting, last_use, made_by, nothing_by, parting_of, standing_by, standing_in, standing_of, used_by, viewed_by, waiting_of, waits_at}
+use Rattle.flat_why.specs.Causes.{closing_of, dues, dues_by, first_of, hanging_by, is_waiting, last_use, made_by, nothing_by, parting_of, standing_by}
+use Rattle.flat_why.specs.Causes.{standing_in, standing_of, used_by, viewed_by, waiting_of, waits_at}
 use Rattle.flat_why.specs.Noted.{closings_in, session_line, stands_in, uses_in, IsKnown, WhysStand}
 use Rattle.flat_why.specs.Hidden.{hidden_in, hidden_of, node_of}
 use Rattle.flat_why.specs.Text.{blank_at, line_by, wait_line, why_lines, whys_at}
@@ -63,13 +65,15 @@ sessions-alike f g (suc n) same =
 
 module _ (setup : Setup) (shown : Shown) (taken : SessionNo → ℕ) (u v : PairNo → Option ℕ) (alike : (p : PairNo) → p.0 < length setup.pairs → u p ≡ v p) where
   hanging-alike : (p : PairNo) (declared : Option PairDecl) → slice_get setup.pairs p.0 ≡ declared
-      → hanging_by setup shown taken u p (option_map (λ (pair : PairDecl). pair.viewport) declared) ≡ hanging_by setup shown taken v p (option_map (λ (pair : PairDecl). pair.viewport) declared)
+      → hanging_by setup shown taken u p (option_map (λ (pair : PairDecl). pair.viewport) declared)
+      ≡ hanging_by setup shown taken v p (option_map (λ (pair : PairDecl). pair.viewport) declared)
   hanging-alike p None at = refl
   hanging-alike p (Some pair) at = by pair.viewport
     where
       by : (owner : Actor) → hanging_by setup shown taken u p (Some owner) ≡ hanging_by setup shown taken v p (Some owner)
       by Display = refl
-      by (Session q) = ap (λ o. cond (is_shown_by shown p.0 q.0) (Below q) (Nowhere (Parted q p (parting_of p (state_of shown q.0) (taken q) o)))) (alike p (slice_get_within setup.pairs p.0 pair at))
+      by (Session q) = ap (λ o. cond (is_shown_by shown p.0 q.0) (Below q) (Nowhere (Parted q p (parting_of p (state_of shown q.0) (taken q) o))))
+          (alike p (slice_get_within setup.pairs p.0 pair at))
       by (Probe n) = refl
 
   viewed-alike : (view : Option PairNo) → viewed_by setup shown taken u view ≡ viewed_by setup shown taken v view
@@ -102,28 +106,32 @@ no-due time Display r = refl
 no-due time (Session s) r = refl
 no-due time (Probe p) r = refl
 
-pub begin-noted : (script : Script) (old history : List Entry) (entry : Entry) (time : ℕ) (shown : Shown) (was now : Whys) → history ≡ (old ▹ entry) → entry.kind ≡ Begin time → LegalEntry script.setup old entry
+pub begin-noted : (script : Script) (old history : List Entry) (entry : Entry) (time : ℕ) (shown : Shown) (was now : Whys) → history ≡ (old ▹ entry)
+    → entry.kind ≡ Begin time → LegalEntry script.setup old entry
     → shown ≡ shown_states script.setup history → WhysStand script old was
     → now.dues.items ≡ filter (is_waiting script.setup history) was.dues.items
     → now.waits.items ≡ map (waiting_of script.setup history) (filter (is_waiting script.setup history) was.dues.items)
-    → now.standings.items ≡ map (λ s. standing_in script.setup shown (taken script.setup history) (uses_in was.last_uses.items) (nothing_by (closings_in was.closings.items s) (first_of s now.waits.items)) s) (sessions_to script.setup.sessions)
-    → now.closings ≡ was.closings → now.last_uses ≡ was.last_uses → now.frames ≡ was.frames → now.page ≡ was.page → length now.standings.items ≡ length was.standings.items → All (IsKnown script.setup) now.dues.items
+    → now.standings.items ≡ map (λ s. standing_in script.setup shown (taken script.setup history) (uses_in was.last_uses.items)
+    (nothing_by (closings_in was.closings.items s) (first_of s now.waits.items)) s) (sessions_to script.setup.sessions)
+    → now.closings ≡ was.closings → now.last_uses ≡ was.last_uses → now.frames ≡ was.frames → now.page ≡ was.page
+    → length now.standings.items ≡ length was.standings.items → All (IsKnown script.setup) now.dues.items
     → WhysStand script history now
-begin-noted script old history entry time shown was now is kind legal shows stands dues_are waits_are standings closings uses frames_are page count known = record {
-  sessions = ap (λ v. length v.items) closings ∙ stands.sessions;
-  pairs = ap (λ v. length v.items) uses ∙ stands.pairs;
-  count = count ∙ stands.count;
-  closed = closed;
-  used = used;
-  dues = dues_are ∙ left ∙ ap (λ h. filter (is_waiting script.setup h) (dues history)) (sym begun);
-  known = known;
-  standings = λ now-open. standings ∙ sessions-alike _ (standing_of script.setup (to_begin history)) script.setup.sessions stand;
-  waits = λ now-open. waits_are ∙ ap (map (waiting_of script.setup history)) left ∙ ap (λ h. waits_at script.setup h) (sym begun);
-  tells = record {
-    frames = frames_are ∙ stands.tells.frames ∙ sym finishes;
-    text = page ∙ stands.tells.text ∙ ap text_of (sym lines);
-  };
-}
+begin-noted script old history entry time shown was now is kind legal shows stands dues_are waits_are standings closings uses frames_are page count known =
+    record {
+      sessions = ap (λ v. length v.items) closings ∙ stands.sessions;
+      pairs = ap (λ v. length v.items) uses ∙ stands.pairs;
+      count = count ∙ stands.count;
+      closed = closed;
+      used = used;
+      dues = dues_are ∙ left ∙ ap (λ h. filter (is_waiting script.setup h) (dues history)) (sym begun);
+      known = known;
+      standings = λ now-open. standings ∙ sessions-alike _ (standing_of script.setup (to_begin history)) script.setup.sessions stand;
+      waits = λ now-open. waits_are ∙ ap (map (waiting_of script.setup history)) left ∙ ap (λ h. waits_at script.setup h) (sym begun);
+      tells = record {
+        frames = frames_are ∙ stands.tells.frames ∙ sym finishes;
+        text = page ∙ stands.tells.text ∙ ap text_of (sym lines);
+      };
+    }
   where
     begins : is_begin entry.kind ≡ true
     begins = ap is_begin kind
@@ -153,47 +161,59 @@ begin-noted script old history entry time shown was now is kind legal shows stan
     none = ap (λ k. dues_by entry.actor k entry.reply) kind ∙ no-due time entry.actor entry.reply
 
     left : filter (is_waiting script.setup history) was.dues.items ≡ filter (is_waiting script.setup history) (dues history)
-    left = ap (λ h. filter (is_waiting script.setup h) was.dues.items) is ∙ dues-begun script.setup old entry was.dues.items stands.dues none ∙ ap (λ h. filter (is_waiting script.setup h) (dues h)) (sym is)
+    left = ap (λ h. filter (is_waiting script.setup h) was.dues.items) is ∙ dues-begun script.setup old entry was.dues.items stands.dues none
+        ∙ ap (λ h. filter (is_waiting script.setup h) (dues h)) (sym is)
 
     finishes : frames history ≡ frames old
-    finishes = ap frames is ∙ ap (λ b. length (cond b (entry ∷ filter (λ (one : Entry). is_finish one.kind) old) (filter (λ (one : Entry). is_finish one.kind) old))) ends-none
+    finishes = ap frames is ∙ ap (λ b. length (cond b (entry ∷ filter (λ (one : Entry). is_finish one.kind) old)
+        (filter (λ (one : Entry). is_finish one.kind) old))) ends-none
 
     lines : why_lines script history ≡ why_lines script old
-    lines = ap (why_lines script) is ∙ ap (λ b. why_lines script old ++ cond b (whys_at script (suc (frames old)) (to_begin old)) []) ends-none ∙ append-nil (why_lines script old)
+    lines = ap (why_lines script) is ∙ ap (λ b. why_lines script old ++ cond b (whys_at script (suc (frames old)) (to_begin old)) []) ends-none
+        ∙ append-nil (why_lines script old)
 
     stand : (s : SessionNo) → 0 < s.0 → s.0 ≤ script.setup.sessions
-        → standing_in script.setup shown (taken script.setup history) (uses_in was.last_uses.items) (nothing_by (closings_in was.closings.items s) (first_of s now.waits.items)) s ≡ standing_of script.setup (to_begin history) s
+        → standing_in script.setup shown (taken script.setup history) (uses_in was.last_uses.items)
+        (nothing_by (closings_in was.closings.items s) (first_of s now.waits.items)) s ≡ standing_of script.setup (to_begin history) s
     stand s some few =
-        let there : is_declared script.setup s ≡ true = and-true (let low : nat_lt 0 s.0 ≡ true = grind (arith, nat_tests) in low) (let high : nat_le s.0 script.setup.sessions ≡ true = grind (arith, nat_tests) in high) in
-        (λ i. standing_in script.setup (shows i) (taken script.setup history) (uses_in was.last_uses.items) (nothing_by ((stands.closed s there ∙ sym (closing-same s)) i) (first_of s ((waits_are ∙ ap (map (waiting_of script.setup history)) left) i))) s)
-        ∙ standing-alike script.setup (shown_states script.setup history) (taken script.setup history) (uses_in was.last_uses.items) (λ p. last_use p history) (λ p low. stands.used p low ∙ sym (use-same p)) _ (state_of (shown_states script.setup history) s.0)
+        let there : is_declared script.setup s ≡ true = and-true (let low : nat_lt 0 s.0 ≡ true = grind (arith, nat_tests) in low)
+        (let high : nat_le s.0 script.setup.sessions ≡ true = grind (arith, nat_tests) in high) in
+        (λ i. standing_in script.setup (shows i) (taken script.setup history) (uses_in was.last_uses.items)
+        (nothing_by ((stands.closed s there ∙ sym (closing-same s)) i) (first_of s ((waits_are ∙ ap (map (waiting_of script.setup history)) left) i))) s)
+        ∙ standing-alike script.setup (shown_states script.setup history) (taken script.setup history) (uses_in was.last_uses.items) (λ p. last_use p history)
+        (λ p low. stands.used p low ∙ sym (use-same p)) _ (state_of (shown_states script.setup history) s.0)
         ∙ ap (λ h. standing_of script.setup h s) (sym begun)
 
 -- ---- the end of a frame
 
-pub finish-noted : (script : Script) (old history : List Entry) (entry : Entry) (at : ℕ) (shown : Shown) (frame : FrameOut) (was now : Whys) (mid : List ℕ) → history ≡ (old ▹ entry) → entry.kind ≡ Finish → LegalEntry script.setup old entry
-    → owners_declared script.setup ≡ true → Some frame ≡ last_item (finished script.setup history) → shown ≡ shown_states script.setup (to_begin history) → at ≡ ratio script.setup (to_begin history) → WhysStand script old was
+pub finish-noted : (script : Script) (old history : List Entry) (entry : Entry) (at : ℕ) (shown : Shown) (frame : FrameOut) (was now : Whys) (mid : List ℕ)
+    → history ≡ (old ▹ entry) → entry.kind ≡ Finish → LegalEntry script.setup old entry
+    → owners_declared script.setup ≡ true → Some frame ≡ last_item (finished script.setup history) → shown ≡ shown_states script.setup (to_begin history)
+    → at ≡ ratio script.setup (to_begin history) → WhysStand script old was
     → WritesLines (map (session_line script at shown frame was.standings.items) (sessions_to script.setup.sessions)) was.page mid
     → WritesLines (map (wait_line script frame.frame.0) was.waits.items) mid now.page
-    → now.frames ≡ frame.frame.0 → now.closings ≡ was.closings → now.last_uses ≡ was.last_uses → now.dues ≡ was.dues → now.standings ≡ was.standings → now.waits ≡ was.waits
+    → now.frames ≡ frame.frame.0 → now.closings ≡ was.closings → now.last_uses ≡ was.last_uses → now.dues ≡ was.dues → now.standings ≡ was.standings
+    → now.waits ≡ was.waits
     → WhysStand script history now
-finish-noted script old history entry at shown frame was now mid is kind legal owners last shows scales stands sessions waits number closings uses dues_are standings waits_same = record {
-  sessions = ap (λ v. length v.items) closings ∙ stands.sessions;
-  pairs = ap (λ v. length v.items) uses ∙ stands.pairs;
-  count = ap (λ v. length v.items) standings ∙ stands.count;
-  closed = λ s there. ap (λ v. closings_in v.items s) closings ∙ stands.closed s there ∙ sym (closing-same s);
-  used = λ p low. ap (λ v. uses_in v.items p) uses ∙ stands.used p low ∙ sym (use-same p);
-  dues = ap (λ d. d.items) dues_are ∙ stands.dues ∙ (λ i. filter (is_waiting script.setup (sym begun i)) (sym due-same i));
-  known = subst (λ d. All (IsKnown script.setup) d.items) (sym dues_are) stands.known;
-  standings = λ now-open. absurd (let wrong : true ≡ false = sym now-open ∙ shut in cc);
-  waits = λ now-open. absurd (let wrong : true ≡ false = sym now-open ∙ shut in cc);
-  tells = record {
-    frames = number ∙ ap (λ (f : FrameOut). f.frame.0) frame-is ∙ sym counted;
-    text =
-        second.text ∙ ap (λ t. t ++ text_of (whys_at script (suc (frames old)) (to_begin old))) stands.tells.text
-        ∙ sym (flat_map-append (λ words. line_of words ++ 10 ∷ []) (why_lines script old) (whys_at script (suc (frames old)) (to_begin old))) ∙ ap text_of (sym lines);
-  };
-}
+finish-noted script old history entry at shown frame was now mid is kind legal owners last shows scales stands sessions waits number closings uses dues_are
+    standings waits_same = record {
+      sessions = ap (λ v. length v.items) closings ∙ stands.sessions;
+      pairs = ap (λ v. length v.items) uses ∙ stands.pairs;
+      count = ap (λ v. length v.items) standings ∙ stands.count;
+      closed = λ s there. ap (λ v. closings_in v.items s) closings ∙ stands.closed s there ∙ sym (closing-same s);
+      used = λ p low. ap (λ v. uses_in v.items p) uses ∙ stands.used p low ∙ sym (use-same p);
+      dues = ap (λ d. d.items) dues_are ∙ stands.dues ∙ (λ i. filter (is_waiting script.setup (sym begun i)) (sym due-same i));
+      known = subst (λ d. All (IsKnown script.setup) d.items) (sym dues_are) stands.known;
+      standings = λ now-open. absurd (let wrong : true ≡ false = sym now-open ∙ shut in cc);
+      waits = λ now-open. absurd (let wrong : true ≡ false = sym now-open ∙ shut in cc);
+      tells = record {
+        frames = number ∙ ap (λ (f : FrameOut). f.frame.0) frame-is ∙ sym counted;
+        text =
+            second.text ∙ ap (λ t. t ++ text_of (whys_at script (suc (frames old)) (to_begin old))) stands.tells.text
+            ∙ sym (flat_map-append (λ words. line_of words ++ 10 ∷ []) (why_lines script old) (whys_at script (suc (frames old)) (to_begin old)))
+            ∙ ap text_of (sym lines);
+      };
+    }
   where
     setup : Setup
     setup = script.setup
@@ -223,10 +243,12 @@ finish-noted script old history entry at shown frame was now mid is kind legal o
     use-same p = ap (last_use p) is ∙ ap (λ k. cond (is_pair (used_by k entry.reply) p) (Some (made_by entry.actor (old ▹ entry))) (last_use p old)) kind
 
     due-same : dues history ≡ dues old
-    due-same = ap dues is ∙ ap (λ ds. dues old ++ ds) (ap (λ k. dues_by entry.actor k entry.reply) kind ∙ no-due-end entry.actor entry.reply) ∙ append-nil (dues old)
+    due-same = ap dues is ∙ ap (λ ds. dues old ++ ds) (ap (λ k. dues_by entry.actor k entry.reply) kind ∙ no-due-end entry.actor entry.reply)
+        ∙ append-nil (dues old)
 
     counted : frames history ≡ suc (frames old)
-    counted = ap frames is ∙ ap (λ b. length (cond b (entry ∷ filter (λ (one : Entry). is_finish one.kind) old) (filter (λ (one : Entry). is_finish one.kind) old))) ends
+    counted = ap frames is ∙ ap (λ b. length (cond b (entry ∷ filter (λ (one : Entry). is_finish one.kind) old)
+        (filter (λ (one : Entry). is_finish one.kind) old))) ends
 
     whole : FrameOut
     whole = frame_at setup (suc (frames old)) (to_begin old)
@@ -256,16 +278,21 @@ finish-noted script old history entry at shown frame was now mid is kind legal o
     there : (s q : SessionNo) → standing_of setup (to_begin old) s ≡ Below q → (0 < q.0) × (q.0 ≤ setup.sessions)
     there s q is =
         let begun-last : PairNo → Option ℕ = λ p. last_use p (to_begin old) in
-        declared-number setup q (parent-declared setup (shown_states setup (to_begin old)) (taken setup (to_begin old)) begun-last owners _ (state_of (shown_states setup (to_begin old)) s.0) q is)
+        declared-number setup q (parent-declared setup (shown_states setup (to_begin old)) (taken setup (to_begin old)) begun-last owners _
+        (state_of (shown_states setup (to_begin old)) s.0) q is)
 
-    hides : (s : SessionNo) → 0 < s.0 → s.0 ≤ setup.sessions → hidden_in (length was.standings.items) (stands_in was.standings.items) whole.tree.nodes s ≡ hidden_of setup (to_begin old) whole.tree.nodes s
-    hides s some few = ap (λ (n : ℕ). hidden_in n (stands_in was.standings.items) whole.tree.nodes s) stands.count ∙ hidden-alike setup.sessions (stands_in was.standings.items) (standing_of setup (to_begin old)) stand there whole.tree.nodes s some few
+    hides : (s : SessionNo) → 0 < s.0 → s.0 ≤ setup.sessions
+        → hidden_in (length was.standings.items) (stands_in was.standings.items) whole.tree.nodes s ≡ hidden_of setup (to_begin old) whole.tree.nodes s
+    hides s some few = ap (λ (n : ℕ). hidden_in n (stands_in was.standings.items) whole.tree.nodes s) stands.count
+        ∙ hidden-alike setup.sessions (stands_in was.standings.items) (standing_of setup (to_begin old)) stand there whole.tree.nodes s some few
 
     first : map (session_line script at shown frame was.standings.items) (sessions_to setup.sessions)
-        ≡ map (λ s. line_by script whole s (hidden_of setup (to_begin old) whole.tree.nodes s) (blank_at script (to_begin old) s) (node_of s whole.tree.nodes)) (sessions_to setup.sessions)
+        ≡ map (λ s. line_by script whole s (hidden_of setup (to_begin old) whole.tree.nodes s) (blank_at script (to_begin old) s) (node_of s whole.tree.nodes))
+        (sessions_to setup.sessions)
     first =
         sessions-alike _ _ setup.sessions (λ s some few.
-        (λ i. line_by script (frame-is i) s (hidden_in (length was.standings.items) (stands_in was.standings.items) (frame-is i).tree.nodes s) (blank_of (state_of (shown-is i) s.0) s (placed_nodes (scaled i) (shown-is i))) (node_of s (frame-is i).tree.nodes))
+        (λ i. line_by script (frame-is i) s (hidden_in (length was.standings.items) (stands_in was.standings.items) (frame-is i).tree.nodes s)
+        (blank_of (state_of (shown-is i) s.0) s (placed_nodes (scaled i) (shown-is i))) (node_of s (frame-is i).tree.nodes))
         ∙ ap (λ (h : Option Hidden). line_by script whole s h (blank_at script (to_begin old) s) (node_of s whole.tree.nodes)) (hides s some few))
 
     then-waits : map (wait_line script frame.frame.0) was.waits.items ≡ map (wait_line script whole.frame.0) (waits_at setup (to_begin old))

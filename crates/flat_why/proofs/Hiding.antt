@@ -22,7 +22,8 @@ use Rattle.flat_why.specs.Causes.{last_use, nothing_of, standing_of}
 use Rattle.flat_why.specs.Hidden.{hidden_by, is_cyclic, node_of}
 use Rattle.flat_why.specs.Laws.{HiddenHaveCauses, IsOn, StandingsDecide}
 
-node-listed : (s : SessionNo) (nodes : List ViewNode) → is_some (node_of s nodes) ≡ list_any (λ (other : ℕ). other == s.0) (map (λ (v : ViewNode). v.session.0) nodes)
+node-listed : (s : SessionNo) (nodes : List ViewNode)
+    → is_some (node_of s nodes) ≡ list_any (λ (other : ℕ). other == s.0) (map (λ (v : ViewNode). v.session.0) nodes)
 node-listed s [] = refl
 node-listed s (node ∷ nodes) = by (node.session.0 == s.0) (node-listed s nodes)
   where
@@ -46,17 +47,21 @@ some-unless : {A : Type 0} (b : Bool) (x : A) → is_some (cond b None (Some x))
 some-unless true x = refl
 some-unless false x = refl
 
-module _ (setup : Setup) (shown : Shown) (nodes : List ViewNode) (node : (s : SessionNo) → is_some (node_of s nodes) ≡ is_joined setup shown s.0) (n : ℕ) (stands : SessionNo → Standing) (s : SessionNo) where
-  pub by-standing : (standing : Standing) → IsTrue (is_joined setup shown s.0) ↔ IsOn setup shown standing → is_some (hidden_by n stands nodes s standing) ≡ not (is_some (node_of s nodes))
+module _ (setup : Setup) (shown : Shown) (nodes : List ViewNode) (node : (s : SessionNo) → is_some (node_of s nodes) ≡ is_joined setup shown s.0) (n : ℕ)
+    (stands : SessionNo → Standing) (s : SessionNo) where
+  pub by-standing : (standing : Standing) → IsTrue (is_joined setup shown s.0) ↔ IsOn setup shown standing
+      → is_some (hidden_by n stands nodes s standing) ≡ not (is_some (node_of s nodes))
   by-standing OnDisplay both = sym (ap not (node s ∙ both.1 tt))
   by-standing (Nowhere cause) both = sym (ap not (node s ∙ never (is_joined setup shown s.0) both.0))
   by-standing (Below q) both =
       let why : Hidden = cond (is_cyclic n stands s) Cycle (Parent q) in
-      some-unless (is_some (node_of q nodes)) why ∙ ap not (node q ∙ sym (same-bools (is_joined setup shown s.0) (is_joined setup shown q.0) both.0 both.1) ∙ sym (node s))
+      some-unless (is_some (node_of q nodes)) why ∙ ap not
+      (node q ∙ sym (same-bools (is_joined setup shown s.0) (is_joined setup shown q.0) both.0 both.1) ∙ sym (node s))
 
 pub hidden-have-causes : StandingsDecide → BegunStatesFit → ViewsTheJoined → HiddenHaveCauses
 hidden-have-causes decide fits views setup history legal single n s =
     let begun = to_begin history in
     let shown : Shown = shown_states setup begun in
-    by-standing setup shown (frame_at setup n begun).tree.nodes (node-joined views (setup_at setup begun) shown) setup.sessions (standing_of setup begun) s (standing_of setup begun s)
+    by-standing setup shown (frame_at setup n begun).tree.nodes (node-joined views (setup_at setup begun) shown) setup.sessions (standing_of setup begun) s
+    (standing_of setup begun s)
     (decide setup shown (taken setup begun) (λ p. last_use p begun) (nothing_of setup begun s) (fits setup history legal) single s)

@@ -1,5 +1,6 @@
 -- One entry more in what is kept.
-use Rattle.std.proofs.Common.{ℕ, ◌-◌, ◌<◌, ◌≤◌, ◌≡◌, ◌≢◌, ◌⊎◌, inl, inr, refl, sym, ap, ◌∙◌, Bool, true, false, not, ◌||◌, cond, nat_lt, nat_le, List, [], ◌∷◌, ◌++◌, length, filter, Option, Some, None, slice_index_or, slice_set, arith}
+use Rattle.std.proofs.Common.{ℕ, ◌-◌, ◌<◌, ◌≤◌, ◌≡◌, ◌≢◌, ◌⊎◌, inl, inr, refl, sym, ap, ◌∙◌, Bool, true, false, not, ◌||◌, cond, nat_lt, nat_le, List, [], ◌∷◌}
+use Rattle.std.proofs.Common.{◌++◌, length, filter, Option, Some, None, slice_index_or, slice_set, arith}
 use Rattle.std.specs.Prelude.{◌==◌}
 use Rattle.std.specs.List.{list_any}
 use Rattle.std.proofs.lemmas.Bool.Decides.{eqb_tells, nat_tests}
@@ -37,8 +38,10 @@ nothing-new : (b : Bool) (before : Option Closing) → option_or (cond b None No
 nothing-new true before = refl
 nothing-new false before = refl
 
-pub closed-step : (setup : Setup) (old : List Entry) (entry : Entry) (s : SessionNo) (closings new : List (Option Closing)) → entry.actor ≡ Session s → is_declared setup s ≡ true → length closings ≡ setup.sessions
-    → new ≡ with_closing s (closing_by entry.line entry.reply) closings → ((t : SessionNo) → is_declared setup t ≡ true → closings_in closings t ≡ closing_of t old)
+pub closed-step : (setup : Setup) (old : List Entry) (entry : Entry) (s : SessionNo) (closings new : List (Option Closing)) → entry.actor ≡ Session s
+    → is_declared setup s ≡ true → length closings ≡ setup.sessions
+    → new ≡ with_closing s (closing_by entry.line entry.reply) closings
+    → ((t : SessionNo) → is_declared setup t ≡ true → closings_in closings t ≡ closing_of t old)
     → (t : SessionNo) → is_declared setup t ≡ true → closings_in new t ≡ closing_of t (old ▹ entry)
 closed-step setup old entry s closings new mine known many is was t there = ap (λ cs. closings_in cs t) is ∙ by (closing_by entry.line entry.reply) ∙ sym after
   where
@@ -55,7 +58,8 @@ closed-step setup old entry s closings new mine known many is was t there = ap (
         far : (0 < t.0) × (t.0 ≤ setup.sessions)
         far = declared-number setup t there
 
-        by_test : ((◌≡◌ (s.0 == t.0) true) × (s.0 ≡ t.0)) ⊎ ((◌≡◌ (s.0 == t.0) false) × (s.0 ≢ t.0)) → closings_in (slice_set closings (s.0 - 1) (Some closing)) t ≡ option_or (cond (s.0 == t.0) (Some closing) None) (closing_of t old)
+        by_test : ((◌≡◌ (s.0 == t.0) true) × (s.0 ≡ t.0)) ⊎ ((◌≡◌ (s.0 == t.0) false) × (s.0 ≢ t.0))
+            → closings_in (slice_set closings (s.0 - 1) (Some closing)) t ≡ option_or (cond (s.0 == t.0) (Some closing) None) (closing_of t old)
         by_test (inl same) =
             let place : t.0 - 1 ≡ s.0 - 1 = ap (λ n. n - 1) (sym same.1) in
             let low : s.0 - 1 < length closings = let a = here.0 in let b = here.1 in omega (arith, a, b, many) in
@@ -63,7 +67,8 @@ closed-step setup old entry s closings new mine known many is was t there = ap (
             ∙ sym (ap (λ b. option_or (cond b (Some closing) None) (closing_of t old)) same.0)
         by_test (inr apart) =
             let other : t.0 - 1 ≢ s.0 - 1 = λ e. apart.1 (let a = here.0 in let b = far.0 in omega (arith, a, b, e)) in
-            get_or-set_other closings (s.0 - 1) (t.0 - 1) (Some closing) None other ∙ was t there ∙ sym (ap (λ b. option_or (cond b (Some closing) None) (closing_of t old)) apart.0)
+            get_or-set_other closings (s.0 - 1) (t.0 - 1) (Some closing) None other ∙ was t there
+            ∙ sym (ap (λ b. option_or (cond b (Some closing) None) (closing_of t old)) apart.0)
 
 -- an entry that closes nobody
 pub closed-other : (old : List Entry) (entry : Entry) (t : SessionNo) → is_session t entry.actor ≡ false → closing_of t (old ▹ entry) ≡ closing_of t old
@@ -80,13 +85,15 @@ used-step old entry uses new many made count all is was p low = ap (λ us. uses_
     by None = was p low
     by (Some q) = by_test (eqb_tells q.0 p.0)
       where
-        by_test : ((◌≡◌ (q.0 == p.0) true) × (q.0 ≡ p.0)) ⊎ ((◌≡◌ (q.0 == p.0) false) × (q.0 ≢ p.0)) → uses_in (slice_set uses q.0 (Some made)) p ≡ cond (q.0 == p.0) (Some (made_by entry.actor (old ▹ entry))) (last_use p old)
+        by_test : ((◌≡◌ (q.0 == p.0) true) × (q.0 ≡ p.0)) ⊎ ((◌≡◌ (q.0 == p.0) false) × (q.0 ≢ p.0))
+            → uses_in (slice_set uses q.0 (Some made)) p ≡ cond (q.0 == p.0) (Some (made_by entry.actor (old ▹ entry))) (last_use p old)
         by_test (inl same) =
             let within : q.0 < length uses = let e = same.1 in omega (arith, e, low, all) in
             ap (λ n. slice_index_or (slice_set uses q.0 (Some made)) n None) (sym same.1) ∙ get_or-set_same uses q.0 (Some made) None within ∙ ap Some count
             ∙ sym (ap (λ b. cond b (Some (made_by entry.actor (old ▹ entry))) (last_use p old)) same.0)
         by_test (inr apart) =
-            get_or-set_other uses q.0 p.0 (Some made) None (λ e. apart.1 (sym e)) ∙ was p low ∙ sym (ap (λ b. cond b (Some (made_by entry.actor (old ▹ entry))) (last_use p old)) apart.0)
+            get_or-set_other uses q.0 p.0 (Some made) None (λ e. apart.1 (sym e)) ∙ was p low
+            ∙ sym (ap (λ b. cond b (Some (made_by entry.actor (old ▹ entry))) (last_use p old)) apart.0)
 
 -- ---- presents that wait
 
@@ -119,27 +126,35 @@ is-not true wrong = absurd (cc)
 is-not false is = refl
 
 -- what waits at a begin was there before, or waited at the begin before
-pub waits-on : (setup : Setup) (old : List Entry) (entry : Entry) (due : Due) → is_waiting setup (old ▹ entry) due ≡ true → is_waiting setup (to_begin old) due ≡ true
+pub waits-on : (setup : Setup) (old : List Entry) (entry : Entry) (due : Due) → is_waiting setup (old ▹ entry) due ≡ true
+    → is_waiting setup (to_begin old) due ≡ true
 waits-on setup old entry due waits =
-    let unclosed : is_closed due.session (old ▹ entry) ≡ false = not-false _ (and-left (not (is_closed due.session (old ▹ entry))) (nat_lt (taken setup (old ▹ entry) due.session) due.number) waits) in
-    let late : nat_lt (taken setup (old ▹ entry) due.session) due.number ≡ true = and-right (not (is_closed due.session (old ▹ entry))) (nat_lt (taken setup (old ▹ entry) due.session) due.number) waits in
-    let rises : taken setup (to_begin old) due.session ≤ taken setup (old ▹ entry) due.session = taken-earlier setup due.session (to_begin old) (old ▹ entry) (one-earlier (to_begin old) old entry (begin-earlier old)) in
-    and-true (is-not _ (open-begin due.session old (open-before due.session old entry unclosed))) (let before : nat_lt (taken setup (to_begin old) due.session) due.number ≡ true = grind (arith, nat_tests, rises, late) in before)
+    let unclosed : is_closed due.session (old ▹ entry) ≡ false =
+    not-false _ (and-left (not (is_closed due.session (old ▹ entry))) (nat_lt (taken setup (old ▹ entry) due.session) due.number) waits) in
+    let late : nat_lt (taken setup (old ▹ entry) due.session) due.number ≡ true =
+    and-right (not (is_closed due.session (old ▹ entry))) (nat_lt (taken setup (old ▹ entry) due.session) due.number) waits in
+    let rises : taken setup (to_begin old) due.session ≤ taken setup (old ▹ entry) due.session =
+    taken-earlier setup due.session (to_begin old) (old ▹ entry) (one-earlier (to_begin old) old entry (begin-earlier old)) in
+    and-true (is-not _ (open-begin due.session old (open-before due.session old entry unclosed)))
+    (let before : nat_lt (taken setup (to_begin old) due.session) due.number ≡ true = grind (arith, nat_tests, rises, late) in before)
 
 -- a test that asks for more
 filter-more : {A : Type 0} (p q : A → Bool) (xs : List A) → ((x : A) → p x ≡ true → q x ≡ true) → filter p (filter q xs) ≡ filter p xs
 filter-more p q [] more = refl
 filter-more p q (x ∷ xs) more = by (filter-more p q xs more) (q x) refl (p x) refl
   where
-    by : filter p (filter q xs) ≡ filter p xs → (b : Bool) → q x ≡ b → (c : Bool) → p x ≡ c → filter p (cond b (x ∷ filter q xs) (filter q xs)) ≡ cond (p x) (x ∷ filter p xs) (filter p xs)
+    by : filter p (filter q xs) ≡ filter p xs → (b : Bool) → q x ≡ b → (c : Bool) → p x ≡ c
+        → filter p (cond b (x ∷ filter q xs) (filter q xs)) ≡ cond (p x) (x ∷ filter p xs) (filter p xs)
     by rest true is c it = ap (λ ys. cond (p x) (x ∷ ys) ys) rest
     by rest false is true it = absurd (let wrong : false ≡ true = sym is ∙ more x it in cc)
     by rest false is false it = rest ∙ sym (ap (λ b. cond b (x ∷ filter p xs) (filter p xs)) it)
 
-pub dues-begun : (setup : Setup) (old : List Entry) (entry : Entry) (kept : List Due) → kept ≡ filter (is_waiting setup (to_begin old)) (dues old) → dues_by entry.actor entry.kind entry.reply ≡ []
+pub dues-begun : (setup : Setup) (old : List Entry) (entry : Entry) (kept : List Due) → kept ≡ filter (is_waiting setup (to_begin old)) (dues old)
+    → dues_by entry.actor entry.kind entry.reply ≡ []
     → filter (is_waiting setup (old ▹ entry)) kept ≡ filter (is_waiting setup (old ▹ entry)) (dues (old ▹ entry))
 dues-begun setup old entry kept is none =
-    ap (filter (is_waiting setup (old ▹ entry))) is ∙ filter-more (is_waiting setup (old ▹ entry)) (is_waiting setup (to_begin old)) (dues old) (waits-on setup old entry)
+    ap (filter (is_waiting setup (old ▹ entry))) is ∙ filter-more (is_waiting setup (old ▹ entry)) (is_waiting setup (to_begin old)) (dues old)
+    (waits-on setup old entry)
     ∙ sym (ap (λ ds. filter (is_waiting setup (old ▹ entry)) (dues old ++ ds)) none ∙ ap (filter (is_waiting setup (old ▹ entry))) (append-none (dues old)))
   where
     append-none : (xs : List Due) → xs ++ [] ≡ xs

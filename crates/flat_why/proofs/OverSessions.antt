@@ -1,5 +1,6 @@
 -- Lists over all sessions, made one after another.
-use Rattle.std.proofs.Common.{ℕ, zero, suc, ◌+◌, ◌<◌, ◌≡◌, ◌≢◌, ◌⊎◌, inl, inr, refl, sym, ap, ◌∙◌, true, false, List, [], ◌∷◌, ◌++◌, length, map, take, get_or, slice_index_or, slice_set, add-one, arith}
+use Rattle.std.proofs.Common.{ℕ, zero, suc, ◌+◌, ◌<◌, ◌≡◌, ◌≢◌, ◌⊎◌, inl, inr, refl, sym, ap, ◌∙◌, true, false, List, [], ◌∷◌, ◌++◌, length, map, take, get_or}
+use Rattle.std.proofs.Common.{slice_index_or, slice_set, add-one, arith}
 use Rattle.std.specs.Prelude.{◌==◌}
 use Rattle.std.proofs.lemmas.Bool.Decides.{eqb_tells}
 use Rattle.std.proofs.lemmas.List.{get_or-set_other, get_or-set_same, map-append}
@@ -20,7 +21,8 @@ whatever (x ∷ xs) zero d e low = refl
 whatever (x ∷ xs) (suc i) d e low = whatever xs i d e (omega (arith, low))
 
 -- one item more is as it is to be
-pub set-next : {A : Type 0} (f : ℕ → A) (xs new : List A) (i : ℕ) (x : A) → i < length xs → new ≡ slice_set xs i x → x ≡ f i → ((k : ℕ) (d : A) → k < i → slice_index_or xs k d ≡ f k) → (k : ℕ) (d : A) → k < i + 1 → slice_index_or new k d ≡ f k
+pub set-next : {A : Type 0} (f : ℕ → A) (xs new : List A) (i : ℕ) (x : A) → i < length xs → new ≡ slice_set xs i x → x ≡ f i
+    → ((k : ℕ) (d : A) → k < i → slice_index_or xs k d ≡ f k) → (k : ℕ) (d : A) → k < i + 1 → slice_index_or new k d ≡ f k
 set-next {A} f xs new i x low is value before k d below = ap (λ ys. slice_index_or ys k d) is ∙ by (eqb_tells k i)
   where
     by : ((◌≡◌ (k == i) true) × (k ≡ i)) ⊎ ((◌≡◌ (k == i) false) × (k ≢ i)) → slice_index_or (slice_set xs i x) k d ≡ f k

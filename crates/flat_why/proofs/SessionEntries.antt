@@ -1,5 +1,6 @@
 -- An entry of a session, in what is kept.
-use Rattle.std.proofs.Common.{ℕ, zero, suc, ◌+◌, ◌-◌, ◌<◌, ◌≤◌, ◌≡◌, refl, sym, ap, ◌∙◌, subst, Bool, true, false, not, ◌&&◌, ◌||◌, cond, nat_lt, List, [], ◌∷◌, ◌++◌, length, filter, map, Option, Some, None, slice_get, arith, append-nil}
+use Rattle.std.proofs.Common.{ℕ, zero, suc, ◌+◌, ◌-◌, ◌<◌, ◌≤◌, ◌≡◌, refl, sym, ap, ◌∙◌, subst, Bool, true, false, not, ◌&&◌, ◌||◌, cond, nat_lt, List, [], ◌∷◌}
+use Rattle.std.proofs.Common.{◌++◌, length, filter, map, Option, Some, None, slice_get, arith, append-nil}
 use Rattle.std.specs.Prelude.{option_map, unwrap_or}
 use Rattle.std.specs.List.{All, list_all, list_any}
 use Rattle.std.proofs.lemmas.Bool.Decides.{nat_tests}
@@ -41,11 +42,13 @@ some-within f (x ∷ xs) zero owned = omega arith
 some-within f (x ∷ xs) (suc n) owned = let more : n < length xs = some-within f xs n owned in omega (arith, more)
 
 -- what a session owns is declared
-owned-below : (setup : Setup) (s : SessionNo) (fences : List FenceNo) → list_all (owns_fence setup s) fences ≡ true → All (λ f. f.0 < length setup.fences) fences
+owned-below : (setup : Setup) (s : SessionNo) (fences : List FenceNo) → list_all (owns_fence setup s) fences ≡ true
+    → All (λ f. f.0 < length setup.fences) fences
 owned-below setup s [] owned = λ k d below. absurd (omega (arith, below))
 owned-below setup s (f ∷ fences) owned =
     All-cons (λ f. f.0 < length setup.fences) f fences
-    (some-within (λ fence. list_any (is_session s) fence.owners) setup.fences f.0 (and-left (owns_fence setup s f) (list_all (owns_fence setup s) fences) owned))
+    (some-within (λ fence. list_any (is_session s) fence.owners) setup.fences f.0
+    (and-left (owns_fence setup s f) (list_all (owns_fence setup s) fences) owned))
     (owned-below setup s fences (and-right (owns_fence setup s f) (list_all (owns_fence setup s) fences) owned))
 
 not-closed : (b : Bool) → not b ≡ true → b ≡ false
@@ -53,7 +56,8 @@ not-closed true wrong = absurd (cc)
 not-closed false is = refl
 
 -- the number that is answered where a present has a credit
-pub presented-number : (has : Bool) (n m : ℕ) (left c : ℕ) (refused : Reply) → ((number credits : ℕ) → refused ≡ reply.Presented number credits → ⊥) → reply.Presented m c ≡ cond has (reply.Presented n left) refused → m ≡ n
+pub presented-number : (has : Bool) (n m : ℕ) (left c : ℕ) (refused : Reply) → ((number credits : ℕ) → refused ≡ reply.Presented number credits → ⊥)
+    → reply.Presented m c ≡ cond has (reply.Presented n left) refused → m ≡ n
 presented-number true n m left c refused none is = let same : reply.Presented m c ≡ reply.Presented n left = is in cc
 presented-number false n m left c refused none is = absurd (none m c (sym is))
 
@@ -89,16 +93,19 @@ module _ (setup : Setup) (old : List Entry) (entry : Entry) (s : SessionNo) (leg
       due = record { session = s; number = number; time = args.time; acquire = args.acquire }
 
       replied : reply.Presented number left ≡ reply_to setup old (Session s) entry.calls (kind.Present args)
-      replied = sym answered ∙ legal.reply ∙ ap (λ (a : Actor). reply_to setup old a entry.calls entry.kind) mine ∙ ap (reply_to setup old (Session s) entry.calls) is
+      replied = sym answered ∙ legal.reply ∙ ap (λ (a : Actor). reply_to setup old a entry.calls entry.kind) mine
+          ∙ ap (reply_to setup old (Session s) entry.calls) is
 
       counts : number ≡ length (presents s old) + 1
-      counts = presented-number (nat_lt 0 (credits setup old s)) (length (presents s old) + 1) number (credits setup old s - 1) left _ (λ n c wrong. absurd (cc)) replied
+      counts = presented-number (nat_lt 0 (credits setup old s)) (length (presents s old) + 1) number (credits setup old s - 1) left _
+          (λ n c wrong. absurd (cc)) replied
 
       goes : goes_on old (kind.Present args) (Session s) ≡ true
       goes = (λ i. goes_on old (sym is i) (sym mine i)) ∙ legal.may.lasts
 
       unclosed : is_closed s (to_begin old) ≡ false
-      unclosed = open-begin s old (not-closed (is_closed s old) (and-right (not (list_any (λ (one : Entry). is_end one.kind) (own s old))) (not (is_closed s old)) goes))
+      unclosed = open-begin s old (not-closed (is_closed s old)
+          (and-right (not (list_any (λ (one : Entry). is_end one.kind) (own s old))) (not (is_closed s old)) goes))
 
       late : taken setup (to_begin old) s ≤ length (presents s old)
       late = taken-fits setup s (to_begin old) old (begin-earlier old)
@@ -127,26 +134,37 @@ module _ (setup : Setup) (old : List Entry) (entry : Entry) (s : SessionNo) (leg
   open-same = (λ i. no-begin i || (not (no-finish i) && is_frame_open old))
 
   frames-same : frames (old ▹ entry) ≡ frames old
-  frames-same = ap (λ b. length (cond b (entry ∷ filter (λ (one : Entry). is_finish one.kind) old) (filter (λ (one : Entry). is_finish one.kind) old))) no-finish
+  frames-same = ap (λ b. length (cond b (entry ∷ filter (λ (one : Entry). is_finish one.kind) old) (filter (λ (one : Entry). is_finish one.kind) old)))
+      no-finish
 
   lines-same : (script : Script) → why_lines script (old ▹ entry) ≡ why_lines script old
-  lines-same script = ap (λ b. why_lines script old ++ cond b (whys_at script (suc (frames old)) (to_begin old)) []) no-finish ∙ append-nil (why_lines script old)
+  lines-same script = ap (λ b. why_lines script old ++ cond b (whys_at script (suc (frames old)) (to_begin old)) []) no-finish
+      ∙ append-nil (why_lines script old)
 
 -- the whole step
-pub session-noted : (script : Script) (old history : List Entry) (entry : Entry) (s : SessionNo) (was now : Whys) → history ≡ (old ▹ entry) → LegalEntry script.setup old entry → entry.actor ≡ Session s → WhysStand script old was
-    → now.closings.items ≡ with_closing s (closing_by entry.line entry.reply) was.closings.items → now.last_uses.items ≡ with_use (used_by entry.kind entry.reply) (length (presents s history)) was.last_uses.items
-    → now.dues.items ≡ was.dues.items ++ dues_by entry.actor entry.kind entry.reply → now.standings ≡ was.standings → now.waits ≡ was.waits → now.frames ≡ was.frames → now.page ≡ was.page
+pub session-noted : (script : Script) (old history : List Entry) (entry : Entry) (s : SessionNo) (was now : Whys) → history ≡ (old ▹ entry)
+    → LegalEntry script.setup old entry → entry.actor ≡ Session s → WhysStand script old was
+    → now.closings.items ≡ with_closing s (closing_by entry.line entry.reply) was.closings.items
+    → now.last_uses.items ≡ with_use (used_by entry.kind entry.reply) (length (presents s history)) was.last_uses.items
+    → now.dues.items ≡ was.dues.items ++ dues_by entry.actor entry.kind entry.reply → now.standings ≡ was.standings → now.waits ≡ was.waits
+    → now.frames ≡ was.frames → now.page ≡ was.page
     → length now.closings.items ≡ length was.closings.items → length now.last_uses.items ≡ length was.last_uses.items → WhysStand script history now
 session-noted script old history entry s was now is legal mine stands closings uses dues_are standings waits frames_are page many pairs =
     subst (λ h. WhysStand script h now) (sym is) (record {
       sessions = many ∙ stands.sessions;
       pairs = pairs ∙ stands.pairs;
       count = ap (λ v. length v.items) standings ∙ stands.count;
-      closed = closed-step script.setup old entry s was.closings.items now.closings.items mine (declared script.setup old entry s legal mine) stands.sessions closings stands.closed;
-      used = used-step old entry was.last_uses.items now.last_uses.items (length script.setup.pairs) (length (presents s history)) made stands.pairs uses stands.used;
-      dues = dues_are ∙ (λ i. stands.dues i ++ sym new.waits i) ∙ sym (filter-append (is_waiting script.setup (to_begin old)) (dues old) (dues_by entry.actor entry.kind entry.reply)) ∙ ap (λ h. filter (is_waiting script.setup h) (dues (old ▹ entry))) (sym begin);
-      known = subst (All (IsKnown script.setup)) (sym dues_are) (All-append (IsKnown script.setup) was.dues.items (dues_by entry.actor entry.kind entry.reply) stands.known new.known);
-      standings = λ now-open. ap (λ v. v.items) standings ∙ stands.standings (sym opened ∙ now-open) ∙ ap (λ h. map (standing_of script.setup h) (sessions_to script.setup.sessions)) (sym begin);
+      closed = closed-step script.setup old entry s was.closings.items now.closings.items mine (declared script.setup old entry s legal mine) stands.sessions
+          closings stands.closed;
+      used = used-step old entry was.last_uses.items now.last_uses.items (length script.setup.pairs) (length (presents s history)) made stands.pairs uses
+          stands.used;
+      dues = dues_are ∙ (λ i. stands.dues i ++ sym new.waits i)
+          ∙ sym (filter-append (is_waiting script.setup (to_begin old)) (dues old) (dues_by entry.actor entry.kind entry.reply))
+          ∙ ap (λ h. filter (is_waiting script.setup h) (dues (old ▹ entry))) (sym begin);
+      known = subst (All (IsKnown script.setup)) (sym dues_are)
+          (All-append (IsKnown script.setup) was.dues.items (dues_by entry.actor entry.kind entry.reply) stands.known new.known);
+      standings = λ now-open. ap (λ v. v.items) standings ∙ stands.standings (sym opened ∙ now-open)
+          ∙ ap (λ h. map (standing_of script.setup h) (sessions_to script.setup.sessions)) (sym begin);
       waits = λ now-open. ap (λ v. v.items) waits ∙ stands.waits (sym opened ∙ now-open) ∙ ap (waits_at script.setup) (sym begin);
       tells = record {
         frames = frames_are ∙ stands.tells.frames ∙ sym (frames-same script.setup old entry s legal mine);

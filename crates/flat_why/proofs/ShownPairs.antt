@@ -1,5 +1,6 @@
 -- Whether a session shows a viewport of a pair, as a flat list of its nodes and as the numbers of the nodes with a viewport say it.
-use Rattle.std.proofs.Common.{ℕ, zero, suc, ◌+◌, ◌<◌, ◌≡◌, ◌≢◌, ◌⊎◌, inl, inr, refl, sym, ap, ◌∙◌, Bool, true, false, ◌||◌, List, [], ◌∷◌, ◌++◌, length, map, get_or, cond, Option, Some, None, slice_get, arith}
+use Rattle.std.proofs.Common.{ℕ, zero, suc, ◌+◌, ◌<◌, ◌≡◌, ◌≢◌, ◌⊎◌, inl, inr, refl, sym, ap, ◌∙◌, Bool, true, false, ◌||◌, List, [], ◌∷◌, ◌++◌, length, map}
+use Rattle.std.proofs.Common.{get_or, cond, Option, Some, None, slice_get, arith}
 use Rattle.std.specs.Prelude.{◌==◌}
 use Rattle.std.specs.List.{All, list_any}
 use Rattle.std.proofs.lemmas.Bool.{or_right}
@@ -72,7 +73,8 @@ only-viewports p (Some (content.Image serial buffers index sample w h blend flip
 only-viewports p (Some (content.Viewport serial pair props)) none = absurd (cc)
 
 -- no content but those at the places is a viewport of a pair
-any-places : (p : ℕ) (before contents : List (Option Content)) → list_any (leads_at p (before ++ contents)) (viewport_places (length before) contents) ≡ list_any (leads_to p) contents
+any-places : (p : ℕ) (before contents : List (Option Content))
+    → list_any (leads_at p (before ++ contents)) (viewport_places (length before) contents) ≡ list_any (leads_to p) contents
 any-places p before [] = refl
 any-places p before (what ∷ contents) =
     let place : ℕ = length before in
@@ -85,7 +87,8 @@ any-places p before (what ∷ contents) =
   where
     by_test : (b : Bool) → is_viewport what ≡ b → leads_at p (before ++ what ∷ contents) (length before) ≡ leads_to p what
         → list_any (leads_at p (before ++ what ∷ contents)) (viewport_places (length before + 1) contents) ≡ list_any (leads_to p) contents
-        → list_any (leads_at p (before ++ what ∷ contents)) (cond b (length before ∷ viewport_places (length before + 1) contents) (viewport_places (length before + 1) contents))
+        → list_any (leads_at p (before ++ what ∷ contents))
+        (cond b (length before ∷ viewport_places (length before + 1) contents) (viewport_places (length before + 1) contents))
         ≡ (leads_to p what || list_any (leads_to p) contents)
     by_test true is here later = rw (here, later) refl
     by_test false is here later = rw (only-viewports p what is) later
@@ -98,11 +101,14 @@ any-contents p [] = refl
 any-contents p (n ∷ ns) = ap (λ (b : Bool). leads_to p n.content || b) (any-contents p ns)
 
 -- whether a node is a viewport of a pair, is seen at the places of the viewports
-pub any-viewport : (p : ℕ) (ns : List FlatNode) → list_any (leads_at p (contents_of ns)) (viewport_places 0 (contents_of ns)) ≡ list_any (λ n. leads_to p n.content) ns
+pub any-viewport : (p : ℕ) (ns : List FlatNode) → list_any (leads_at p (contents_of ns)) (viewport_places 0 (contents_of ns))
+    ≡ list_any (λ n. leads_to p n.content) ns
 any-viewport p ns = any-places p [] (contents_of ns) ∙ any-contents p ns
 
-pub leads-there : (p : ℕ) (ns : List FlatNode) (place : ℕ) (n : FlatNode) → slice_get ns place ≡ Some n → leads_at p (contents_of ns) place ≡ leads_to p n.content
-leads-there p ns place n at = let g = got ns place n n at in ap (leads_to p) (get_or-map (λ m. m.content) ns place n None g.0 ∙ ap (λ (m : FlatNode). m.content) g.1)
+pub leads-there : (p : ℕ) (ns : List FlatNode) (place : ℕ) (n : FlatNode) → slice_get ns place ≡ Some n
+    → leads_at p (contents_of ns) place ≡ leads_to p n.content
+leads-there p ns place n at = let g = got ns place n n at in
+    ap (leads_to p) (get_or-map (λ m. m.content) ns place n None g.0 ∙ ap (λ (m : FlatNode). m.content) g.1)
 
 -- the places are those of nodes
 places-within : (next : ℕ) (contents : List (Option Content)) → All (λ place. place < next + length contents) (viewport_places next contents)
@@ -115,10 +121,12 @@ places-within next (what ∷ contents) = by_test (is_viewport what) (rw (sym (ne
     by_test : (b : Bool) → All (λ place. place < next + suc (length contents)) (viewport_places (next + 1) contents)
         → All (λ place. place < next + suc (length contents)) (cond b (next ∷ viewport_places (next + 1) contents) (viewport_places (next + 1) contents))
     by_test true later =
-        All-append (λ place. place < next + suc (length contents)) (next ∷ []) (viewport_places (next + 1) contents) (λ k d low. let first : k ≡ 0 = omega (arith, low) in rw first (omega arith)) later
+        All-append (λ place. place < next + suc (length contents)) (next ∷ []) (viewport_places (next + 1) contents)
+        (λ k d low. let first : k ≡ 0 = omega (arith, low) in rw first (omega arith)) later
     by_test false later = later
 
-pub viewport-within : (ns : List FlatNode) (i d : ℕ) → i < length (viewport_places 0 (contents_of ns)) → get_or (viewport_places 0 (contents_of ns)) i d < length ns
+pub viewport-within : (ns : List FlatNode) (i d : ℕ) → i < length (viewport_places 0 (contents_of ns))
+    → get_or (viewport_places 0 (contents_of ns)) i d < length ns
 viewport-within ns i d h = omega (arith, places-within 0 (contents_of ns) i d h, length-map ns (λ (n : FlatNode). n.content))
 
 -- ---- a number that stands in a list is found there

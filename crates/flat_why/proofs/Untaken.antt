@@ -1,5 +1,6 @@
 -- A present is said to wait if and only if its session is open and no frame took it.
-use Rattle.std.proofs.Common.{ℕ, ◌+◌, ◌-◌, ◌<◌, ◌≡◌, ◌≢◌, ◌⊎◌, inl, inr, refl, sym, ap, ◌∙◌, Bool, true, false, ◌&&◌, ◌||◌, not, cond, nat_lt, nat_le, List, [], ◌∷◌, ◌++◌, length, length-append, filter, map, arith}
+use Rattle.std.proofs.Common.{ℕ, ◌+◌, ◌-◌, ◌<◌, ◌≡◌, ◌≢◌, ◌⊎◌, inl, inr, refl, sym, ap, ◌∙◌, Bool, true, false, ◌&&◌, ◌||◌, not, cond, nat_lt, nat_le, List, []}
+use Rattle.std.proofs.Common.{◌∷◌, ◌++◌, length, length-append, filter, map, arith}
 use Rattle.std.specs.Prelude.{◌==◌}
 use Rattle.std.specs.List.{list_any}
 use Rattle.std.proofs.lemmas.Bool.{eqb-true}
@@ -58,10 +59,12 @@ module _ (s : SessionNo) (k : ℕ) where
   told-step (Probe m) kd r made n numbered = nothing-new n
   told-step (Session t) kd r made n numbered = by-kind kd r refl refl
     where
-      by-kind : (x : Kind) (y : Reply) → kd ≡ x → r ≡ y → (nat_le k n || list_any is_it (dues_by (Session t) x y)) ≡ nat_le k (n + length (cond (t.0 == s.0) (published x y made) []))
+      by-kind : (x : Kind) (y : Reply) → kd ≡ x → r ≡ y → (nat_le k n || list_any is_it (dues_by (Session t) x y))
+          ≡ nat_le k (n + length (cond (t.0 == s.0) (published x y made) []))
       by-kind (kind.Present args) (reply.Presented number left) is answered = by (t.0 == s.0) refl
         where
-          by : (b : Bool) → (t.0 == s.0) ≡ b → (nat_le k n || ((b && (number == k)) || false)) ≡ nat_le k (n + length (cond b (published (kind.Present args) (reply.Presented number left) made) []))
+          by : (b : Bool) → (t.0 == s.0) ≡ b → (nat_le k n || ((b && (number == k)) || false))
+              ≡ nat_le k (n + length (cond b (published (kind.Present args) (reply.Presented number left) made) []))
           by true mine = one-new n number (numbered args number left mine is answered)
           by false mine = nothing-new n
       by-kind _ _ is answered = by (t.0 == s.0)
@@ -71,7 +74,8 @@ module _ (s : SessionNo) (k : ℕ) where
           by false = nothing-new n
 
   module _ (setup : Setup) where
-    numbered-by : (h : List Entry) (e : Entry) → LegalEntry setup h e → (args : PresentArgs) (number left : ℕ) → is_session s e.actor ≡ true → e.kind ≡ kind.Present args → e.reply ≡ reply.Presented number left → number ≡ length (presents s h) + 1
+    numbered-by : (h : List Entry) (e : Entry) → LegalEntry setup h e → (args : PresentArgs) (number left : ℕ) → is_session s e.actor ≡ true
+        → e.kind ≡ kind.Present args → e.reply ≡ reply.Presented number left → number ≡ length (presents s h) + 1
     numbered-by h e legal args number left mine is answered = by e.actor refl mine
       where
         by : (a : Actor) → e.actor ≡ a → is_session s a ≡ true → number ≡ length (presents s h) + 1
@@ -80,13 +84,17 @@ module _ (s : SessionNo) (k : ℕ) where
         by (Session t) who same =
             let replied : reply.Presented number left ≡ reply_to setup h (Session t) e.calls (kind.Present args) =
             sym answered ∙ legal.reply ∙ ap (λ (a : Actor). reply_to setup h a e.calls e.kind) who ∙ ap (reply_to setup h (Session t) e.calls) is in
-            let counts : number ≡ length (presents t h) + 1 = presented-number (nat_lt 0 (credits setup h t)) (length (presents t h) + 1) number (credits setup h t - 1) left _ (λ n c wrong. absurd (cc)) replied in
+            let counts : number ≡ length (presents t h) + 1 =
+            presented-number (nat_lt 0 (credits setup h t)) (length (presents t h) + 1) number (credits setup h t - 1) left _ (λ n c wrong. absurd (cc))
+            replied in
             counts ∙ ap (λ (n : ℕ). length (presents (session n) h) + 1) (eqb-true t.0 s.0 same)
 
-    count-step : (h : List Entry) (e : Entry) → length (presents s (h ▹ e)) ≡ length (presents s h) + length (cond (is_session s e.actor) (published e.kind e.reply (calls s h ++ e.calls)) [])
+    count-step : (h : List Entry) (e : Entry) → length (presents s (h ▹ e))
+        ≡ length (presents s h) + length (cond (is_session s e.actor) (published e.kind e.reply (calls s h ++ e.calls)) [])
     count-step h e = by (is_session s e.actor) refl
       where
-        by : (b : Bool) → is_session s e.actor ≡ b → length (presents s (h ▹ e)) ≡ length (presents s h) + length (cond b (published e.kind e.reply (calls s h ++ e.calls)) [])
+        by : (b : Bool) → is_session s e.actor ≡ b → length (presents s (h ▹ e))
+            ≡ length (presents s h) + length (cond b (published e.kind e.reply (calls s h ++ e.calls)) [])
         by true mine = ap length (presents-own s h e mine) ∙ length-append (presents s h) (published e.kind e.reply (calls s h ++ e.calls))
         by false other = ap length (presents-other s h e other) ∙ (let none : length (presents s h) ≡ length (presents s h) + 0 = omega arith in none)
 
@@ -125,10 +133,14 @@ module _ (s : SessionNo) (k : ℕ) where
           by : (b : Bool) → false ≡ (b && false)
           by true = refl
           by false = refl
-      said-by (due ∷ all) = by (is_waiting setup begun due) (its-own due) ∙ mixed (is_waiting setup begun due) waits (is_it due) (is_said_to_wait (map (waiting_of setup begun) (filter (is_waiting setup begun) all)) s k) (list_any is_it all) (said-by all) (its-own due)
+      said-by (due ∷ all) = by (is_waiting setup begun due) (its-own due)
+          ∙ mixed (is_waiting setup begun due) waits (is_it due) (is_said_to_wait (map (waiting_of setup begun) (filter (is_waiting setup begun) all)) s k)
+          (list_any is_it all) (said-by all) (its-own due)
         where
-          by : (b : Bool) → (is_it due ≡ true → b ≡ waits) → is_said_to_wait (map (waiting_of setup begun) (cond b (due ∷ filter (is_waiting setup begun) all) (filter (is_waiting setup begun) all))) s k
-              ≡ cond b (is_it due || is_said_to_wait (map (waiting_of setup begun) (filter (is_waiting setup begun) all)) s k) (is_said_to_wait (map (waiting_of setup begun) (filter (is_waiting setup begun) all)) s k)
+          by : (b : Bool) → (is_it due ≡ true → b ≡ waits) → is_said_to_wait
+              (map (waiting_of setup begun) (cond b (due ∷ filter (is_waiting setup begun) all) (filter (is_waiting setup begun) all))) s k
+              ≡ cond b (is_it due || is_said_to_wait (map (waiting_of setup begun) (filter (is_waiting setup begun) all)) s k)
+              (is_said_to_wait (map (waiting_of setup begun) (filter (is_waiting setup begun) all)) s k)
           by true same = refl
           by false same = refl
 

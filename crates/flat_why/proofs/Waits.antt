@@ -1,5 +1,6 @@
 -- The presents that a begin leaves waiting, one by one.
-use Rattle.std.proofs.Common.{ℕ, ◌+◌, ◌<◌, ◌≡◌, refl, sym, ap, ◌∙◌, subst, Bool, true, false, ◌||◌, cond, List, [], ◌∷◌, ◌++◌, length, map, filter, take, drop, Option, None, append-nil, get_or, is_some}
+use Rattle.std.proofs.Common.{ℕ, ◌+◌, ◌<◌, ◌≡◌, refl, sym, ap, ◌∙◌, subst, Bool, true, false, ◌||◌, cond, List, [], ◌∷◌, ◌++◌, length, map, filter, take, drop}
+use Rattle.std.proofs.Common.{Option, None, append-nil, get_or, is_some}
 use Rattle.std.specs.List.{All, list_any}
 use Rattle.std.proofs.lemmas.List.{append_assoc, drop_more, map-append, take_more}
 use Rattle.std.proofs.lemmas.List.Elements.{All-append, All-cons, All-drop, All-head, All-tail, All-take, filter-append}
@@ -22,7 +23,8 @@ closing-closed s [] = refl
 closing-closed s (before ▹ entry) = by (is_session s entry.actor) (closing-closed s before)
   where
     by : (b : Bool) → is_some (closing_of s before) ≡ is_closed s before
-        → is_some (option_or (cond b (closing_by entry.line entry.reply) None) (closing_of s before)) ≡ list_any (λ (one : Entry). closes one.reply) (cond b (entry ∷ own s before) (own s before))
+        → is_some (option_or (cond b (closing_by entry.line entry.reply) None) (closing_of s before))
+        ≡ list_any (λ (one : Entry). closes one.reply) (cond b (entry ∷ own s before) (own s before))
     by true was = closed-by entry.line entry.reply (closing_of s before) ∙ ap (λ b. closes entry.reply || b) was
     by false was = was
 
@@ -55,7 +57,8 @@ all-turned P test old new is all =
     let Q : List _ → Type 0 = All P in
     subst Q (sym is) (All-append P (drop 1 old) (filter test (take 1 old)) (All-drop P 1 old all) (all-filter P test (take 1 old) (All-take P 1 old all)))
 
-module _ {A B : Type 0} (test : A → Bool) (f : A → B) (all old new : List A) (i : ℕ) (d : A) (low : i < length all) (was : old ≡ drop i all ++ filter test (take i all)) where
+module _ {A B : Type 0} (test : A → Bool) (f : A → B) (all old new : List A) (i : ℕ) (d : A) (low : i < length all)
+    (was : old ≡ drop i all ++ filter test (take i all)) where
   abbrev x : A
   x = get_or all i d
 
@@ -70,7 +73,9 @@ module _ {A B : Type 0} (test : A → Bool) (f : A → B) (all old new : List A)
       is ∙ ap (λ (xs : List A). drop 1 xs ++ filter test (take 1 xs)) parts
       ∙ append_assoc (drop (i + 1) all) (filter test (take i all)) (filter test (x ∷ [])) ∙ ap (λ (ys : List A). drop (i + 1) all ++ ys) (sym filtered)
 
-  pub said-more : (said more : List B) → said ≡ map f (filter test (take i all)) → more ≡ said ++ map f (filter test (take 1 old)) → more ≡ map f (filter test (take (i + 1) all))
+  pub said-more : (said more : List B) → said ≡ map f (filter test (take i all)) → more ≡ said ++ map f (filter test (take 1 old))
+      → more ≡ map f (filter test (take (i + 1) all))
   said-more said more before is =
-      is ∙ ap (λ (ys : List B). ys ++ map f (filter test (take 1 old))) before ∙ ap (λ (xs : List A). map f (filter test (take i all)) ++ map f (filter test (take 1 xs))) parts
+      is ∙ ap (λ (ys : List B). ys ++ map f (filter test (take 1 old))) before
+      ∙ ap (λ (xs : List A). map f (filter test (take i all)) ++ map f (filter test (take 1 xs))) parts
       ∙ sym (map-append f (filter test (take i all)) (filter test (x ∷ []))) ∙ ap (map f) (sym filtered)

@@ -1,12 +1,15 @@
 -- What the command makes of words that begin with no hyphen.
-use Rattle.std.proofs.Common.{◌≡◌, ◌∙◌, ◌&&◌, ◌≤◌, ℕ, cond, codes, false, refl, sym, ap, ap₂, subst, List, [], ◌∷◌, Option, Some, None, IsSomeAnd, decimal, bytes_eq, true≢false, fold, is_some, option_map, unwrap_or}
+use Rattle.std.proofs.Common.{◌≡◌, ◌∙◌, ◌&&◌, ◌≤◌, ℕ, cond, codes, false, refl, sym, ap, ap₂, subst, List, [], ◌∷◌, Option, Some, None, IsSomeAnd, decimal}
+use Rattle.std.proofs.Common.{bytes_eq, true≢false, fold, is_some, option_map, unwrap_or}
 use Rattle.std.specs.Option.{option_and_then, option_map_or}
 use Rattle.clap.specs.Lexer.{long_of, long_of_rest, short_of, short_of_rest, strip_byte}
 use Rattle.clap.specs.Words.{Kinds, Row, Rule, Shape, Text, built, fault_of, first_of, new_app, subcommand_of, with_rule}
 use Rattle.clap.specs.Kinds.{or_else}
 use Rattle.clap.specs.Simple.{built_leaf, entered, inherited, names_of}
-use Rattle.clap.specs.Walk.{Held, Names, Step, Walk, after_step, arg_by_index, finished, idle, long_or_other, nothing_held, settled, short_or_plain, subcommand_met, subcommand_or_other, to_positional, trailing, value, walk_from, walked, word_met}
-use Rattle.clap.specs.Faults.{bundle_fault, check_fault, defaults_fault, entered_fault, flag_word_fault, level_fault, other_fault, settle_fault, step_fault, turn_fault, walk_fault, word_fault}
+use Rattle.clap.specs.Walk.{Held, Names, Step, Walk, after_step, arg_by_index, finished, idle, long_or_other, nothing_held, settled, short_or_plain}
+use Rattle.clap.specs.Walk.{subcommand_met, subcommand_or_other, to_positional, trailing, value, walk_from, walked, word_met}
+use Rattle.clap.specs.Faults.{bundle_fault, check_fault, defaults_fault, entered_fault, flag_word_fault, level_fault, other_fault, settle_fault, step_fault}
+use Rattle.clap.specs.Faults.{turn_fault, walk_fault, word_fault}
 use Rattle.clap.specs.declared.error.kind.ErrorKind.TheVariants.{InvalidSubcommand, MissingRequiredArgument, MissingSubcommand, UnknownArgument}
 use Rattle.clap.proofs.OnLiterals.{clap_on_literals}
 use Rattle.clap.proofs.FaultLemmas.{stopped_fault}
@@ -84,7 +87,8 @@ pub stray : (word : Text) (rest : List Text) → is_option word ≡ false → su
     → fault_of service (word ∷ rest) ≡ UnknownArgument ∷ InvalidSubcommand ∷ []
 unfolding clap_on_literals
 stray word rest plain other =
-    ap (λ k. fault_at (or_else k (walk_fault (built service).top names (walked [] names start word) rest)) (fold (walked [] names) (walked [] names start word) rest))
+    ap (λ k. fault_at (or_else k (walk_fault (built service).top names (walked [] names start word) rest))
+    (fold (walked [] names) (walked [] names start word) rest))
     (plain_turn (built service).top names nothing_held 1 word plain other)
 
 -- the walk that met a subcommand, with the words after it
@@ -93,31 +97,38 @@ met name rest = record start { stopped = Some (name, rest) }
 
 play_fault : (rest : List Text) → fault_of service (codes "play" ∷ rest) ≡ fault_at [] (met (codes "play") rest)
 unfolding clap_on_literals
-play_fault rest = ap₂ fault_at (stopped_fault (built service).top names start (codes "play", []) rest) (sym (walk_stopped [] names start (codes "play") [] rest))
+play_fault rest = ap₂ fault_at (stopped_fault (built service).top names start (codes "play", []) rest)
+    (sym (walk_stopped [] names start (codes "play") [] rest))
 
 race_fault : (rest : List Text) → fault_of service (codes "race" ∷ rest) ≡ fault_at [] (met (codes "race") rest)
 unfolding clap_on_literals
-race_fault rest = ap₂ fault_at (stopped_fault (built service).top names start (codes "race", []) rest) (sym (walk_stopped [] names start (codes "race") [] rest))
+race_fault rest = ap₂ fault_at (stopped_fault (built service).top names start (codes "race", []) rest)
+    (sym (walk_stopped [] names start (codes "race") [] rest))
 
 render_fault : (rest : List Text) → fault_of service (codes "render" ∷ rest) ≡ fault_at [] (met (codes "render") rest)
 unfolding clap_on_literals
-render_fault rest = ap₂ fault_at (stopped_fault (built service).top names start (codes "render", []) rest) (sym (walk_stopped [] names start (codes "render") [] rest))
+render_fault rest = ap₂ fault_at (stopped_fault (built service).top names start (codes "render", []) rest)
+    (sym (walk_stopped [] names start (codes "render") [] rest))
 
 damage_fault : (rest : List Text) → fault_of service (codes "damage" ∷ rest) ≡ fault_at [] (met (codes "damage") rest)
 unfolding clap_on_literals
-damage_fault rest = ap₂ fault_at (stopped_fault (built service).top names start (codes "damage", []) rest) (sym (walk_stopped [] names start (codes "damage") [] rest))
+damage_fault rest = ap₂ fault_at (stopped_fault (built service).top names start (codes "damage", []) rest)
+    (sym (walk_stopped [] names start (codes "damage") [] rest))
 
 focus_fault : (rest : List Text) → fault_of service (codes "focus" ∷ rest) ≡ fault_at [] (met (codes "focus") rest)
 unfolding clap_on_literals
-focus_fault rest = ap₂ fault_at (stopped_fault (built service).top names start (codes "focus", []) rest) (sym (walk_stopped [] names start (codes "focus") [] rest))
+focus_fault rest = ap₂ fault_at (stopped_fault (built service).top names start (codes "focus", []) rest)
+    (sym (walk_stopped [] names start (codes "focus") [] rest))
 
 pointer_fault : (rest : List Text) → fault_of service (codes "pointer" ∷ rest) ≡ fault_at [] (met (codes "pointer") rest)
 unfolding clap_on_literals
-pointer_fault rest = ap₂ fault_at (stopped_fault (built service).top names start (codes "pointer", []) rest) (sym (walk_stopped [] names start (codes "pointer") [] rest))
+pointer_fault rest = ap₂ fault_at (stopped_fault (built service).top names start (codes "pointer", []) rest)
+    (sym (walk_stopped [] names start (codes "pointer") [] rest))
 
 judge_fault : (rest : List Text) → fault_of service (codes "judge" ∷ rest) ≡ fault_at [] (met (codes "judge") rest)
 unfolding clap_on_literals
-judge_fault rest = ap₂ fault_at (stopped_fault (built service).top names start (codes "judge", []) rest) (sym (walk_stopped [] names start (codes "judge") [] rest))
+judge_fault rest = ap₂ fault_at (stopped_fault (built service).top names start (codes "judge", []) rest)
+    (sym (walk_stopped [] names start (codes "judge") [] rest))
 
 why_fault : (rest : List Text) → fault_of service (codes "why" ∷ rest) ≡ fault_at [] (met (codes "why") rest)
 unfolding clap_on_literals
@@ -125,11 +136,13 @@ why_fault rest = ap₂ fault_at (stopped_fault (built service).top names start (
 
 film_fault : (rest : List Text) → fault_of service (codes "film" ∷ rest) ≡ fault_at [] (met (codes "film") rest)
 unfolding clap_on_literals
-film_fault rest = ap₂ fault_at (stopped_fault (built service).top names start (codes "film", []) rest) (sym (walk_stopped [] names start (codes "film") [] rest))
+film_fault rest = ap₂ fault_at (stopped_fault (built service).top names start (codes "film", []) rest)
+    (sym (walk_stopped [] names start (codes "film") [] rest))
 
 stress_fault : (rest : List Text) → fault_of service (codes "stress" ∷ rest) ≡ fault_at [] (met (codes "stress") rest)
 unfolding clap_on_literals
-stress_fault rest = ap₂ fault_at (stopped_fault (built service).top names start (codes "stress", []) rest) (sym (walk_stopped [] names start (codes "stress") [] rest))
+stress_fault rest = ap₂ fault_at (stopped_fault (built service).top names start (codes "stress", []) rest)
+    (sym (walk_stopped [] names start (codes "stress") [] rest))
 
 -- ---- the words after it
 
@@ -147,7 +160,8 @@ bare name = built_leaf (inherited (built service).top (new_app name).top)
 abbrev load : Shape
 load = built_leaf (inherited (built service).top (with_rule (new_app (codes "stress")) frames).top)
 
-bare_more : (name word : Text) (rest : List Text) → is_option word ≡ false → level_fault (bare name) [] nothing_held (word ∷ rest) false [] ≡ UnknownArgument ∷ []
+bare_more : (name word : Text) (rest : List Text) → is_option word ≡ false
+    → level_fault (bare name) [] nothing_held (word ∷ rest) false [] ≡ UnknownArgument ∷ []
 unfolding walk_fault
 bare_more name word rest plain =
     ap (λ k. level_at (bare name) (or_else k (walk_fault (bare name) [] (walked [] [] start word) rest)) (fold (walked [] []) (walked [] [] start word) rest))
@@ -160,7 +174,8 @@ one word = to_positional load.rules (arg_by_index load.rules 1) word start nothi
 load_one : (word : Text) → is_option word ≡ false → level_fault load [] nothing_held (word ∷ []) false [] ≡ []
 unfolding walk_fault defaults_fault
 load_one word plain =
-    ap₂ (λ (k : Kinds) (w : Walk). level_at load (or_else k []) w) (plain_turn load [] nothing_held 1 word plain refl) (plain_walk load.rules [] nothing_held 1 word plain refl)
+    ap₂ (λ (k : Kinds) (w : Walk). level_at load (or_else k []) w) (plain_turn load [] nothing_held 1 word plain refl)
+    (plain_walk load.rules [] nothing_held 1 word plain refl)
 
 load_two : (word last : Text) (rest : List Text) → is_option word ≡ false → is_option last ≡ false
     → level_fault load [] nothing_held (word ∷ last ∷ rest) false [] ≡ UnknownArgument ∷ []
@@ -168,7 +183,8 @@ unfolding walk_fault defaults_fault
 load_two word last rest plain last_plain =
     ap₂ (λ (k : Kinds) (w : Walk). level_at load (or_else k (walk_fault load [] w (last ∷ rest))) (fold (walked load.rules []) w (last ∷ rest)))
     (plain_turn load [] nothing_held 1 word plain refl) (plain_walk load.rules [] nothing_held 1 word plain refl)
-    ∙ ap (λ k. level_at load (or_else k (walk_fault load [] (walked load.rules [] (one word) last) rest)) (fold (walked load.rules []) (one word) (last ∷ rest)))
+    ∙ ap (λ k. level_at load (or_else k (walk_fault load [] (walked load.rules [] (one word) last) rest))
+    (fold (walked load.rules []) (one word) (last ∷ rest)))
     (plain_turn load [] (one word).held 2 last last_plain refl)
 
 -- ---- the words of each form, and more
@@ -316,7 +332,8 @@ abbrev both : {X : Type 0} → (X → Text) → (X → List Row) → X → Text 
 both name_of rows_of x = (name_of x, rows_of x)
 
 pub told : {X : Type 0} (call : Option X) (name_of : X → Text) (rows_of : X → List Row) (name : Text) (rows : List Row) → Some name ≡ option_map name_of call
-    → Some rows ≡ option_map (λ (p : Text × List Row). p.1) (option_map (both name_of rows_of) call) → option_map (both name_of rows_of) call ≡ Some (name, rows)
+    → Some rows ≡ option_map (λ (p : Text × List Row). p.1) (option_map (both name_of rows_of) call)
+    → option_map (both name_of rows_of) call ≡ Some (name, rows)
 told None name_of rows_of name rows n r = absurd (true≢false (ap is_some n))
 told (Some x) name_of rows_of name rows n r =
     ap₂ (λ (t : Text) (rs : List Row). Some (t, rs)) (sym (ap (λ o. unwrap_or o name) n)) (sym (ap (λ o. unwrap_or o rows) r))

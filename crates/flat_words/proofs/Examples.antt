@@ -29,7 +29,8 @@ load_is_taken : fault_of service (codes "stress" ∷ codes "3" ∷ []) ≡ []
 unfolding clap_on_literals
 load_is_taken = refl
 
-load_has_frames : option_map (λ (call : Text × List Row). first_of (codes "frames") call.1) (subcommand_of service (codes "stress" ∷ codes "3" ∷ [])) ≡ Some (Some (codes "3"))
+load_has_frames : option_map (λ (call : Text × List Row). first_of (codes "frames") call.1) (subcommand_of service (codes "stress" ∷ codes "3" ∷ []))
+    ≡ Some (Some (codes "3"))
 unfolding clap_on_literals
 load_has_frames = refl
 

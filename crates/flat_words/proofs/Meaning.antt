@@ -1,5 +1,6 @@
 -- The command takes the words of each form, and no others that begin with no hyphen.
-use Rattle.std.proofs.Common.{◌≡◌, ◌∙◌, ◌==◌, ◌||◌, ◌≤◌, ◌+◌, ◌/◌, ◌%◌, ℕ, Bool, cond, codes, true, false, refl, sym, ap, subst, arith, List, [], ◌∷◌, Option, Some, None, IsSomeAnd, Decides, decimal, bytes_eq, true≢false, nat_lt, option_map, unwrap_or}
+use Rattle.std.proofs.Common.{◌≡◌, ◌∙◌, ◌==◌, ◌||◌, ◌≤◌, ◌+◌, ◌/◌, ◌%◌, ℕ, Bool, cond, codes, true, false, refl, sym, ap, subst, arith, List, [], ◌∷◌, Option}
+use Rattle.std.proofs.Common.{Some, None, IsSomeAnd, Decides, decimal, bytes_eq, true≢false, nat_lt, option_map, unwrap_or}
 use Rattle.std.specs.List.{list_any}
 use Rattle.std.proofs.lemmas.Bool.{or_parts, ne_eqb}
 use Rattle.std.proofs.lemmas.Slice.Eq.{bytes_eq-Decides}
@@ -11,7 +12,10 @@ use Rattle.flat_words.specs.declared.form.Form.TheVariants.{Play, Race, Stress, 
 use Rattle.flat_words.specs.Command.{IsNamed, service, is_option}
 use Rattle.flat_words.specs.Forms.{CallFor, IsAllowed, words_of}
 use Rattle.clap.specs.declared.error.kind.ErrorKind.TheVariants.{UnknownArgument}
-use Rattle.flat_words.proofs.Calls.{load_only, load_read, load_rows, names, nothing, play_alone, play_called, play_more, race_alone, race_called, race_more, render_alone, render_called, render_more, damage_alone, damage_called, damage_more, focus_alone, focus_called, focus_more, pointer_alone, pointer_called, pointer_more, judge_alone, judge_called, judge_more, why_alone, why_called, why_more, film_alone, film_called, film_more, stray, stress_alone, stress_called, stress_more, stress_one}
+use Rattle.flat_words.proofs.Calls.{load_only, load_read, load_rows, names, nothing, play_alone, play_called, play_more, race_alone, race_called, race_more}
+use Rattle.flat_words.proofs.Calls.{render_alone, render_called, render_more, damage_alone, damage_called, damage_more, focus_alone, focus_called, focus_more}
+use Rattle.flat_words.proofs.Calls.{pointer_alone, pointer_called, pointer_more, judge_alone, judge_called, judge_more, why_alone, why_called, why_more}
+use Rattle.flat_words.proofs.Calls.{film_alone, film_called, film_more, stray, stress_alone, stress_called, stress_more, stress_one}
 
 abbrev is_filled : {X : Type 0} → List X → Bool
 is_filled [] = false
@@ -169,7 +173,8 @@ film_only Film e = refl
 film : Lone (codes "film") Film
 film = record { words = refl; allowed = tt; alone = film_alone; more = film_more; called = film_called; only = film_only }
 
-after_lone : {name : Text} {lone : Form} → Lone name lone → (rest : List Text) → list_any is_option rest ≡ false → fault_of service (name ∷ rest) ≡ [] → (form : Form)
+after_lone : {name : Text} {lone : Form} → Lone name lone → (rest : List Text) → list_any is_option rest ≡ false → fault_of service (name ∷ rest) ≡ []
+    → (form : Form)
     → Names (subcommand_of service (name ∷ rest)) form → CallFor (name ∷ rest) form
 after_lone {name} {lone} is [] plain ok form named =
     subst (CallFor (name ∷ [])) (sym (is.only form (subst (λ o. Names o form) is.called named))) (sym is.words, is.allowed)
@@ -185,10 +190,20 @@ after_stress (word ∷ last ∷ rest) plain ok form named =
     let first = or_parts (is_option word) _ plain in
     absurd (filled (sym (stress_more word last rest first.0 (or_parts (is_option last) _ first.1).0) ∙ ok))
 
-unknown : (word : Text) → bytes_eq (codes "play") word ≡ false → bytes_eq (codes "race") word ≡ false → bytes_eq (codes "stress") word ≡ false → bytes_eq (codes "render") word ≡ false → bytes_eq (codes "damage") word ≡ false → bytes_eq (codes "focus") word ≡ false → bytes_eq (codes "pointer") word ≡ false → bytes_eq (codes "judge") word ≡ false → bytes_eq (codes "why") word ≡ false → bytes_eq (codes "film") word ≡ false
+unknown : (word : Text) → bytes_eq (codes "play") word ≡ false → bytes_eq (codes "race") word ≡ false → bytes_eq (codes "stress") word ≡ false
+    → bytes_eq (codes "render") word ≡ false → bytes_eq (codes "damage") word ≡ false → bytes_eq (codes "focus") word ≡ false
+    → bytes_eq (codes "pointer") word ≡ false → bytes_eq (codes "judge") word ≡ false → bytes_eq (codes "why") word ≡ false
+    → bytes_eq (codes "film") word ≡ false
     → subcommand_met names idle word ≡ None
 unknown word play race stress render damage focus pointer judge why film =
-    λ i. option_map (λ (s : Text × List Text). s.0) (cond (play i || false) (Some (codes "play", [])) (cond (race i || false) (Some (codes "race", [])) (cond (stress i || false) (Some (codes "stress", [])) (cond (render i || false) (Some (codes "render", [])) (cond (damage i || false) (Some (codes "damage", [])) (cond (focus i || false) (Some (codes "focus", [])) (cond (pointer i || false) (Some (codes "pointer", [])) (cond (judge i || false) (Some (codes "judge", [])) (cond (why i || false) (Some (codes "why", [])) (cond (film i || false) (Some (codes "film", [])) None))))))))))
+    λ i. option_map (λ (s : Text × List Text). s.0) (cond (play i || false) (Some (codes "play", []))
+    (cond (race i || false) (Some (codes "race", [])) (cond (stress i || false) (Some (codes "stress", []))
+    (cond (render i || false) (Some (codes "render", []))
+    (cond (damage i || false) (Some (codes "damage", []))
+    (cond (focus i || false) (Some (codes "focus", []))
+    (cond (pointer i || false) (Some (codes "pointer", []))
+    (cond (judge i || false) (Some (codes "judge", []))
+    (cond (why i || false) (Some (codes "why", [])) (cond (film i || false) (Some (codes "film", [])) None))))))))))
 
 -- where no word begins with a hyphen, and the command takes them all, they call for the form that they name
 pub called : (words : List Text) → list_any is_option words ≡ false → fault_of service words ≡ [] → (form : Form)
@@ -197,7 +212,8 @@ called [] plain ok form named = absurd (filled (sym nothing ∙ ok))
 called (word ∷ rest) plain ok form named =
     by_lone play (λ no_play. by_lone race (λ no_race. by_stress (λ no_stress. by_lone render (λ no_render. by_lone damage (λ no_damage.
     by_lone focus (λ no_focus. by_lone pointer (λ no_pointer. by_lone judge (λ no_judge. by_lone why (λ no_why. by_lone film (λ no_film.
-    absurd (filled (sym (stray word rest parts.0 (unknown word no_play no_race no_stress no_render no_damage no_focus no_pointer no_judge no_why no_film)) ∙ ok))))))))))))
+    absurd (filled (sym (stray word rest parts.0 (unknown word no_play no_race no_stress no_render no_damage no_focus no_pointer no_judge no_why no_film))
+    ∙ ok))))))))))))
   where
     parts : (is_option word ≡ false) × (list_any is_option rest ≡ false)
     parts = or_parts (is_option word) _ plain
@@ -206,7 +222,8 @@ called (word ∷ rest) plain ok form named =
     Meant name = fault_of service (name ∷ rest) ≡ [] → Names (subcommand_of service (name ∷ rest)) form → CallFor (name ∷ rest) form
 
     -- the word is that name, or it is left to the later ones
-    by_name : (name : Text) → Meant name → (b : Bool) → bytes_eq name word ≡ b → Decides b (name ≡ word) → (bytes_eq name word ≡ false → CallFor (word ∷ rest) form) → CallFor (word ∷ rest) form
+    by_name : (name : Text) → Meant name → (b : Bool) → bytes_eq name word ≡ b → Decides b (name ≡ word)
+        → (bytes_eq name word ≡ false → CallFor (word ∷ rest) form) → CallFor (word ∷ rest) form
     by_name name meant true e is later = subst Meant (is.0 refl) meant ok named
     by_name name meant false e is later = later e
 
@@ -215,7 +232,8 @@ called (word ∷ rest) plain ok form named =
 
     by_stress : (bytes_eq (codes "stress") word ≡ false → CallFor (word ∷ rest) form) → CallFor (word ∷ rest) form
     by_stress later =
-        by_name (codes "stress") (λ k n. after_stress rest parts.1 k form n) (bytes_eq (codes "stress") word) refl (bytes_eq-Decides (codes "stress") word) later
+        by_name (codes "stress") (λ k n. after_stress rest parts.1 k form n) (bytes_eq (codes "stress") word) refl (bytes_eq-Decides (codes "stress") word)
+        later
 
 -- ---- the words of a form
 

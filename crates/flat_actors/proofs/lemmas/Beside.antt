@@ -47,9 +47,11 @@ record IsSessions (setup : Setup) (entry : Entry) : Type 0 where
 abbrev is_first : Entry → Bool
 is_first entry = seat_number entry.actor == 0
 
-sessions_entry : (setup : Setup) (entry : Entry) (actor : Actor) → entry.actor ≡ actor → may_act setup entry.kind entry.actor ≡ true → is_first entry ≡ false → IsSessions setup entry
+sessions_entry : (setup : Setup) (entry : Entry) (actor : Actor) → entry.actor ≡ actor → may_act setup entry.kind entry.actor ≡ true → is_first entry ≡ false
+    → IsSessions setup entry
 sessions_entry setup entry Display is acts other = absurd (let both : true ≡ false = sym (ap (λ a. seat_number a == 0) is) ∙ other in cc)
-sessions_entry setup entry (Session s) is acts other = record { other = ap is_display is; may = and-left (session_may entry.kind) (is_declared setup s) (sym (ap (may_act setup entry.kind) is) ∙ acts) }
+sessions_entry setup entry (Session s) is acts other =
+    record { other = ap is_display is; may = and-left (session_may entry.kind) (is_declared setup s) (sym (ap (may_act setup entry.kind) is) ∙ acts) }
 sessions_entry setup entry (Probe p) is acts other = absurd (let both : false ≡ true = sym (ap (may_act setup entry.kind) is) ∙ acts in cc)
 
 module _ (setup : Setup) where
@@ -65,9 +67,12 @@ module _ (setup : Setup) where
         begun = rw begins refl;
         ended = rw finishes refl;
         number = rw finishes refl;
-        finishing = ap (λ b. finished setup before ++ cond b (frame_at setup (suc (frames before)) (to_begin before) ∷ []) []) finishes ∙ append-nil (finished setup before);
-        publishing = ap (λ b. published_frames setup before ++ cond b (shown_frame setup (suc (frames before)) (to_begin before) ∷ []) []) finishes ∙ append-nil (published_frames setup before);
-        answering = ap (λ (more : List HitAnswer). answers_of setup before ++ more) (not_hit entry (frames before) (hits_at setup (to_finished before)) entry.kind is.may) ∙ append-nil (answers_of setup before);
+        finishing = ap (λ b. finished setup before ++ cond b (frame_at setup (suc (frames before)) (to_begin before) ∷ []) []) finishes
+            ∙ append-nil (finished setup before);
+        publishing = ap (λ b. published_frames setup before ++ cond b (shown_frame setup (suc (frames before)) (to_begin before) ∷ []) []) finishes
+            ∙ append-nil (published_frames setup before);
+        answering = ap (λ (more : List HitAnswer). answers_of setup before ++ more)
+            (not_hit entry (frames before) (hits_at setup (to_finished before)) entry.kind is.may) ∙ append-nil (answers_of setup before);
       }
 
   beside_both : (before middle after : List Entry) → IsBeside setup before middle → IsBeside setup middle after → IsBeside setup before after
@@ -84,10 +89,22 @@ module _ (setup : Setup) where
   }
 
   pub beside_none : (before : List Entry) → IsBeside setup before before
-  beside_none before = record { display = refl; is_open = refl; time = refl; begun = refl; ended = refl; number = refl; finishing = refl; publishing = refl; answering = refl }
+  beside_none before = record {
+    display = refl;
+    is_open = refl;
+    time = refl;
+    begun = refl;
+    ended = refl;
+    number = refl;
+    finishing = refl;
+    publishing = refl;
+    answering = refl;
+  }
 
-  others : (entry : Entry) (later : List Entry) (b : Bool) → is_first entry ≡ b → filter is_first (entry ∷ later) ≡ [] → (is_first entry ≡ false) × (filter is_first later ≡ [])
-  others entry later true is none = absurd (let both : entry ∷ filter is_first later ≡ [] = sym (ap (λ b. cond b (entry ∷ filter is_first later) (filter is_first later)) is) ∙ none in cc)
+  others : (entry : Entry) (later : List Entry) (b : Bool) → is_first entry ≡ b → filter is_first (entry ∷ later) ≡ []
+      → (is_first entry ≡ false) × (filter is_first later ≡ [])
+  others entry later true is none = absurd (let both : entry ∷ filter is_first later ≡ [] =
+      sym (ap (λ b. cond b (entry ∷ filter is_first later) (filter is_first later)) is) ∙ none in cc)
   others entry later false is none = (is, sym (ap (λ b. cond b (entry ∷ filter is_first later) (filter is_first later)) is) ∙ none)
 
   -- nor does a list of such entries
@@ -95,7 +112,8 @@ module _ (setup : Setup) where
   beside [] before legal none = beside_none before
   beside (entry ∷ later) before legal none =
       let rest = others entry later (is_first entry) refl none in
-      beside_both before (later ++ before) ((entry ∷ later) ++ before) (beside later before legal.0 rest.1) (one_beside (later ++ before) entry (sessions_entry setup entry entry.actor refl legal.1.may.acts rest.0))
+      beside_both before (later ++ before) ((entry ∷ later) ++ before) (beside later before legal.0 rest.1)
+      (one_beside (later ++ before) entry (sessions_entry setup entry entry.actor refl legal.1.may.acts rest.0))
 
   -- ---- journals, which have the oldest entry first
 
@@ -106,13 +124,15 @@ module _ (setup : Setup) where
       ap (filter is_first) (reverse-append (entry ∷ []) later) ∙ filter-append is_first (reverse later) (entry ∷ [])
       ∙ ap (λ (es : List Entry). es ++ filter is_first (entry ∷ [])) (none_reversed later rest.1) ∙ ap (λ b. cond b (entry ∷ []) []) rest.0
 
-  pub seen_beside : (seen more : List Entry) → Legal setup (history_of (seen ++ more)) → entries_of_seat 0 (seen ++ more) ≡ entries_of_seat 0 seen → IsBeside setup (history_of seen) (history_of (seen ++ more))
+  pub seen_beside : (seen more : List Entry) → Legal setup (history_of (seen ++ more)) → entries_of_seat 0 (seen ++ more) ≡ entries_of_seat 0 seen
+      → IsBeside setup (history_of seen) (history_of (seen ++ more))
   seen_beside seen more legal same =
       let parts : history_of (seen ++ more) ≡ reverse more ++ reverse seen = reverse-append seen more in
       let L : List Entry → Type 0 = Legal setup in
       let B : List Entry → Type 0 = IsBeside setup (history_of seen) in
       let none : filter is_first more ≡ [] =
-      append_cancel_left (filter is_first seen) (filter is_first more) [] (sym (filter-append is_first seen more) ∙ same ∙ sym (append-nil (filter is_first seen))) in
+      append_cancel_left (filter is_first seen) (filter is_first more) []
+      (sym (filter-append is_first seen more) ∙ same ∙ sym (append-nil (filter is_first seen))) in
       subst B (sym parts) (beside (reverse more) (reverse seen) (subst L parts legal) (none_reversed more none))
 
 -- what others entered before an entry of the display
@@ -121,17 +141,20 @@ pub record HasEntered (setup : Setup) (seen : List Entry) (entry : Entry) (seen_
   pub grown : history_of seen_then ≡ (middle ▹ entry)
   pub beside : IsBeside setup (history_of seen) middle
 
-pub has_entered : (setup : Setup) (seen mine : List Entry) (entry : Entry) (seen_then mine_then : List Entry) → is_first entry ≡ true → mine ≡ entries_of_seat 0 seen → MakesOne setup 0 seen mine entry seen_then mine_then → HasEntered setup seen entry seen_then
+pub has_entered : (setup : Setup) (seen mine : List Entry) (entry : Entry) (seen_then mine_then : List Entry) → is_first entry ≡ true
+    → mine ≡ entries_of_seat 0 seen → MakesOne setup 0 seen mine entry seen_then mine_then → HasEntered setup seen entry seen_then
 has_entered setup seen mine entry seen_then mine_then first own one =
     let all : List Entry = seen ++ one.between in
     let grown : history_of seen_then ≡ (history_of all ▹ entry) = ap history_of one.longer ∙ reverse-append all (entry ∷ []) in
     let L : List Entry → Type 0 = Legal setup in
     let last : filter is_first (entry ∷ []) ≡ entry ∷ [] = ap (λ b. cond b (entry ∷ []) []) first in
-    let split : filter is_first (all ++ entry ∷ []) ≡ filter is_first all ++ entry ∷ [] = filter-append is_first all (entry ∷ []) ∙ ap (λ (es : List Entry). filter is_first all ++ es) last in
+    let split : filter is_first (all ++ entry ∷ []) ≡ filter is_first all ++ entry ∷ [] =
+    filter-append is_first all (entry ∷ []) ∙ ap (λ (es : List Entry). filter is_first all ++ es) last in
     let both : filter is_first all ++ entry ∷ [] ≡ filter is_first seen ++ entry ∷ [] =
     sym split ∙ sym (ap (filter is_first) one.longer) ∙ sym one.whole ∙ one.one_more ∙ ap (λ (es : List Entry). es ++ entry ∷ []) own in
     record {
       middle = history_of all;
       grown = grown;
-      beside = seen_beside setup seen one.between (subst L grown one.legal).0 (append_cancel_right (filter is_first all) (filter is_first seen) (entry ∷ []) both);
+      beside = seen_beside setup seen one.between (subst L grown one.legal).0
+          (append_cancel_right (filter is_first all) (filter is_first seen) (entry ∷ []) both);
     }

@@ -24,10 +24,12 @@ module _ (script : Script) (place : ℕ) (before after : List Entry) (same : IsB
       record {
         follows = subst F (sym same.display) stands.follows;
         left = ap (λ es. unread_lines es (display_lines script.lines)) same.display ∙ stands.left;
-        closing = ap (λ o. frames_close o (begin_time after) (drop place script.lines)) same.is_open ∙ ap (λ t. frames_close (is_frame_open before) t (drop place script.lines)) same.time ∙ stands.closing;
+        closing = ap (λ o. frames_close o (begin_time after) (drop place script.lines)) same.is_open
+            ∙ ap (λ t. frames_close (is_frame_open before) t (drop place script.lines)) same.time ∙ stands.closing;
       }
 
-pub answers_same : (setup : Setup) (before after : List Entry) (last : LastFrame) (answers : List HitAnswer) → IsBeside setup before after → AnswersStand setup before last answers → AnswersStand setup after last answers
+pub answers_same : (setup : Setup) (before after : List Entry) (last : LastFrame) (answers : List HitAnswer) → IsBeside setup before after
+    → AnswersStand setup before last answers → AnswersStand setup after last answers
 answers_same setup before after last answers same stands = record {
   number = stands.number ∙ sym same.number;
   is_last = stands.is_last;

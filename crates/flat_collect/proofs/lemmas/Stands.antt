@@ -1,5 +1,6 @@
 -- A graph that stands for a draft unfolds to the draft's tree, and has a cycle where the draft has one.
-use Rattle.std.proofs.Common.{ℕ, zero, suc, ◌+◌, ◌<◌, ◌≤◌, ◌≡◌, refl, sym, ◌∙◌, ap, subst, Bool, true, false, List, [], ◌∷◌, ◌++◌, map, Option, Some, None, IsSome, slice_get, arith}
+use Rattle.std.proofs.Common.{ℕ, zero, suc, ◌+◌, ◌<◌, ◌≤◌, ◌≡◌, refl, sym, ◌∙◌, ap, subst, Bool, true, false, List, [], ◌∷◌, ◌++◌, map, Option, Some, None}
+use Rattle.std.proofs.Common.{IsSome, slice_get, arith}
 use Rattle.std.specs.Prelude.{option_to_list}
 use Rattle.std.specs.List.{Contains}
 use Rattle.std.specs.Option.{option_map, option_and_then}
@@ -51,7 +52,8 @@ Agrees viewport forest levels (Some all) = (node_count all ≡ size forest) × (
 Agrees viewport forest levels None = levels < height forest
 
 -- the nodes of one more key, and what is below it
-agree-more : (viewport : ℕ → Option ℕ) (levels key : ℕ) (below after : Forest) (make : Children → Node) → ((children : Children) → (make children).children ≡ children)
+agree-more : (viewport : ℕ → Option ℕ) (levels key : ℕ) (below after : Forest) (make : Children → Node)
+    → ((children : Children) → (make children).children ≡ children)
     → ((children : Children) → scene.viewport_in (make children).content ≡ option_to_list (viewport key))
     → (first rest : Option Children) → Agrees viewport below levels first → Agrees viewport after (suc levels) rest
     → Agrees viewport (tree key below after) (suc levels) (option_and_then (λ n. option_map (more n) rest) (option_map make first))
@@ -103,24 +105,32 @@ module _ (graph : GraphState) (draft : Draft) (s : StandsFor graph draft) where
   unfolding unfolded
   nodes-agree levels is_root [] kept = (refl, refl, omega arith)
   nodes-agree zero is_root (key ∷ keys) kept = omega arith
-  nodes-agree (suc levels) is_root (key ∷ keys) kept = by_node (node_at graph key) refl kept.0 (nodes-agree (suc levels) is_root keys kept.1) (nodes-agree levels false)
+  nodes-agree (suc levels) is_root (key ∷ keys) kept =
+      by_node (node_at graph key) refl kept.0 (nodes-agree (suc levels) is_root keys kept.1) (nodes-agree levels false)
     where
       by_node : (x : Option GraphNode) → node_at graph key ≡ x → IsSome x
-          → Agrees (viewport_in graph) (unfolded (links_in graph) (suc (suc levels)) keys) (suc levels) (each (node_within (suc levels) draft is_root) (map (serial_at graph) keys))
-          → ((ks : List ℕ) → Each (IsKept graph.nodes) ks → Agrees (viewport_in graph) (unfolded (links_in graph) (suc levels) ks) levels (each (node_within levels draft false) (map (serial_at graph) ks)))
-          → Agrees (viewport_in graph) (unfolded (links_in graph) (suc (suc levels)) (key ∷ keys)) (suc levels) (each (node_within (suc levels) draft is_root) (map (serial_at graph) (key ∷ keys)))
+          → Agrees (viewport_in graph) (unfolded (links_in graph) (suc (suc levels)) keys) (suc levels)
+          (each (node_within (suc levels) draft is_root) (map (serial_at graph) keys))
+          → ((ks : List ℕ) → Each (IsKept graph.nodes) ks → Agrees (viewport_in graph) (unfolded (links_in graph) (suc levels) ks) levels
+          (each (node_within levels draft false) (map (serial_at graph) ks)))
+          → Agrees (viewport_in graph) (unfolded (links_in graph) (suc (suc levels)) (key ∷ keys)) (suc levels)
+          (each (node_within (suc levels) draft is_root) (map (serial_at graph) (key ∷ keys)))
       by_node None e some rest lower = absurd (cc)
       by_node (Some n) e some rest lower =
           let links : links_in graph key ≡ n.children = rw e refl in
           let serial : serial_at graph key ≡ n.serial = ap node_serial e in
-          let there : of_serial draft.transforms (serial_at graph key) ≡ Some (as_transform graph n) = ap (of_serial draft.transforms) serial ∙ s.nodes key n e in
+          let there : of_serial draft.transforms (serial_at graph key) ≡ Some (as_transform graph n) =
+          ap (of_serial draft.transforms) serial ∙ s.nodes key n e in
           let first = lower n.children (each-contained (IsKept graph.nodes) n.children (s.sound.children_kept key n e)) in
           rw (there)
-          (agree-more (viewport_in graph) levels key (unfolded (links_in graph) (suc levels) (links_in graph key)) (unfolded (links_in graph) (suc (suc levels)) keys)
+          (agree-more (viewport_in graph) levels key (unfolded (links_in graph) (suc levels) (links_in graph key))
+          (unfolded (links_in graph) (suc (suc levels)) keys)
           (node draft is_root (serial_at graph key) (as_transform graph n)) (λ children. refl)
           (λ children. viewport-stands n n.content (λ it e'. s.contents key n it e e') ∙ ap (λ (x : Option GraphNode). option_to_list (viewport_of x)) (sym e))
-          (each (node_within levels draft false) (map (serial_at graph) n.children)) (each (node_within (suc levels) draft is_root) (map (serial_at graph) keys))
-          (subst (λ (ks : List ℕ). Agrees (viewport_in graph) (unfolded (links_in graph) (suc levels) ks) levels (each (node_within levels draft false) (map (serial_at graph) n.children))) (sym links) first)
+          (each (node_within levels draft false) (map (serial_at graph) n.children))
+          (each (node_within (suc levels) draft is_root) (map (serial_at graph) keys))
+          (subst (λ (ks : List ℕ). Agrees (viewport_in graph) (unfolded (links_in graph) (suc levels) ks) levels
+          (each (node_within levels draft false) (map (serial_at graph) n.children))) (sym links) first)
           rest)
 
   -- ---- cycles

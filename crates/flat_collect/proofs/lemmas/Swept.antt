@@ -21,7 +21,8 @@ leaves-reached old new swept = record {
   no_other = swept.no_other;
   root = λ key root. reached-start old key (inl root);
   names = λ id key named. reached-start old key (inr (id, named));
-  children = λ key node there reached child has. reached-child old key child reached (let links : links_in old key ≡ node.children = ap links_of there in rw links has);
+  children = λ key node there reached child has. reached-child old key child reached
+      (let links : links_in old key ≡ node.children = ap links_of there in rw links has);
 }
 
 swept-stands : (old new : GraphState) → IsSwept old new → (draft : Draft) → StandsFor old draft → StandsFor new draft
@@ -32,17 +33,20 @@ module _ (old new : GraphState) (swept : IsSwept old new) where
   links-same : (key : ℕ) → IsReached old key → links_in new key ≡ links_in old key
   links-same key reached = ap links_of (swept.kept key reached)
 
-  unfolds-same : (levels : ℕ) (keys : List ℕ) → ((key : ℕ) → Contains keys key → IsReached old key) → unfolded (links_in new) levels keys ≡ unfolded (links_in old) levels keys
+  unfolds-same : (levels : ℕ) (keys : List ℕ) → ((key : ℕ) → Contains keys key → IsReached old key)
+      → unfolded (links_in new) levels keys ≡ unfolded (links_in old) levels keys
   unfolding unfolded
   unfolds-same zero keys reached = refl
   unfolds-same (suc levels) [] reached = refl
   unfolds-same (suc levels) (key ∷ keys) reached =
       let first : IsReached old key = reached key (0, omega arith, refl) in
       let below : unfolded (links_in new) levels (links_in new key) ≡ unfolded (links_in old) levels (links_in old key) =
-      ap (unfolded (links_in new) levels) (links-same key first) ∙ unfolds-same levels (links_in old key) (λ child has. reached-child old key child first has) in
+      ap (unfolded (links_in new) levels) (links-same key first)
+      ∙ unfolds-same levels (links_in old key) (λ child has. reached-child old key child first has) in
       let after : unfolded (links_in new) (suc levels) keys ≡ unfolded (links_in old) (suc levels) keys =
       unfolds-same (suc levels) keys (λ k has. reached k (suc has.0, omega (arith, has.1), has.2)) in
-      ap (λ (forest : Forest). tree key forest (unfolded (links_in new) (suc levels) keys)) below ∙ ap (λ (forest : Forest). tree key (unfolded (links_in old) levels (links_in old key)) forest) after
+      ap (λ (forest : Forest). tree key forest (unfolded (links_in new) (suc levels) keys)) below
+      ∙ ap (λ (forest : Forest). tree key (unfolded (links_in old) levels (links_in old key)) forest) after
 
   root-reached : (key : ℕ) → Contains (option_to_list old.root) key → IsReached old key
   root-reached key has = reached-start old key (inl (listed-root old.root key has))

@@ -4,7 +4,9 @@ use Rattle.std.specs.Prelude.{nat_lt, option_to_list}
 use Rattle.std.specs.Option.{option_map}
 use Rattle.std.proofs.lemmas.Bool.Decides.{nat_tests}
 use Rattle.flat_base.specs.declared.errors.Reason.{Reason}
-use Rattle.flat_base.specs.declared.errors.Reason.TheVariants.{ZeroId, IdInUse, UnknownTransform, UnknownContent, WrongContent, AlreadyChild, NotChild, BadScale, BadOpacity, BadRect, BadSize, BadBuffer, TooManyRegions, HasView, NoView, TokenNotHeld, Cycle, TreeTooLarge, ViewportTwice, TooManyNamed, TooManyChildren, TooManyFences}
+use Rattle.flat_base.specs.declared.errors.Reason.TheVariants.{ZeroId, IdInUse, UnknownTransform, UnknownContent, WrongContent, AlreadyChild, NotChild}
+use Rattle.flat_base.specs.declared.errors.Reason.TheVariants.{BadScale, BadOpacity, BadRect, BadSize, BadBuffer, TooManyRegions, HasView, NoView, TokenNotHeld}
+use Rattle.flat_base.specs.declared.errors.Reason.TheVariants.{Cycle, TreeTooLarge, ViewportTwice, TooManyNamed, TooManyChildren, TooManyFences}
 use Rattle.flat_base.specs.declared.limits.TheConstants.{TREE_NODES_MAX, PATH_NODES_MAX}
 use Rattle.flat_scene.specs.declared.trees.Children.{Children}
 use Rattle.flat_scene.specs.Cycles.{HasCycle}
@@ -22,14 +24,16 @@ use Rattle.flat_collect.specs.Laws.{VerdictStands, Presents}
 use Rattle.flat_collect.proofs.lemmas.Stands.{Each, Agrees, nodes-agree, cycle-up, cycle-down}
 
 -- what a forest says of the nodes with which it agrees
-large-same : (viewport : ℕ → Option ℕ) (forest : Forest) (all : Option Children) → Agrees viewport forest PATH_NODES_MAX all → scene.is_too_large all ≡ is_too_large forest
+large-same : (viewport : ℕ → Option ℕ) (forest : Forest) (all : Option Children) → Agrees viewport forest PATH_NODES_MAX all
+    → scene.is_too_large all ≡ is_too_large forest
 large-same viewport forest None agrees = by_test (nat_lt TREE_NODES_MAX (size forest)) (nat_lt PATH_NODES_MAX (height forest)) (grind (arith, nat_tests))
   where
     by_test : (b c : Bool) → c ≡ true → true ≡ b || c
     by_test true c e = refl
     by_test false c e = sym e
 large-same viewport forest (Some all) agrees =
-    ap (nat_lt TREE_NODES_MAX) agrees.0 ∙ by_test (nat_lt TREE_NODES_MAX (size forest)) (nat_lt PATH_NODES_MAX (height forest)) (grind (arith, nat_tests, agrees.2))
+    ap (nat_lt TREE_NODES_MAX) agrees.0 ∙ by_test (nat_lt TREE_NODES_MAX (size forest)) (nat_lt PATH_NODES_MAX (height forest))
+    (grind (arith, nat_tests, agrees.2))
   where
     by_test : (b c : Bool) → c ≡ false → b ≡ b || c
     by_test true c e = refl
@@ -52,17 +56,24 @@ module _ (graph : GraphState) (draft : Draft) (s : StandsFor graph draft) where
   agrees : Agrees (viewport_in graph) (graph_tree graph) PATH_NODES_MAX (all_nodes draft)
   agrees =
       subst (λ (serials : List ℕ). Agrees (viewport_in graph) (graph_tree graph) PATH_NODES_MAX (each (node_within PATH_NODES_MAX draft true) serials))
-      (start-map graph.root ∙ ap (option_to_list {X = ℕ}) s.root) (nodes-agree graph draft s PATH_NODES_MAX true (option_to_list graph.root) (start-each graph.root refl))
+      (start-map graph.root ∙ ap (option_to_list {X = ℕ}) s.root)
+      (nodes-agree graph draft s PATH_NODES_MAX true (option_to_list graph.root) (start-each graph.root refl))
 
   cyclic-up : IsCyclic graph → is_cyclic draft ≡ true
   cyclic-up (root, e, cycle) =
-      (cycle-is-reached draft).1 (serial_at graph root, sym s.root ∙ ap (option_map (serial_at graph)) e, cycle-up graph draft s root (s.sound.root_kept root e) cycle)
+      (cycle-is-reached draft).1 (
+        serial_at graph root,
+        sym s.root
+            ∙ ap (option_map (serial_at graph)) e,
+        cycle-up graph draft s root (s.sound.root_kept root e) cycle,
+      )
 
   cyclic-down : is_cyclic draft ≡ true → IsCyclic graph
   cyclic-down e = by_root graph.root refl ((cycle-is-reached draft).0 e)
     where
       by_root : (x : Option ℕ) → graph.root ≡ x → (root : ℕ) × (draft.root ≡ Some root) × HasCycle (children_at draft) root → IsCyclic graph
-      by_root None f (root, is, cycle) = absurd (let no : ◌≡◌ {A = Option ℕ} None (Some root) = sym (sym s.root ∙ ap (option_map (serial_at graph)) f) ∙ is in cc)
+      by_root None f (root, is, cycle) = absurd (let no : ◌≡◌ {A = Option ℕ} None (Some root) = sym (sym s.root ∙ ap (option_map (serial_at graph)) f) ∙ is in
+          cc)
       by_root (Some key) f (root, is, cycle) =
           let both : Some (serial_at graph key) ≡ Some root = sym (sym s.root ∙ ap (option_map (serial_at graph)) f) ∙ is in
           let same : root ≡ serial_at graph key = cc in

@@ -1,13 +1,19 @@
 -- The calls on transforms and on the view leave what a table stands for.
 use Rattle.std.proofs.Common.{◌≡◌, refl}
-use Rattle.flat_scene.specs.declared.calls.Call.TheVariants.{CreateView, ReleaseView, CreateTransform, ReleaseTransform, SetTranslation, SetOrientation, SetScale, SetOpacity, SetClipBoundary, AddChild, RemoveChild, ReplaceChildren, SetRootTransform, CreateViewport, SetViewportProperties, ReleaseViewport, CreateImage, SetImageSampleRegion, SetImageDestinationSize, SetImageBlendingFunction, SetImageFlip, SetImageOpacity, ReleaseImage, CreateFilledRect, SetSolidFill, ReleaseFilledRect, SetHitRegions, SetInfiniteHitRegion, SetContent, Clear}
+use Rattle.flat_scene.specs.declared.calls.Call.TheVariants.{CreateView, ReleaseView, CreateTransform, ReleaseTransform, SetTranslation, SetOrientation}
+use Rattle.flat_scene.specs.declared.calls.Call.TheVariants.{SetScale, SetOpacity, SetClipBoundary, AddChild, RemoveChild, ReplaceChildren, SetRootTransform}
+use Rattle.flat_scene.specs.declared.calls.Call.TheVariants.{CreateViewport, SetViewportProperties, ReleaseViewport, CreateImage, SetImageSampleRegion}
+use Rattle.flat_scene.specs.declared.calls.Call.TheVariants.{SetImageDestinationSize, SetImageBlendingFunction, SetImageFlip, SetImageOpacity, ReleaseImage}
+use Rattle.flat_scene.specs.declared.calls.Call.TheVariants.{CreateFilledRect, SetSolidFill, ReleaseFilledRect, SetHitRegions, SetInfiniteHitRegion, SetContent}
+use Rattle.flat_scene.specs.declared.calls.Call.TheVariants.{Clear}
 use Rattle.flat_scene.specs.declared.setup.Setup.{Setup}
 use Rattle.flat_scene.specs.Draft.{Draft}
 use Rattle.flat_content.specs.Laws.{OtherCallsStand}
 use Rattle.flat_content.specs.Stands.{StandsFor}
 use Rattle.flat_content.specs.Table.{TableState}
 
-same-parts : (setup : Setup) (table : TableState) (draft after : Draft) → StandsFor setup table draft → draft.contents ≡ after.contents → draft.content_names ≡ after.content_names → draft.viewports ≡ after.viewports
+same-parts : (setup : Setup) (table : TableState) (draft after : Draft) → StandsFor setup table draft → draft.contents ≡ after.contents
+    → draft.content_names ≡ after.content_names → draft.viewports ≡ after.viewports
     → StandsFor setup table after
 same-parts setup table draft after s contents names viewports = record {
   sound = s.sound;

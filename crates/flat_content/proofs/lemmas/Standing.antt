@@ -1,5 +1,6 @@
 -- Each call on a table that stands for a draft has the draft's reasons, and leaves a table that stands for the draft after it.
-use Rattle.std.proofs.Common.{ℕ, ◌+◌, ◌-◌, ◌≤◌, ◌≡◌, ◌≢◌, refl, sym, ◌∙◌, ap, subst, Bool, true, false, cond, not, List, [], ◌∷◌, ◌++◌, map, length, length-append, slice_get, Option, Some, None, IsSome, unwrap_or, arith}
+use Rattle.std.proofs.Common.{ℕ, ◌+◌, ◌-◌, ◌≤◌, ◌≡◌, ◌≢◌, refl, sym, ◌∙◌, ap, subst, Bool, true, false, cond, not, List, [], ◌∷◌, ◌++◌, map, length}
+use Rattle.std.proofs.Common.{length-append, slice_get, Option, Some, None, IsSome, unwrap_or, arith}
 use Rattle.std.proofs.lemmas.List.{length-map, map-append}
 use Rattle.std.specs.Prelude.{◌==◌, ◌||◌, is_some, is_none, nat_lt}
 use Rattle.std.specs.List.{filter_map}
@@ -11,7 +12,9 @@ use Rattle.flat_base.specs.declared.errors.Reason.{Reason}
 use Rattle.flat_base.specs.declared.errors.Reason.TheVariants.{ZeroId, IdInUse, UnknownContent, WrongContent, BadOpacity, BadRect, BadSize, BadBuffer}
 use Rattle.flat_base.specs.declared.limits.TheConstants.{OPACITY_MAX}
 use Rattle.flat_scene.specs.declared.calls.Call.{Call}
-use Rattle.flat_scene.specs.declared.calls.Call.TheVariants.{CreateViewport, SetViewportProperties, ReleaseViewport, CreateImage, SetImageSampleRegion, SetImageDestinationSize, SetImageBlendingFunction, SetImageFlip, SetImageOpacity, CreateFilledRect, SetSolidFill, ReleaseFilledRect, Clear}
+use Rattle.flat_scene.specs.declared.calls.Call.TheVariants.{CreateViewport, SetViewportProperties, ReleaseViewport, CreateImage, SetImageSampleRegion}
+use Rattle.flat_scene.specs.declared.calls.Call.TheVariants.{SetImageDestinationSize, SetImageBlendingFunction, SetImageFlip, SetImageOpacity, CreateFilledRect}
+use Rattle.flat_scene.specs.declared.calls.Call.TheVariants.{SetSolidFill, ReleaseFilledRect, Clear}
 use Rattle.flat_scene.specs.declared.calls.Inset.{Inset}
 use Rattle.flat_scene.specs.declared.calls.ViewportProps.{ViewportProps}
 use Rattle.flat_scene.specs.declared.setup.Setup.{Setup}
@@ -20,7 +23,8 @@ use Rattle.flat_scene.specs.Draft as scene
 use Rattle.flat_scene.specs.Draft.{Draft, Made, Name, an_image, a_fill, named, without_name, of_serial, changed_at, content_of, made_of}
 use Rattle.flat_scene.specs.Effect as effect
 use Rattle.flat_scene.specs.Effect.{effect, changed_if, on_fill, with_made, with_content}
-use Rattle.flat_scene.specs.Misuse.{Test, misuse, first_reason, is_bad_image, is_bad_index, is_bad_rect, is_bad_side, is_fill, is_image, is_viewport, leaves_made}
+use Rattle.flat_scene.specs.Misuse.{Test, misuse, first_reason, is_bad_image, is_bad_index, is_bad_rect, is_bad_side, is_fill, is_image, is_viewport}
+use Rattle.flat_scene.specs.Misuse.{leaves_made}
 use Rattle.flat_scene.specs.Tree.{content_held, shown_content, use_in, use_of}
 use Rattle.flat_graph.specs.declared.names.Named.{Named}
 use Rattle.flat_graph.specs.Names.{key_named, names_but}
@@ -32,7 +36,8 @@ use Rattle.flat_graph.proofs.lemmas.NameLemmas.{named-with, length-with, named-b
 use Rattle.flat_content.specs.declared.stored.Stored.{Stored}
 use Rattle.flat_content.specs.declared.stored.StoredImage.{StoredImage}
 use Rattle.flat_content.specs.declared.stored.Stored.TheVariants.{Image, Fill, Viewport}
-use Rattle.flat_content.specs.Table.{TableState, as_made, change_named, cleared, content_at, held_at, held_of, in_use, made_at, change_at, made_named, new_image, on_image, on_viewport, released, use_at, viewport_released, with_stored}
+use Rattle.flat_content.specs.Table.{TableState, as_made, change_named, cleared, content_at, held_at, held_of, in_use, made_at, change_at, made_named}
+use Rattle.flat_content.specs.Table.{new_image, on_image, on_viewport, released, use_at, viewport_released, with_stored}
 use Rattle.flat_content.proofs.Soundness.{sound-released, sound-added, sound-changed, change-length}
 use Rattle.flat_content.proofs.Serials.{of_serial-some}
 use Rattle.flat_content.specs.Reasons.{create_tests, image_tests, new_tests, properties_tests, room_tests, sort_tests, solid_tests, viewport_tests}
@@ -54,14 +59,17 @@ first-none true reason rest e = absurd (cc)
 first-none false reason rest e = (refl, e)
 
 -- a change of one content, in the table and in the draft
-changed-made : (serial : ℕ) (f : Stored → Stored) (g : Made → Made) (contents : List Stored) (stored : Stored) → of_serial contents serial ≡ Some stored → as_made (f stored) ≡ g (as_made stored)
+changed-made : (serial : ℕ) (f : Stored → Stored) (g : Made → Made) (contents : List Stored) (stored : Stored) → of_serial contents serial ≡ Some stored
+    → as_made (f stored) ≡ g (as_made stored)
     → map as_made (changed_at serial f contents) ≡ changed_at serial g (map as_made contents)
 changed-made serial f g [] stored e same = absurd (cc)
 changed-made serial f g (x ∷ xs) stored e same = by_test (serial == 1) e (changed-made (serial - 1) f g xs stored)
   where
     by_test : (b : Bool) → cond b (Some x) (of_serial xs (serial - 1)) ≡ Some stored
-        → (of_serial xs (serial - 1) ≡ Some stored → as_made (f stored) ≡ g (as_made stored) → map as_made (changed_at (serial - 1) f xs) ≡ changed_at (serial - 1) g (map as_made xs))
-        → map as_made (cond b (f x ∷ xs) (x ∷ changed_at (serial - 1) f xs)) ≡ cond b (g (as_made x) ∷ map as_made xs) (as_made x ∷ changed_at (serial - 1) g (map as_made xs))
+        → (of_serial xs (serial - 1) ≡ Some stored → as_made (f stored) ≡ g (as_made stored)
+        → map as_made (changed_at (serial - 1) f xs) ≡ changed_at (serial - 1) g (map as_made xs))
+        → map as_made (cond b (f x ∷ xs) (x ∷ changed_at (serial - 1) f xs))
+        ≡ cond b (g (as_made x) ∷ map as_made xs) (as_made x ∷ changed_at (serial - 1) g (map as_made xs))
     by_test true is more = let it : x ≡ stored = cc in ap (λ (m : Made). m ∷ map as_made xs) (rw it same)
     by_test false is more = ap (λ (rest : List Made). as_made x ∷ rest) (more is same)
 
@@ -108,7 +116,8 @@ module _ (setup : Setup) (table : TableState) (draft : Draft) (s : StandsFor set
         let fewer = length-but c.0 table.names s.sound.rising in
         let fewer' = length-without c.0 draft.content_names s.once in
         let counted : length table.names ≡ length draft.content_names = s.count in
-        equal-rest (is_some (key_named table.names c.0)) (is_some (named draft.content_names c.0)) (length (names_but c.0 table.names)) (length (without_name c.0 draft.content_names)) same
+        equal-rest (is_some (key_named table.names c.0)) (is_some (named draft.content_names c.0)) (length (names_but c.0 table.names))
+        (length (without_name c.0 draft.content_names)) same
         (fewer ∙ counted ∙ sym fewer');
     once = once-without c.0 draft.content_names s.once;
     viewports = s.viewports;
@@ -128,7 +137,8 @@ module _ (setup : Setup) (table : TableState) (draft : Draft) (s : StandsFor set
 
   -- one content more
   stands-added : (c : ContentId) (stored : Stored) (viewports : List ℕ) → c.0 ≢ 0 → key_named table.names c.0 ≡ None
-      → in_use stored (length table.contents + 1) table.viewports ≡ viewports → StandsFor setup (with_stored table c.0 stored) (record (with_made draft c (as_made stored)) { viewports = viewports })
+      → in_use stored (length table.contents + 1) table.viewports ≡ viewports
+      → StandsFor setup (with_stored table c.0 stored) (record (with_made draft c (as_made stored)) { viewports = viewports })
   stands-added c stored viewports some absent used = record {
     sound = sound-added table c.0 stored some absent s.sound;
     buffers = s.buffers;
@@ -149,7 +159,8 @@ module _ (setup : Setup) (table : TableState) (draft : Draft) (s : StandsFor set
       absent' : named draft.content_names c.0 ≡ None
       absent' = sym (s.names c.0) ∙ absent
 
-  stands-changed : (c : ContentId) (f : Stored → Stored) (g : Made → Made) (serial : ℕ) (stored : Stored) → key_named table.names c.0 ≡ Some serial → of_serial table.contents serial ≡ Some stored
+  stands-changed : (c : ContentId) (f : Stored → Stored) (g : Made → Made) (serial : ℕ) (stored : Stored) → key_named table.names c.0 ≡ Some serial
+      → of_serial table.contents serial ≡ Some stored
       → as_made (f stored) ≡ g (as_made stored) → StandsFor setup (change_named table c.0 f) (with_content draft c g)
   stands-changed c f g serial stored named_so there same = record {
     sound = sound-changed table (change_at (key_named table.names c.0) f table.contents) (change-length (key_named table.names c.0) f table.contents) s.sound;
@@ -202,17 +213,21 @@ module _ (setup : Setup) (table : TableState) (draft : Draft) (s : StandsFor set
       let third = first-none (not (sort (made_named table c.0))) WrongContent _ second.1 in
       by_name (key_named table.names c.0) refl third.0
     where
-      by_content : (serial : ℕ) (x : Option Stored) → key_named table.names c.0 ≡ Some serial → of_serial table.contents serial ≡ x → not (sort (option_map as_made x)) ≡ false
+      by_content : (serial : ℕ) (x : Option Stored) → key_named table.names c.0 ≡ Some serial → of_serial table.contents serial ≡ x
+          → not (sort (option_map as_made x)) ≡ false
           → StandsFor setup (change_named table c.0 f) (with_content draft c g)
       by_content serial None named_so there e = absurd (let no : ◌≡◌ {A = Bool} true false = sym (ap not never) ∙ e in cc)
-      by_content serial (Some stored) named_so there e = stands-changed c f g serial stored named_so there (same stored (not-false (sort (Some (as_made stored))) e))
+      by_content serial (Some stored) named_so there e = stands-changed c f g serial stored named_so there
+          (same stored (not-false (sort (Some (as_made stored))) e))
 
-      by_name : (x : Option ℕ) → key_named table.names c.0 ≡ x → not (sort (option_and_then (made_at table) x)) ≡ false → StandsFor setup (change_named table c.0 f) (with_content draft c g)
+      by_name : (x : Option ℕ) → key_named table.names c.0 ≡ x → not (sort (option_and_then (made_at table) x)) ≡ false
+          → StandsFor setup (change_named table c.0 f) (with_content draft c g)
       by_name None named_so e = absurd (let no : ◌≡◌ {A = Bool} true false = sym (ap not never) ∙ e in cc)
       by_name (Some serial) named_so e = by_content serial (of_serial table.contents serial) named_so refl e
 
   solid-stands : (c : ContentId) (r g b a w h : ℕ)
-      → IsCall setup table draft (SetSolidFill c r g b a w h) (solid_tests table c.0 w h) (change_named table c.0 (λ _. Fill (Some (record { rgba = r ∷ g ∷ b ∷ a ∷ []; size = (w, h) }))))
+      → IsCall setup table draft (SetSolidFill c r g b a w h) (solid_tests table c.0 w h)
+      (change_named table c.0 (λ _. Fill (Some (record { rgba = r ∷ g ∷ b ∷ a ∷ []; size = (w, h) }))))
   solid-stands c r g b a w h = record {
     reason = rw (made-of c, s.names c.0) refl;
     stands =
@@ -221,9 +236,11 @@ module _ (setup : Setup) (table : TableState) (draft : Draft) (s : StandsFor set
   }
 
   -- a change of an image, in the table and in the draft
-  image-call : (call : Call) (c : ContentId) (rest : List Test) (f : StoredImage → StoredImage) (g : scene.Image → scene.Image) → effect draft call ≡ with_content draft c (effect.on_image g)
+  image-call : (call : Call) (c : ContentId) (rest : List Test) (f : StoredImage → StoredImage) (g : scene.Image → scene.Image)
+      → effect draft call ≡ with_content draft c (effect.on_image g)
       → ((image : StoredImage) → as_image (f image) ≡ g (as_image image))
-      → first_reason (sort_tests table is_image c.0 ++ rest) ≡ misuse setup draft call → IsCall setup table draft call (sort_tests table is_image c.0 ++ rest) (change_named table c.0 (on_image f))
+      → first_reason (sort_tests table is_image c.0 ++ rest) ≡ misuse setup draft call
+      → IsCall setup table draft call (sort_tests table is_image c.0 ++ rest) (change_named table c.0 (on_image f))
   image-call call c rest f g is same reason = record {
     reason = reason;
     stands = λ none. rw is (sorted-stands c is_image rest (on_image f) (effect.on_image g) refl (λ stored sort. each stored) none);
@@ -236,10 +253,12 @@ module _ (setup : Setup) (table : TableState) (draft : Draft) (s : StandsFor set
       each (Viewport pair props) = refl
 
   properties-stands : (c : ContentId) (w h : ℕ) (inset : Option Inset)
-      → IsCall setup table draft (SetViewportProperties c w h inset) (properties_tests table c.0 w h) (change_named table c.0 (on_viewport (λ props. record { w = w; h = h; inset = unwrap_or inset props.inset })))
+      → IsCall setup table draft (SetViewportProperties c w h inset) (properties_tests table c.0 w h)
+      (change_named table c.0 (on_viewport (λ props. record { w = w; h = h; inset = unwrap_or inset props.inset })))
   properties-stands c w h inset = record {
     reason = rw (made-of c, s.names c.0) refl;
-    stands = sorted-stands c is_viewport ((is_bad_side w || is_bad_side h, BadSize) ∷ []) (on_viewport change) (effect.on_viewport change) refl (λ stored sort. each stored);
+    stands = sorted-stands c is_viewport ((is_bad_side w || is_bad_side h, BadSize) ∷ []) (on_viewport change) (effect.on_viewport change) refl
+        (λ stored sort. each stored);
   }
     where
       change : ViewportProps → ViewportProps
@@ -270,7 +289,8 @@ module _ (setup : Setup) (table : TableState) (draft : Draft) (s : StandsFor set
   release-stands c = record { reason = rw (made-of c, s.names c.0) refl; stands = λ none. stands-released c }
 
   viewport-stands : (c : ContentId) (pair : PairNo) (w h : ℕ) (inset : Inset)
-      → IsCall setup table draft (CreateViewport c pair w h inset) (viewport_tests table c.0 w h) (with_stored table c.0 (Viewport pair (record { w = w; h = h; inset = inset })))
+      → IsCall setup table draft (CreateViewport c pair w h inset) (viewport_tests table c.0 w h)
+      (with_stored table c.0 (Viewport pair (record { w = w; h = h; inset = inset })))
   viewport-stands c pair w h inset = record {
     reason = rw (s.names c.0, s.count) refl;
     stands = λ none.
@@ -279,11 +299,13 @@ module _ (setup : Setup) (table : TableState) (draft : Draft) (s : StandsFor set
         (ap (λ (used : List ℕ). used ++ (length table.contents + 1) ∷ []) s.viewports ∙ ap (λ (n : ℕ). draft.viewports ++ n ∷ []) next-serial);
   }
 
-  image-stands : (c : ContentId) (buffers : BufferNo) (i w h : ℕ) → IsCall setup table draft (CreateImage c buffers i w h) (image_tests table c.0 buffers i w h) (with_stored table c.0 (new_image buffers i w h))
+  image-stands : (c : ContentId) (buffers : BufferNo) (i w h : ℕ)
+      → IsCall setup table draft (CreateImage c buffers i w h) (image_tests table c.0 buffers i w h) (with_stored table c.0 (new_image buffers i w h))
   image-stands c buffers i w h = record {
     reason = rw (s.names c.0, s.count, s.buffers) refl;
     stands = λ none.
-        let allows = new-allows c ((is_bad_image (slice_get table.buffers buffers.0) w h, BadSize) ∷ (is_bad_index (slice_get table.buffers buffers.0) i, BadBuffer) ∷ room_tests table) none in
+        let allows = new-allows c ((is_bad_image (slice_get table.buffers buffers.0) w h, BadSize)
+        ∷ (is_bad_index (slice_get table.buffers buffers.0) i, BadBuffer) ∷ room_tests table) none in
         stands-added c (new_image buffers i w h) draft.viewports allows.0 allows.1 s.viewports;
   }
 
@@ -328,15 +350,20 @@ module _ (setup : Setup) (table : TableState) (draft : Draft) (s : StandsFor set
     release_viewport = λ c. record { reason = rw (made-of c, s.names c.0) refl; stands = λ none. stands-viewport_released c };
     create_image = image-stands;
     set_image_sample_region = λ c rect.
-        image-call (SetImageSampleRegion c rect) c ((is_bad_rect rect || leaves_made rect (made_named table c.0), BadRect) ∷ []) (λ image. record image { sample = rect }) (λ image. record image { sample = rect })
+        image-call (SetImageSampleRegion c rect) c ((is_bad_rect rect || leaves_made rect (made_named table c.0), BadRect) ∷ [])
+        (λ image. record image { sample = rect }) (λ image. record image { sample = rect })
         refl (λ image. refl) (rw (made-of c, s.names c.0) refl);
     set_image_destination_size = λ c w h.
-        image-call (SetImageDestinationSize c w h) c ((is_bad_side w || is_bad_side h, BadSize) ∷ []) (λ image. record image { destination = (w, h) }) (λ image. record image { destination = (w, h) })
+        image-call (SetImageDestinationSize c w h) c ((is_bad_side w || is_bad_side h, BadSize) ∷ []) (λ image. record image { destination = (w, h) })
+        (λ image. record image { destination = (w, h) })
         refl (λ image. refl) (rw (made-of c, s.names c.0) refl);
-    set_image_blending_function = λ c m. image-call (SetImageBlendingFunction c m) c [] (λ image. record image { blend = m }) (λ image. record image { blend = m }) refl (λ image. refl) (rw (made-of c, s.names c.0) refl);
-    set_image_flip = λ c f. image-call (SetImageFlip c f) c [] (λ image. record image { flip = f }) (λ image. record image { flip = f }) refl (λ image. refl) (rw (made-of c, s.names c.0) refl);
+    set_image_blending_function = λ c m. image-call (SetImageBlendingFunction c m) c [] (λ image. record image { blend = m })
+        (λ image. record image { blend = m }) refl (λ image. refl) (rw (made-of c, s.names c.0) refl);
+    set_image_flip = λ c f. image-call (SetImageFlip c f) c [] (λ image. record image { flip = f }) (λ image. record image { flip = f }) refl (λ image. refl)
+        (rw (made-of c, s.names c.0) refl);
     set_image_opacity = λ c v.
-        image-call (SetImageOpacity c v) c ((nat_lt OPACITY_MAX v, BadOpacity) ∷ []) (λ image. record image { opacity = v }) (λ image. record image { opacity = v }) refl (λ image. refl)
+        image-call (SetImageOpacity c v) c ((nat_lt OPACITY_MAX v, BadOpacity) ∷ []) (λ image. record image { opacity = v })
+        (λ image. record image { opacity = v }) refl (λ image. refl)
         (rw (made-of c, s.names c.0) refl);
     release_image = λ c. record { reason = rw (made-of c, s.names c.0) refl; stands = λ none. stands-released c };
     uses = uses-same;

@@ -1,5 +1,6 @@
 -- what each display has had, frame by frame
-use Rattle.std.proofs.Common.{◌≡◌, ◌≢◌, ℕ, suc, ◌+◌, ◌<◌, ◌≤◌, ◌==◌, List, [], ◌∷◌, ◌++◌, length, Bool, true, false, Option, Some, None, refl, arith, IsTrue, subst, sym, ◌∙◌, ◌⊎◌, inl, inr, ap, if◌then◌else◌, append_assoc}
+use Rattle.std.proofs.Common.{◌≡◌, ◌≢◌, ℕ, suc, ◌+◌, ◌<◌, ◌≤◌, ◌==◌, List, [], ◌∷◌, ◌++◌, length, Bool, true, false, Option, Some, None, refl, arith, IsTrue}
+use Rattle.std.proofs.Common.{subst, sym, ◌∙◌, ◌⊎◌, inl, inr, ap, if◌then◌else◌, append_assoc}
 use Rattle.std.proofs.lemmas.List.{append-nil}
 use Rattle.std.proofs.lemmas.List.Folds.{list_any-append}
 use Rattle.flat_io.specs.Counts.{has_risen}
@@ -78,7 +79,8 @@ skip_one (x ∷ xs) l more n h = elim (by_display x n) [
   | inr e ↦ own_loss x (xs ++ l ∷ more) n false e ∙ skip_one xs l more n h ∙ sym (own_loss x (xs ++ more) n false e)
 ]
 
-one_until : (number : FrameNo) (x : FrameOut) (xs : List FrameOut) (b : Bool) → is_numbered number x ≡ b → frames_until number (x ∷ xs) ≡ (if b then [] else x ∷ frames_until number xs)
+one_until : (number : FrameNo) (x : FrameOut) (xs : List FrameOut) (b : Bool) → is_numbered number x ≡ b
+    → frames_until number (x ∷ xs) ≡ (if b then [] else x ∷ frames_until number xs)
 one_until number x xs b e = rw e refl
 
 by_number : (number : FrameNo) (x : FrameOut) → (is_numbered number x ≡ true) ⊎ (is_numbered number x ≡ false)
@@ -88,15 +90,18 @@ by_number number x = by _ refl
     by true e = inl e
     by false e = inr e
 
-later_among : (number : FrameNo) (x : FrameOut) (xs : List FrameOut) → is_numbered number x ≡ false → is_among (x ∷ xs) number ≡ true → is_among xs number ≡ true
+later_among : (number : FrameNo) (x : FrameOut) (xs : List FrameOut) → is_numbered number x ≡ false → is_among (x ∷ xs) number ≡ true
+    → is_among xs number ≡ true
 later_among number x xs e h = rw e at h
 
 -- Frames after one of the number play no part.
-until-kept : (number : FrameNo) (frames more : List FrameOut) → is_among frames number ≡ true → frames_until number (frames ++ more) ≡ frames_until number frames
+until-kept : (number : FrameNo) (frames more : List FrameOut) → is_among frames number ≡ true
+    → frames_until number (frames ++ more) ≡ frames_until number frames
 until-kept number [] more h = absurd (grind arith)
 until-kept number (x ∷ xs) more h = elim (by_number number x) [
   | inl e ↦ one_until number x (xs ++ more) true e ∙ sym (one_until number x xs true e)
-  | inr e ↦ one_until number x (xs ++ more) false e ∙ ap (λ ys. x ∷ ys) (until-kept number xs more (later_among number x xs e h)) ∙ sym (one_until number x xs false e)
+  | inr e ↦ one_until number x (xs ++ more) false e ∙ ap (λ ys. x ∷ ys) (until-kept number xs more (later_among number x xs e h))
+      ∙ sym (one_until number x xs false e)
 ]
 
 -- A frame of a new number is the first that a display misses which is lost at it.
@@ -119,7 +124,8 @@ last_among : (frames : List FrameOut) (frame : FrameOut) → is_among (frames ++
 last_among [] frame = grind arith
 last_among (x ∷ xs) frame = grind (arith, last_among xs frame)
 
-at_of_lost : (frames : List FrameOut) (lost : List Lost) (n : ℕ) → AreLostAt frames lost → is_lost lost n ≡ true → (number : FrameNo) × (lost_at lost n ≡ Some number) × (is_among frames number ≡ true)
+at_of_lost : (frames : List FrameOut) (lost : List Lost) (n : ℕ) → AreLostAt frames lost → is_lost lost n ≡ true
+    → (number : FrameNo) × (lost_at lost n ≡ Some number) × (is_among frames number ≡ true)
 at_of_lost frames [] n at is = absurd (grind arith)
 at_of_lost frames (l ∷ ls) n (first, at) is = elim (by_display l n) [
   | inl e ↦ (l.frame, own_loss l ls n true e, first)
@@ -128,23 +134,28 @@ at_of_lost frames (l ∷ ls) n (first, at) is = elim (by_display l n) [
 
 module _ {D : Type 0} (told : D → Option (List FrameOut)) (count : D → ℕ) (frame : FrameOut) where
   -- all losses of a show are at its frame
-  shows_at : (frames : List FrameOut) (lost : List Lost) (n : ℕ) (ds ds' : List D) (more : List Lost) → Shows told count frame lost n ds ds' more → AreLostAt (frames ++ frame ∷ []) more
+  shows_at : (frames : List FrameOut) (lost : List Lost) (n : ℕ) (ds ds' : List D) (more : List Lost) → Shows told count frame lost n ds ds' more
+      → AreLostAt (frames ++ frame ∷ []) more
   shows_at frames lost n ds ds' more none = tt
   shows_at frames lost n (d ∷ ds) (_ ∷ ds') more (passed is rest) = shows_at frames lost (suc n) ds ds' more rest
   shows_at frames lost n (d ∷ ds) (d' ∷ ds') more (took is t rest) = shows_at frames lost (suc n) ds ds' more rest
   shows_at frames lost n (d ∷ ds) (d' ∷ ds') (l ∷ more) (failed is t rest) = (last_among frames frame, shows_at frames lost (suc n) ds ds' more rest)
 
   -- no display before is lost by a later one's failure
-  none_before : (lost : List Lost) (n : ℕ) (ds ds' : List D) (more : List Lost) (m : ℕ) → Shows told count frame lost n ds ds' more → m < n → is_lost more m ≡ false
+  none_before : (lost : List Lost) (n : ℕ) (ds ds' : List D) (more : List Lost) (m : ℕ) → Shows told count frame lost n ds ds' more → m < n
+      → is_lost more m ≡ false
   none_before lost n ds ds' more m none h = refl
   none_before lost n (d ∷ ds) (_ ∷ ds') more m (passed is rest) h = none_before lost (suc n) ds ds' more m rest (omega arith)
   none_before lost n (d ∷ ds) (d' ∷ ds') more m (took is t rest) h = none_before lost (suc n) ds ds' more m rest (omega arith)
-  none_before lost n (d ∷ ds) (d' ∷ ds') (x ∷ more) m (failed is t rest) h = let later = none_before lost (suc n) ds ds' more m rest (omega arith) in grind (arith, later)
+  none_before lost n (d ∷ ds) (d' ∷ ds') (x ∷ more) m (failed is t rest) h = let later =
+      none_before lost (suc n) ds ds' more m rest (omega arith) in grind (arith, later)
 
-  passed_one : (lost whole : List Lost) (frames : List FrameOut) (n : ℕ) (old mid : D) → AreLostAt frames lost → is_lost lost n ≡ true → lost_at whole n ≡ lost_at lost n → HasHad told count lost frames n old mid → HasHad told count whole (frames ++ frame ∷ []) n old mid
+  passed_one : (lost whole : List Lost) (frames : List FrameOut) (n : ℕ) (old mid : D) → AreLostAt frames lost → is_lost lost n ≡ true
+      → lost_at whole n ≡ lost_at lost n → HasHad told count lost frames n old mid → HasHad told count whole (frames ++ frame ∷ []) n old mid
   passed_one lost whole frames n old mid at is same had =
       let found = at_of_lost frames lost n at is in
-      let all : frames_before (lost_at whole n) (frames ++ frame ∷ []) ≡ frames_before (lost_at lost n) frames = rw (same, found.1) (until-kept found.0 frames (frame ∷ []) found.2) in
+      let all : frames_before (lost_at whole n) (frames ++ frame ∷ []) ≡ frames_before (lost_at lost n) frames =
+      rw (same, found.1) (until-kept found.0 frames (frame ∷ []) found.2) in
       let P : List FrameOut → Type 0 = λ xs. Appends xs (told old) (told mid) in
       record {
         gains = subst P (sym all) had.gains;
@@ -153,7 +164,9 @@ module _ {D : Type 0} (told : D → Option (List FrameOut)) (count : D → ℕ) 
         steady = λ free. absurd (no_both _ (not_lost lost n (sym same ∙ not_lost_at whole n free)) is);
       }
 
-  took_one : (lost whole : List Lost) (frames : List FrameOut) (n : ℕ) (old mid new : D) → is_lost lost n ≡ false → lost_at whole n ≡ None → is_lost whole n ≡ false → Takes told count frame mid new → HasHad told count lost frames n old mid → HasHad told count whole (frames ++ frame ∷ []) n old new
+  took_one : (lost whole : List Lost) (frames : List FrameOut) (n : ℕ) (old mid new : D) → is_lost lost n ≡ false → lost_at whole n ≡ None
+      → is_lost whole n ≡ false → Takes told count frame mid new → HasHad told count lost frames n old mid
+      → HasHad told count whole (frames ++ frame ∷ []) n old new
   took_one lost whole frames n old mid new is same kept t had =
       let G : Option FrameNo → Type 0 = λ at. Appends (frames_before at frames) (told old) (told mid) in
       let G' : Option FrameNo → Type 0 = λ at. Appends (frames_before at (frames ++ frame ∷ [])) (told old) (told new) in
@@ -165,7 +178,9 @@ module _ {D : Type 0} (told : D → Option (List FrameOut)) (count : D → ℕ) 
         steady = λ _. t.steady ∙ had.steady is;
       }
 
-  failed_one : (lost whole : List Lost) (frames : List FrameOut) (n : ℕ) (old mid new : D) → is_among frames frame.frame ≡ false → is_lost lost n ≡ false → lost_at whole n ≡ Some frame.frame → Fails told count frame mid new → HasHad told count lost frames n old mid → HasHad told count whole (frames ++ frame ∷ []) n old new
+  failed_one : (lost whole : List Lost) (frames : List FrameOut) (n : ℕ) (old mid new : D) → is_among frames frame.frame ≡ false → is_lost lost n ≡ false
+      → lost_at whole n ≡ Some frame.frame → Fails told count frame mid new → HasHad told count lost frames n old mid
+      → HasHad told count whole (frames ++ frame ∷ []) n old new
   failed_one lost whole frames n old mid new fresh is same t had =
       let G : Option FrameNo → Type 0 = λ at. Appends (frames_before at frames) (told old) (told mid) in
       let G' : Option FrameNo → Type 0 = λ at. Appends (frames_before at (frames ++ frame ∷ [])) (told old) (told new) in
@@ -179,30 +194,46 @@ module _ {D : Type 0} (told : D → Option (List FrameOut)) (count : D → ℕ) 
         steady = λ free. absurd (some_none (sym same ∙ not_lost_at whole n free));
       }
 
-  have_more : (lost whole more : List Lost) (frames : List FrameOut) (n : ℕ) (olds mids news : List D) → AreLostAt frames lost → is_among frames frame.frame ≡ false → ((k : ℕ) → n ≤ k → lost_at whole k ≡ lost_at (lost ++ more) k) → Shows told count frame lost n mids news more → HaveHad told count lost frames n olds mids → HaveHad told count whole (frames ++ frame ∷ []) n olds news
+  have_more : (lost whole more : List Lost) (frames : List FrameOut) (n : ℕ) (olds mids news : List D) → AreLostAt frames lost
+      → is_among frames frame.frame ≡ false → ((k : ℕ) → n ≤ k → lost_at whole k ≡ lost_at (lost ++ more) k) → Shows told count frame lost n mids news more
+      → HaveHad told count lost frames n olds mids → HaveHad told count whole (frames ++ frame ∷ []) n olds news
   have_more lost whole more frames n [] [] [] at fresh same none had = tt
   have_more lost whole more frames n [] [] (d ∷ ns) at fresh same shows had = elim shows [ ]
   have_more lost whole more frames n (o ∷ os) (m ∷ ms) [] at fresh same shows had = elim shows [ ]
   have_more lost whole more frames n (o ∷ os) [] news at fresh same shows had = absurd had
   have_more lost whole more frames n [] (m ∷ ms) news at fresh same shows had = absurd had
-  have_more lost whole more frames n (o ∷ os) (m ∷ ms) (_ ∷ ns) at fresh same (passed is rest) (first, had) =
-      (passed_one lost whole frames n o m at is (same n (omega arith) ∙ lost_at-append_lost lost more n is) first, have_more lost whole more frames (suc n) os ms ns at fresh (λ k h. same k (omega arith)) rest had)
+  have_more lost whole more frames n (o ∷ os) (m ∷ ms) (_ ∷ ns) at fresh same (passed is rest) (first, had) = (
+    passed_one lost whole frames n o m at is (same n (omega arith) ∙ lost_at-append_lost lost more n is) first,
+    have_more lost whole more frames (suc n) os ms ns at fresh (λ k h. same k (omega arith)) rest had,
+  )
   have_more lost whole more frames n (o ∷ os) (m ∷ ms) (d ∷ ns) at fresh same (took is t rest) (first, had) =
-      let kept : lost_at whole n ≡ None = same n (omega arith) ∙ lost_at-append_new lost more n is ∙ not_lost_at more n (none_before lost (suc n) ms ns more n rest (omega arith)) in
-      (took_one lost whole frames n o m d is kept (not_lost whole n kept) t first, have_more lost whole more frames (suc n) os ms ns at fresh (λ k h. same k (omega arith)) rest had)
+      let kept : lost_at whole n ≡ None = same n (omega arith) ∙ lost_at-append_new lost more n is
+      ∙ not_lost_at more n (none_before lost (suc n) ms ns more n rest (omega arith)) in (
+        took_one lost whole frames n o m d is kept (not_lost whole n kept) t first,
+        have_more lost whole more frames (suc n) os ms ns at fresh (λ k h. same k (omega arith)) rest had,
+      )
   have_more lost whole (l ∷ more) frames n (o ∷ os) (m ∷ ms) (d ∷ ns) at fresh same (failed is t rest) (first, had) =
-      let gone : lost_at whole n ≡ Some frame.frame = same n (omega arith) ∙ lost_at-append_new lost (record { display = n; frame = frame.frame } ∷ more) n is ∙ own_loss (record { display = n; frame = frame.frame }) more n true (grind arith) in
-      (failed_one lost whole frames n o m d fresh is gone t first, have_more lost whole more frames (suc n) os ms ns at fresh (λ k h. same k (omega arith) ∙ skip_one lost (record { display = n; frame = frame.frame }) more k (omega arith)) rest had)
+      let gone : lost_at whole n ≡ Some frame.frame = same n (omega arith) ∙ lost_at-append_new lost (record { display = n; frame = frame.frame } ∷ more) n is
+      ∙ own_loss (record { display = n; frame = frame.frame }) more n true (grind arith) in (
+        failed_one lost whole frames n o m d fresh is gone t first,
+        have_more lost whole more frames (suc n) os ms ns at fresh
+            (λ k h. same k (omega arith) ∙ skip_one lost (record { display = n; frame = frame.frame }) more k (omega arith)) rest had,
+      )
 
 -- a show loses displays of its own alone
-shows_within : {D : Type 0} (told : D → Option (List FrameOut)) (count : D → ℕ) (frame : FrameOut) (lost : List Lost) (most n : ℕ) (ds ds' : List D) (more : List Lost) → Shows told count frame lost n ds ds' more → 1 ≤ n → n + length ds ≤ suc most → AreWithin most more
+shows_within : {D : Type 0} (told : D → Option (List FrameOut)) (count : D → ℕ) (frame : FrameOut) (lost : List Lost) (most n : ℕ) (ds ds' : List D)
+    (more : List Lost) → Shows told count frame lost n ds ds' more → 1 ≤ n → n + length ds ≤ suc most → AreWithin most more
 shows_within told count frame lost most n ds ds' more none low high = tt
-shows_within told count frame lost most n (d ∷ ds) (_ ∷ ds') more (passed is rest) low high = shows_within told count frame lost most (suc n) ds ds' more rest (omega arith) (omega arith)
-shows_within told count frame lost most n (d ∷ ds) (d' ∷ ds') more (took is t rest) low high = shows_within told count frame lost most (suc n) ds ds' more rest (omega arith) (omega arith)
-shows_within told count frame lost most n (d ∷ ds) (d' ∷ ds') (l ∷ more) (failed is t rest) low high = (low, omega arith, shows_within told count frame lost most (suc n) ds ds' more rest (omega arith) (omega arith))
+shows_within told count frame lost most n (d ∷ ds) (_ ∷ ds') more (passed is rest) low high =
+    shows_within told count frame lost most (suc n) ds ds' more rest (omega arith) (omega arith)
+shows_within told count frame lost most n (d ∷ ds) (d' ∷ ds') more (took is t rest) low high =
+    shows_within told count frame lost most (suc n) ds ds' more rest (omega arith) (omega arith)
+shows_within told count frame lost most n (d ∷ ds) (d' ∷ ds') (l ∷ more) (failed is t rest) low high =
+    (low, omega arith, shows_within told count frame lost most (suc n) ds ds' more rest (omega arith) (omega arith))
 
 -- there are as many displays as before
-pub had_length : {D : Type 0} (told : D → Option (List FrameOut)) (count : D → ℕ) (lost : List Lost) (frames : List FrameOut) (n : ℕ) (olds news : List D) → HaveHad told count lost frames n olds news → length news ≡ length olds
+pub had_length : {D : Type 0} (told : D → Option (List FrameOut)) (count : D → ℕ) (lost : List Lost) (frames : List FrameOut) (n : ℕ) (olds news : List D)
+    → HaveHad told count lost frames n olds news → length news ≡ length olds
 had_length told count lost frames n [] [] had = refl
 had_length told count lost frames n [] (d' ∷ ds') had = absurd had
 had_length told count lost frames n (d ∷ ds) [] had = absurd had
@@ -210,25 +241,36 @@ had_length told count lost frames n (d ∷ ds) (d' ∷ ds') (first, had) = ap su
 
 have_none : {D : Type 0} (told : D → Option (List FrameOut)) (count : D → ℕ) (n : ℕ) (ds : List D) → HaveHad told count [] [] n ds ds
 have_none told count n [] = tt
-have_none told count n (d ∷ ds) = (record { gains = gains_none (told d); grows = omega arith; risen = λ lost. absurd (grind arith); steady = λ _. refl }, have_none told count (suc n) ds)
+have_none told count n (d ∷ ds) = (
+  record { gains = gains_none (told d); grows = omega arith; risen = λ lost. absurd (grind arith); steady = λ _. refl },
+  have_none told count (suc n) ds,
+)
 
 -- Before any frame was shown.
-pub driven_none : {D : Type 0} (told : D → Option (List FrameOut)) (count : D → ℕ) (lost : List Lost) (ds : List D) → lost ≡ [] → AreDriven told count lost [] ds ds
+pub driven_none : {D : Type 0} (told : D → Option (List FrameOut)) (count : D → ℕ) (lost : List Lost) (ds : List D) → lost ≡ []
+    → AreDriven told count lost [] ds ds
 driven_none {D} told count lost ds is =
     let P : List Lost → Type 0 = λ ls. AreDriven told count ls [] ds ds in
     subst P (sym is) (record { have_had = have_none told count 1 ds; lost_at_frames = tt; lost_displays = tt })
 
 -- One frame more, of a new number.
-pub driven_more : {D : Type 0} (told : D → Option (List FrameOut)) (count : D → ℕ) (frame : FrameOut) (frames frames' : List FrameOut) (lost lost' more : List Lost) (olds mids news : List D) → is_among frames frame.frame ≡ false → frames' ≡ frames ++ frame ∷ [] → lost' ≡ lost ++ more → AreDriven told count lost frames olds mids → Shows told count frame lost 1 mids news more → AreDriven told count lost' frames' olds news
+pub driven_more : {D : Type 0} (told : D → Option (List FrameOut)) (count : D → ℕ) (frame : FrameOut) (frames frames' : List FrameOut)
+    (lost lost' more : List Lost) (olds mids news : List D) → is_among frames frame.frame ≡ false → frames' ≡ frames ++ frame ∷ [] → lost' ≡ lost ++ more
+    → AreDriven told count lost frames olds mids → Shows told count frame lost 1 mids news more → AreDriven told count lost' frames' olds news
 driven_more told count frame frames frames' lost lost' more olds mids news fresh is is' driven shows =
     let P : List FrameOut → Type 0 = λ fs. AreDriven told count lost' fs olds news in
     let Q : List Lost → Type 0 = λ ls. AreDriven told count ls (frames ++ frame ∷ []) olds news in
     subst P (sym is) (subst Q (sym is') (record {
       have_had = have_more told count frame lost (lost ++ more) more frames 1 olds mids news driven.lost_at_frames fresh (λ k h. refl) shows driven.have_had;
-      lost_at_frames = at_append (frames ++ frame ∷ []) lost more (at_more frames (frame ∷ []) lost driven.lost_at_frames) (shows_at told count frame frames lost 1 mids news more shows);
-      lost_displays = within-append (length olds) lost more driven.lost_displays (shows_within told count frame lost (length olds) 1 mids news more shows (omega arith) (let same = had_length told count lost frames 1 olds mids driven.have_had in omega (arith, same)));
+      lost_at_frames = at_append (frames ++ frame ∷ []) lost more (at_more frames (frame ∷ []) lost driven.lost_at_frames)
+          (shows_at told count frame frames lost 1 mids news more shows);
+      lost_displays = within-append (length olds) lost more driven.lost_displays
+          (shows_within told count frame lost (length olds) 1 mids news more shows (omega arith)
+          (let same = had_length told count lost frames 1 olds mids driven.have_had in omega (arith, same)));
     }))
 
 -- the same frames
-pub driven_same : {D : Type 0} (told : D → Option (List FrameOut)) (count : D → ℕ) (frames frames' : List FrameOut) (lost : List Lost) (olds news : List D) → frames ≡ frames' → AreDriven told count lost frames olds news → AreDriven told count lost frames' olds news
-driven_same told count frames frames' lost olds news e driven = let P : List FrameOut → Type 0 = λ fs. AreDriven told count lost fs olds news in subst P e driven
+pub driven_same : {D : Type 0} (told : D → Option (List FrameOut)) (count : D → ℕ) (frames frames' : List FrameOut) (lost : List Lost) (olds news : List D)
+    → frames ≡ frames' → AreDriven told count lost frames olds news → AreDriven told count lost frames' olds news
+driven_same told count frames frames' lost olds news e driven = let P : List FrameOut → Type 0 =
+    λ fs. AreDriven told count lost fs olds news in subst P e driven

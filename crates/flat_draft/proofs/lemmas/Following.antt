@@ -11,7 +11,8 @@ use Rattle.flat_draft.specs.Laws.{AnswersFollow, CallsFollow}
 use Rattle.flat_draft.specs.Stands.{IsAfter}
 use Rattle.flat_draft.specs.State.{DraftState}
 
-after-more : (setup : Setup) (start : Result Draft Reason) (calls : List Call) (call : Call) → after_calls setup start (calls ++ call ∷ []) ≡ after_call setup (after_calls setup start calls) call
+after-more : (setup : Setup) (start : Result Draft Reason) (calls : List Call) (call : Call)
+    → after_calls setup start (calls ++ call ∷ []) ≡ after_call setup (after_calls setup start calls) call
 after-more setup start [] call = refl
 after-more setup start (first ∷ calls) call = after-more setup (after_call setup start first) calls call
 
@@ -35,4 +36,5 @@ answers_follow setup calls call old new (Err Closed) after answer =
     let a = answer after.draft after.stands in
     let no : ◌≡◌ {A = Bool} false true = sym after.still_open ∙ a.0 in
     absurd (cc)
-answers_follow setup calls call old new (Err Memory) after answer = let a = answer after.draft after.stands in subst (λ (state : DraftState). IsAfter setup calls state) (sym a.3) after
+answers_follow setup calls call old new (Err Memory) after answer = let a =
+    answer after.draft after.stands in subst (λ (state : DraftState). IsAfter setup calls state) (sym a.3) after

@@ -74,7 +74,8 @@ presents-later s k [] = record { more = []; is = sym (append-nil (presents s k))
 presents-later s k (e ∷ later) = by_owner (presents-later s k later) (is_session s e.actor) refl
   where
     by_owner : Begins (presents s k) (presents s (later ++ k)) → (b : Bool) → is_session s e.actor ≡ b → Begins (presents s k) (presents s (later ++ k ▹ e))
-    by_owner old true mine = begins-more (presents s k) (presents s (later ++ k)) (published e.kind e.reply (calls s (later ++ k) ++ e.calls)) (presents s (later ++ k ▹ e)) old (presents-own s (later ++ k) e mine)
+    by_owner old true mine = begins-more (presents s k) (presents s (later ++ k)) (published e.kind e.reply (calls s (later ++ k) ++ e.calls))
+        (presents s (later ++ k ▹ e)) old (presents-own s (later ++ k) e mine)
     by_owner old false other = record { more = old.more; is = presents-other s (later ++ k) e other ∙ old.is }
 
 pub presents-begin : (s : SessionNo) (k h : List Entry) → IsEarlier k h → Begins (presents s k) (presents s h)
@@ -114,7 +115,8 @@ pub taken-begin : (setup : Setup) (s : SessionNo) (h : List Entry) → taken set
 taken-begin setup s [] = refl
 taken-begin setup s (h ▹ e) = by_kind (taken-begin setup s h) (is_begin e.kind) refl
   where
-    by_kind : taken setup h s ≡ taken setup (to_begin h) s → (b : Bool) → is_begin e.kind ≡ b → taken setup (h ▹ e) s ≡ taken setup (cond b (h ▹ e) (to_begin h)) s
+    by_kind : taken setup h s ≡ taken setup (to_begin h) s → (b : Bool) → is_begin e.kind ≡ b
+        → taken setup (h ▹ e) s ≡ taken setup (cond b (h ▹ e) (to_begin h)) s
     by_kind before true is = refl
     by_kind before false is = taken-quiet setup h e s is ∙ before
 
@@ -127,7 +129,8 @@ pub taken-finished : (setup : Setup) (s : SessionNo) (h : List Entry) → is_fra
 taken-finished setup s [] rests = refl
 taken-finished setup s (h ▹ e) rests = by_kind (λ r. taken-finished setup s h r) (is_begin e.kind) refl (is_finish e.kind) refl rests
   where
-    by_kind : (is_frame_open h ≡ false → taken setup h s ≡ taken setup (to_finished h) s) → (b : Bool) → is_begin e.kind ≡ b → (f : Bool) → is_finish e.kind ≡ f → is_frame_open (h ▹ e) ≡ false
+    by_kind : (is_frame_open h ≡ false → taken setup h s ≡ taken setup (to_finished h) s) → (b : Bool) → is_begin e.kind ≡ b → (f : Bool) → is_finish e.kind ≡ f
+        → is_frame_open (h ▹ e) ≡ false
         → taken setup (h ▹ e) s ≡ taken setup (cond f (to_begin h) (to_finished h)) s
     by_kind before true begins f is r = let wrong : true ≡ false = rw begins at r in cc
     by_kind before false quiet true ends r = taken-quiet setup h e s quiet ∙ taken-begin setup s h
@@ -138,11 +141,13 @@ frame-rests h (Begin time) keeps is = not-true (is_frame_open h) (and-left (not 
 frame-rests h _ keeps is = cc
 
 -- what was taken before the open frame began is what the last finished one had taken
-pub taken-begun : (setup : Setup) (s : SessionNo) (h : List Entry) → Legal setup h → is_frame_open h ≡ true → taken setup (drop 1 (to_begin h)) s ≡ taken setup (to_finished h) s
+pub taken-begun : (setup : Setup) (s : SessionNo) (h : List Entry) → Legal setup h → is_frame_open h ≡ true
+    → taken setup (drop 1 (to_begin h)) s ≡ taken setup (to_finished h) s
 taken-begun setup s [] legal opened = refl
 taken-begun setup s (h ▹ e) legal opened = by_kind (λ o. taken-begun setup s h legal.0 o) (is_begin e.kind) refl (is_finish e.kind) refl opened
   where
-    by_kind : (is_frame_open h ≡ true → taken setup (drop 1 (to_begin h)) s ≡ taken setup (to_finished h) s) → (b : Bool) → is_begin e.kind ≡ b → (f : Bool) → is_finish e.kind ≡ f → is_frame_open (h ▹ e) ≡ true
+    by_kind : (is_frame_open h ≡ true → taken setup (drop 1 (to_begin h)) s ≡ taken setup (to_finished h) s) → (b : Bool) → is_begin e.kind ≡ b → (f : Bool)
+        → is_finish e.kind ≡ f → is_frame_open (h ▹ e) ≡ true
         → taken setup (drop 1 (cond b (h ▹ e) (to_begin h))) s ≡ taken setup (cond f (to_begin h) (to_finished h)) s
     by_kind before true begins true ends o = let wrong : true ≡ false = sym begins ∙ no-begin-at-finish e.kind ends in cc
     by_kind before true begins false goes o = taken-finished setup s h (frame-rests h e.kind legal.1.may.times begins)
@@ -154,13 +159,15 @@ taken-begun setup s (h ▹ e) legal opened = by_kind (λ o. taken-begun setup s 
 -- presents have seen no more than there is
 pub times-seen : (setup : Setup) (test : Draft → Call → Bool) (s : SessionNo) (h : List Entry) (n : ℕ) → n ≤ length (presents s h)
     → times setup test (Ok empty_draft) (made_at (presents s h) n) ≤ times setup test (Ok empty_draft) (calls s h)
-times-seen setup test s h n fits = by_count (times setup test (Ok empty_draft) (made_at (presents s h) n)) refl (nat_lt 0 (times setup test (Ok empty_draft) (made_at (presents s h) n))) refl
+times-seen setup test s h n fits = by_count (times setup test (Ok empty_draft) (made_at (presents s h) n)) refl
+    (nat_lt 0 (times setup test (Ok empty_draft) (made_at (presents s h) n))) refl
   where
     seen-some : (o : Option ℕ) → is_seen o n ≡ true → is_some o ≡ true
     seen-some None is = is
     seen-some (Some k) is = refl
 
-    by_count : (m : ℕ) → times setup test (Ok empty_draft) (made_at (presents s h) n) ≡ m → (b : Bool) → nat_lt 0 (times setup test (Ok empty_draft) (made_at (presents s h) n)) ≡ b
+    by_count : (m : ℕ) → times setup test (Ok empty_draft) (made_at (presents s h) n) ≡ m → (b : Bool)
+        → nat_lt 0 (times setup test (Ok empty_draft) (made_at (presents s h) n)) ≡ b
         → times setup test (Ok empty_draft) (made_at (presents s h) n) ≤ times setup test (Ok empty_draft) (calls s h)
     by_count m is false none = grind (arith, nat_tests)
     by_count m is true some =
@@ -173,13 +180,15 @@ times-seen setup test s h n fits = by_count (times setup test (Ok empty_draft) (
 -- and later presents have seen no less
 pub times-rise : (setup : Setup) (test : Draft → Call → Bool) (s : SessionNo) (h : List Entry) (n m : ℕ) → n ≤ m → m ≤ length (presents s h)
     → times setup test (Ok empty_draft) (made_at (presents s h) n) ≤ times setup test (Ok empty_draft) (made_at (presents s h) m)
-times-rise setup test s h n m less fits = by_count (times setup test (Ok empty_draft) (made_at (presents s h) n)) refl (nat_lt 0 (times setup test (Ok empty_draft) (made_at (presents s h) n))) refl
+times-rise setup test s h n m less fits = by_count (times setup test (Ok empty_draft) (made_at (presents s h) n)) refl
+    (nat_lt 0 (times setup test (Ok empty_draft) (made_at (presents s h) n))) refl
   where
     seen-later : (o : Option ℕ) → is_seen o n ≡ true → is_seen o m ≡ true
     seen-later None is = is
     seen-later (Some k) is = grind (arith, nat_tests)
 
-    by_count : (c : ℕ) → times setup test (Ok empty_draft) (made_at (presents s h) n) ≡ c → (b : Bool) → nat_lt 0 (times setup test (Ok empty_draft) (made_at (presents s h) n)) ≡ b
+    by_count : (c : ℕ) → times setup test (Ok empty_draft) (made_at (presents s h) n) ≡ c → (b : Bool)
+        → nat_lt 0 (times setup test (Ok empty_draft) (made_at (presents s h) n)) ≡ b
         → times setup test (Ok empty_draft) (made_at (presents s h) n) ≤ times setup test (Ok empty_draft) (made_at (presents s h) m)
     by_count c is false none = grind (arith, nat_tests)
     by_count c is true some =

@@ -24,7 +24,8 @@ use Rattle.flat_facts.proofs.lemmas.Tests.{same-pair}
 -- an owned pair is none that isn't owned
 pub owned-differs : (owns : PairNo → Bool) (q p : PairNo) → owns q ≡ true → owns p ≡ false → (b : Bool) → (q.0 == p.0) ≡ b → b ≡ false
 owned-differs owns q p owned foreign false is = refl
-owned-differs owns q p owned foreign true is = let O : PairNo → Type 0 = λ r. owns r ≡ true in let wrong : true ≡ false = sym (subst O (same-pair q p is) owned) ∙ foreign in cc
+owned-differs owns q p owned foreign true is = let O : PairNo → Type 0 = λ r. owns r ≡ true in let wrong : true ≡ false =
+    sym (subst O (same-pair q p is) owned) ∙ foreign in cc
 
 any-append : {A : Type 0} (f : A → Bool) (xs ys : List A) → list_any f xs ≡ false → list_any f ys ≡ false → list_any f (xs ++ ys) ≡ false
 any-append f [] ys none more = more
@@ -44,13 +45,15 @@ module _ (setup : Setup) (s : SessionNo) (p : PairNo) where
     pub ends : ends_of p view calls ≡ 0
     pub after : is_pair (view_after view calls) p ≡ false
 
-  view-one : owns_view setup s p ≡ false → (view : Option PairNo) (call : Call) → is_pair view p ≡ false → owns_in_call setup s call ≡ true → (ends_it p view call ≡ false) × (is_pair (view_then view call) p ≡ false)
+  view-one : owns_view setup s p ≡ false → (view : Option PairNo) (call : Call) → is_pair view p ≡ false → owns_in_call setup s call ≡ true
+      → (ends_it p view call ≡ false) × (is_pair (view_then view call) p ≡ false)
   view-one foreign view (CreateView q) other owned = (refl, owned-differs (owns_view setup s) q p owned foreign (q.0 == p.0) refl)
   view-one foreign view ReleaseView other owned = (other, refl)
   view-one foreign view Clear other owned = (other, refl)
   view-one foreign view _ other owned = (refl, other)
 
-  pub foreign-view : owns_view setup s p ≡ false → (view : Option PairNo) (calls : List Call) → is_pair view p ≡ false → list_all (owns_in_call setup s) calls ≡ true → IsForeignView view calls
+  pub foreign-view : owns_view setup s p ≡ false → (view : Option PairNo) (calls : List Call) → is_pair view p ≡ false
+      → list_all (owns_in_call setup s) calls ≡ true → IsForeignView view calls
   foreign-view foreign view [] other owned = record { ends = refl; after = other }
   foreign-view foreign view (call ∷ calls) other owned =
       let one = view-one foreign view call other (and-left (owns_in_call setup s call) (list_all (owns_in_call setup s) calls) owned) in
@@ -65,7 +68,8 @@ module _ (setup : Setup) (s : SessionNo) (p : PairNo) where
     pub clears : count_of (clears_live p) lives calls ≡ 0
     pub after : list_any is_it (lives_after lives calls) ≡ false
 
-  live-one : owns_viewport setup s p ≡ false → (lives : List Live) (call : Call) → list_any is_it lives ≡ false → owns_in_call setup s call ≡ true → (clears_live p lives call ≡ false) × (list_any is_it (lives_then lives call) ≡ false)
+  live-one : owns_viewport setup s p ≡ false → (lives : List Live) (call : Call) → list_any is_it lives ≡ false → owns_in_call setup s call ≡ true
+      → (clears_live p lives call ≡ false) × (list_any is_it (lives_then lives call) ≡ false)
   live-one foreign lives (CreateViewport c q w h inset) none owned =
       let one : Live = record { name = c; pair = q } in
       let last : list_any is_it (one ∷ []) ≡ false = rw (owned-differs (owns_viewport setup s) q p owned foreign (q.0 == p.0) refl) refl in
@@ -74,11 +78,13 @@ module _ (setup : Setup) (s : SessionNo) (p : PairNo) where
   live-one foreign lives Clear none owned = (none, refl)
   live-one foreign lives _ none owned = (refl, none)
 
-  pub foreign-live : owns_viewport setup s p ≡ false → (lives : List Live) (calls : List Call) → list_any is_it lives ≡ false → list_all (owns_in_call setup s) calls ≡ true → IsForeignLive lives calls
+  pub foreign-live : owns_viewport setup s p ≡ false → (lives : List Live) (calls : List Call) → list_any is_it lives ≡ false
+      → list_all (owns_in_call setup s) calls ≡ true → IsForeignLive lives calls
   foreign-live foreign lives [] none owned = record { clears = refl; after = none }
   foreign-live foreign lives (call ∷ calls) none owned =
       let one = live-one foreign lives call none (and-left (owns_in_call setup s call) (list_all (owns_in_call setup s) calls) owned) in
-      let rest = foreign-live foreign (lives_then lives call) calls one.1 (and-right (owns_in_call setup s call) (list_all (owns_in_call setup s) calls) owned) in
+      let rest = foreign-live foreign (lives_then lives call) calls one.1
+      (and-right (owns_in_call setup s call) (list_all (owns_in_call setup s) calls) owned) in
       record { clears = rw one.0 (omega (arith, rest.clears)); after = rest.after }
 
 -- ---- what is cleared
@@ -92,11 +98,14 @@ all-more call next calls = let some : (length (next ∷ calls) == 0) ≡ false =
 
 tame-rest : (call : Call) (calls : List Call) → AreTame (call ∷ calls) → AreTame calls
 tame-rest call [] tame = refl
-tame-rest call (next ∷ calls) tame = (or_parts (is_link call) (list_any is_link (all_but_last (next ∷ calls))) (ap (list_any is_link) (sym (all-more call next calls)) ∙ tame)).1
+tame-rest call (next ∷ calls) tame = (or_parts (is_link call) (list_any is_link (all_but_last (next ∷ calls)))
+    (ap (list_any is_link) (sym (all-more call next calls)) ∙ tame)).1
 
 tame-link : (call : Call) (calls : List Call) → AreTame (call ∷ calls) → is_link call ≡ true → calls ≡ []
 tame-link call [] tame link = refl
-tame-link call (next ∷ calls) tame link = let wrong : true ≡ false = sym link ∙ (or_parts (is_link call) (list_any is_link (all_but_last (next ∷ calls))) (ap (list_any is_link) (sym (all-more call next calls)) ∙ tame)).0 in cc
+tame-link call (next ∷ calls) tame link = let wrong : true ≡ false =
+    sym link ∙ (or_parts (is_link call) (list_any is_link (all_but_last (next ∷ calls))) (ap (list_any is_link) (sym (all-more call next calls)) ∙ tame)).0 in
+    cc
 
 nothing-lives : (p : PairNo) (calls : List Call) → AreTame calls → count_of (clears_live p) [] calls ≡ 0
 nothing-lives p [] tame = refl
@@ -117,11 +126,13 @@ clears-all : (p : PairNo) (lives : List Live) (calls : List Call) → clears_pai
 clears-all p [] calls = refl
 clears-all p (one ∷ lives) calls = by_pair (one.pair.0 == p.0) (clears-all p lives calls)
   where
-    by_pair : (b : Bool) → clears_pair p lives (Clear ∷ calls) ≡ list_any (λ live. live.pair.0 == p.0) lives → ((b && true) || clears_pair p lives (Clear ∷ calls)) ≡ (b || list_any (λ live. live.pair.0 == p.0) lives)
+    by_pair : (b : Bool) → clears_pair p lives (Clear ∷ calls) ≡ list_any (λ live. live.pair.0 == p.0) lives
+        → ((b && true) || clears_pair p lives (Clear ∷ calls)) ≡ (b || list_any (λ live. live.pair.0 == p.0) lives)
     by_pair true rest = refl
     by_pair false rest = rest
 
-clears-released : (p : PairNo) (c : ContentId) (lives : List Live) (calls : List Call) → clears_pair p lives (ReleaseViewport c ∷ calls) ≡ clears_pair p (filter (λ live. not (live.name.0 == c.0)) lives) calls
+clears-released : (p : PairNo) (c : ContentId) (lives : List Live) (calls : List Call)
+    → clears_pair p lives (ReleaseViewport c ∷ calls) ≡ clears_pair p (filter (λ live. not (live.name.0 == c.0)) lives) calls
 clears-released p c [] calls = refl
 clears-released p c (one ∷ lives) calls = by_name (one.name.0 == c.0) (clears-released p c lives calls)
   where
@@ -133,7 +144,8 @@ clears-released p c (one ∷ lives) calls = by_name (one.name.0 == c.0) (clears-
     never false b = refl
 
     by_name : (b : Bool) → clears_pair p lives (ReleaseViewport c ∷ calls) ≡ clears_pair p left calls
-        → ((one.pair.0 == p.0 && cond b false (is_cleared one.name calls)) || clears_pair p lives (ReleaseViewport c ∷ calls)) ≡ list_any (λ live. live.pair.0 == p.0 && is_cleared live.name calls) (cond (not b) (one ∷ left) left)
+        → ((one.pair.0 == p.0 && cond b false (is_cleared one.name calls)) || clears_pair p lives (ReleaseViewport c ∷ calls))
+        ≡ list_any (λ live. live.pair.0 == p.0 && is_cleared live.name calls) (cond (not b) (one ∷ left) left)
     by_name true rest = never (one.pair.0 == p.0) (clears_pair p lives (ReleaseViewport c ∷ calls)) ∙ rest
     by_name false rest = ap (λ (t : Bool). (one.pair.0 == p.0 && is_cleared one.name calls) || t) rest
 
@@ -145,14 +157,17 @@ none-of : (b : Bool) (n : ℕ) → b ≡ nat_lt 0 n → b ≡ nat_lt 0 (0 + n)
 none-of b n is = let same : n ≡ 0 + n = omega arith in is ∙ ap (nat_lt 0) same
 
 -- they clear the viewport of a pair where one of them does so
-pub clears-count : (p : PairNo) (lives : List Live) (calls : List Call) → AreTame calls → clears_pair p lives calls ≡ nat_lt 0 (count_of (clears_live p) lives calls)
+pub clears-count : (p : PairNo) (lives : List Live) (calls : List Call) → AreTame calls
+    → clears_pair p lives calls ≡ nat_lt 0 (count_of (clears_live p) lives calls)
 clears-count p lives [] tame = clears-last p lives
 clears-count p lives (CreateViewport c q w h inset ∷ calls) tame =
     let last : calls ≡ [] = tame-link (CreateViewport c q w h inset) calls tame refl in
     rw last (clears-last p lives)
 clears-count p lives (ReleaseViewport c ∷ calls) tame =
     clears-released p c lives calls
-    ∙ none-of _ (count_of (clears_live p) (filter (λ live. not (live.name.0 == c.0)) lives) calls) (clears-count p (filter (λ live. not (live.name.0 == c.0)) lives) calls (tame-rest (ReleaseViewport c) calls tame))
+    ∙ none-of _ (count_of (clears_live p) (filter (λ live. not (live.name.0 == c.0)) lives) calls)
+    (clears-count p (filter (λ live. not (live.name.0 == c.0)) lives) calls (tame-rest (ReleaseViewport c) calls tame))
 clears-count p lives (Clear ∷ calls) tame =
-    clears-all p lives calls ∙ some-of (list_any (λ live. live.pair.0 == p.0) lives) (count_of (clears_live p) [] calls) (nothing-lives p calls (tame-rest Clear calls tame))
+    clears-all p lives calls ∙ some-of (list_any (λ live. live.pair.0 == p.0) lives) (count_of (clears_live p) [] calls)
+    (nothing-lives p calls (tame-rest Clear calls tame))
 clears-count p lives (call ∷ calls) tame = none-of _ (count_of (clears_live p) lives calls) (clears-count p lives calls (tame-rest call calls tame))

@@ -1,5 +1,6 @@
 -- A session has a view exactly where it is open, and the end of the last that it made isn't lost.
-use Rattle.std.proofs.Common.{◌≡◌, ◌∙◌, sym, subst, ℕ, zero, suc, ◌+◌, Bool, true, false, List, [], ◌∷◌, refl, arith, ap, Some, None, inl, inr, ◌⊎◌, add-zero, zero-add}
+use Rattle.std.proofs.Common.{◌≡◌, ◌∙◌, sym, subst, ℕ, zero, suc, ◌+◌, Bool, true, false, List, [], ◌∷◌, refl, arith, ap, Some, None, inl, inr, ◌⊎◌, add-zero}
+use Rattle.std.proofs.Common.{zero-add}
 use Rattle.std.specs.Prelude.{cond, not, ◌&&◌, ◌==◌, Option, is_some, option_map, unwrap_or, slice_get}
 use Rattle.std.specs.List.{list_any}
 use Rattle.std.proofs.lemmas.Bool.Decides.{nat_tests}
@@ -29,18 +30,21 @@ use Rattle.std.specs.Cmp.{both_ways}
 abbrev pub Found : (PairNo → Bool) → (PairDecl → Bool) → ℕ → List PairDecl → Type 0
 Found f test n pairs = (k : ℕ) × (unwrap_or (option_map test (slice_get pairs k)) false ≡ true) × (f (record { 0 = n + k }) ≡ true)
 
-found-here : (f : PairNo → Bool) (test : PairDecl → Bool) (n : ℕ) (pair : PairDecl) (pairs : List PairDecl) → test pair ≡ true → f (record { 0 = n }) ≡ true → Found f test n (pair ∷ pairs)
+found-here : (f : PairNo → Bool) (test : PairDecl → Bool) (n : ℕ) (pair : PairDecl) (pairs : List PairDecl) → test pair ≡ true → f (record { 0 = n }) ≡ true
+    → Found f test n (pair ∷ pairs)
 found-here f test n pair pairs here is =
     let F : ℕ → Type 0 = λ m. f (record { 0 = m }) ≡ true in
     (0, here, subst F (sym (add-zero n)) is)
 
-found-later : (f : PairNo → Bool) (test : PairDecl → Bool) (n : ℕ) (pair : PairDecl) (pairs : List PairDecl) → Found f test (n + 1) pairs → Found f test n (pair ∷ pairs)
+found-later : (f : PairNo → Bool) (test : PairDecl → Bool) (n : ℕ) (pair : PairDecl) (pairs : List PairDecl) → Found f test (n + 1) pairs
+    → Found f test n (pair ∷ pairs)
 found-later f test n pair pairs found =
     let F : ℕ → Type 0 = λ m. f (record { 0 = m }) ≡ true in
     let place : n + 1 + found.0 ≡ n + suc found.0 = omega arith in
     (suc found.0, found.1, subst F place found.2)
 
-found-first : (f : PairNo → Bool) (test : PairDecl → Bool) (n : ℕ) (pair : PairDecl) (pairs : List PairDecl) (b : Bool) → test pair ≡ b → (list_any f (pairs_where test (n + 1) pairs) ≡ true → Found f test (n + 1) pairs)
+found-first : (f : PairNo → Bool) (test : PairDecl → Bool) (n : ℕ) (pair : PairDecl) (pairs : List PairDecl) (b : Bool) → test pair ≡ b
+    → (list_any f (pairs_where test (n + 1) pairs) ≡ true → Found f test (n + 1) pairs)
     → list_any f (cond b ((record { 0 = n }) ∷ pairs_where test (n + 1) pairs) (pairs_where test (n + 1) pairs)) ≡ true → Found f test n (pair ∷ pairs)
 found-first f test n pair pairs false is later any = found-later f test n pair pairs (later any)
 found-first f test n pair pairs true is later any = by_case (or-cases (f (record { 0 = n })) (list_any f (pairs_where test (n + 1) pairs)) any)
@@ -57,7 +61,8 @@ any-first : (f : PairNo → Bool) (b : Bool) (p : PairNo) (more : List PairNo) �
 any-first f true p more rest = or_right (f p) (list_any f more) rest
 any-first f false p more rest = rest
 
-pub any-found : (f : PairNo → Bool) (test : PairDecl → Bool) (n k : ℕ) (pairs : List PairDecl) → unwrap_or (option_map test (slice_get pairs k)) false ≡ true → f (record { 0 = n + k }) ≡ true → list_any f (pairs_where test n pairs) ≡ true
+pub any-found : (f : PairNo → Bool) (test : PairDecl → Bool) (n k : ℕ) (pairs : List PairDecl) → unwrap_or (option_map test (slice_get pairs k)) false ≡ true
+    → f (record { 0 = n + k }) ≡ true → list_any f (pairs_where test n pairs) ≡ true
 any-found f test n k [] here is = let wrong : false ≡ true = here in cc
 any-found f test n zero (pair ∷ pairs) here is =
     let F : ℕ → Type 0 = λ m. f (record { 0 = m }) ≡ true in
@@ -70,11 +75,13 @@ any-found f test n (suc k) (pair ∷ pairs) here is =
 
 -- ---- the views of a session
 
-nested : (s : SessionNo) (o : Option PairDecl) → unwrap_or (option_map (λ (t : SessionNo). t.0 == s.0) (option_map (λ pair. pair.view) o)) false ≡ unwrap_or (option_map (λ pair. pair.view.0 == s.0) o) false
+nested : (s : SessionNo) (o : Option PairDecl) → unwrap_or (option_map (λ (t : SessionNo). t.0 == s.0) (option_map (λ pair. pair.view) o)) false
+    ≡ unwrap_or (option_map (λ pair. pair.view.0 == s.0) o) false
 nested s None = refl
 nested s (Some pair) = refl
 
-lost-by : (setup : Setup) (h : List Entry) (s : SessionNo) (p : PairNo) (owner : Option SessionNo) → unwrap_or (option_map (λ (t : SessionNo). t.0 == s.0) owner) false ≡ true → is_closed s h ≡ false
+lost-by : (setup : Setup) (h : List Entry) (s : SessionNo) (p : PairNo) (owner : Option SessionNo)
+    → unwrap_or (option_map (λ (t : SessionNo). t.0 == s.0) owner) false ≡ true → is_closed s h ≡ false
     → loses setup (ends_view p) h (option_map Session owner) ≡ ended setup p (made_at (presents s h) (taken setup h s))
 lost-by setup h s p None owned opened = let wrong : false ≡ true = owned in cc
 lost-by setup h s p (Some t) owned opened =
@@ -97,7 +104,8 @@ last-there None is = let wrong : false ≡ true = is in cc
 last-there (Some q) is = (q, refl)
 
 -- the last view, where its end isn't lost
-standing-last : (setup : Setup) (h : List Entry) (last : Option PairNo) → is_standing setup h last ≡ true → (q : PairNo) × (last ≡ Some q) × (not (is_view_lost setup h q) ≡ true)
+standing-last : (setup : Setup) (h : List Entry) (last : Option PairNo) → is_standing setup h last ≡ true
+    → (q : PairNo) × (last ≡ Some q) × (not (is_view_lost setup h q) ≡ true)
 standing-last setup h None is = let wrong : false ≡ true = is in cc
 standing-last setup h (Some q) is = (q, refl, is)
 
@@ -120,7 +128,8 @@ opened-view setup s h view opened =
     let mine : owns_view setup s q ≡ true = (view.made q last.1).0 in
     let sees : List Call = made_at (presents s h) (taken setup h s) in
     let unended : ended setup p sees ≡ false = sym (lost-is setup h s p owned opened) ∙ kept in
-    let stays : ended setup q sees ≡ false = lost-by-last (ended setup p sees) (ended setup q sees) (view.later q p last.1 owned used (taken setup h s) (taken-made setup s h)) unended in
+    let stays : ended setup q sees ≡ false = lost-by-last (ended setup p sees) (ended setup q sees)
+    (view.later q p last.1 owned used (taken setup h s) (taken-made setup s h)) unended in
     ap (is_standing setup h) last.1 ∙ ap not (lost-is setup h s q mine opened ∙ stays))
     (λ stands.
     let last = standing-last setup h (last_view s h) stands in

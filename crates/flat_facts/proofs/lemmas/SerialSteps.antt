@@ -1,5 +1,6 @@
 -- What an entry does to the serial of a pair's last use, and what frames have seen of that use.
-use Rattle.std.proofs.Common.{◌≡◌, ◌∙◌, sym, subst, ℕ, ◌+◌, ◌-◌, ◌≤◌, ◌<◌, Bool, true, false, cond, List, [], ◌∷◌, ◌++◌, length, refl, arith, ap, Some, None, length-append, inl, inr, ◌⊎◌}
+use Rattle.std.proofs.Common.{◌≡◌, ◌∙◌, sym, subst, ℕ, ◌+◌, ◌-◌, ◌≤◌, ◌<◌, Bool, true, false, cond, List, [], ◌∷◌, ◌++◌, length, refl, arith, ap, Some, None}
+use Rattle.std.proofs.Common.{length-append, inl, inr, ◌⊎◌}
 use Rattle.std.specs.Prelude.{◌==◌, nat_le, Option, option_and_then, option_map, unwrap_or, slice_get, filter_map}
 use Rattle.std.specs.Result.{result_ok}
 use Rattle.std.proofs.lemmas.Bool.Decides.{nat_tests}
@@ -44,13 +45,16 @@ use Rattle.flat_facts.proofs.LowTrees.{second_none}
 
 -- ---- the calls up to a present are the first of all calls
 
-begins-of : (ps more : List Published) (cs carries : List Call) (n : ℕ) → MadeOf ps more (cs ++ carries) → n ≤ length (ps ++ more) → (n ≤ length ps → Begins (made_at ps n) cs) → Begins (made_at (ps ++ more) n) (cs ++ carries)
+begins-of : (ps more : List Published) (cs carries : List Call) (n : ℕ) → MadeOf ps more (cs ++ carries) → n ≤ length (ps ++ more)
+    → (n ≤ length ps → Begins (made_at ps n) cs) → Begins (made_at (ps ++ more) n) (cs ++ carries)
 begins-of ps more cs carries n made fits before = by_place (le-or-lt n (length ps))
   where
     by_place : (n ≤ length ps) ⊎ (length ps < n) → Begins (made_at (ps ++ more) n) (cs ++ carries)
     by_place (inl few) =
-        subst (λ (xs : List Call). Begins xs (cs ++ carries)) (sym (made-earlier ps more n few)) (begins-more (made_at ps n) cs carries (cs ++ carries) (before few) refl)
-    by_place (inr past) = subst (λ (xs : List Call). Begins xs (cs ++ carries)) (sym (made n past fits)) (record { more = []; is = sym (append-nil (cs ++ carries)) })
+        subst (λ (xs : List Call). Begins xs (cs ++ carries)) (sym (made-earlier ps more n few))
+        (begins-more (made_at ps n) cs carries (cs ++ carries) (before few) refl)
+    by_place (inr past) = subst (λ (xs : List Call). Begins xs (cs ++ carries)) (sym (made n past fits))
+        (record { more = []; is = sym (append-nil (cs ++ carries)) })
 
 calls-own : (s : SessionNo) (h : List Entry) (e : Entry) → is_session s e.actor ≡ true → calls s (h ▹ e) ≡ calls s h ++ e.calls
 calls-own s h e mine = rw mine refl
@@ -62,11 +66,13 @@ pub made-begins : (s : SessionNo) (h : List Entry) (n : ℕ) → n ≤ length (p
 made-begins s [] n fits = record { more = []; is = refl }
 made-begins s (h ▹ e) n fits = by_owner (λ few. made-begins s h n few) (is_session s e.actor) refl
   where
-    by_owner : (n ≤ length (presents s h) → Begins (made_by s h n) (calls s h)) → (b : Bool) → is_session s e.actor ≡ b → Begins (made_by s (h ▹ e) n) (calls s (h ▹ e))
+    by_owner : (n ≤ length (presents s h) → Begins (made_by s h n) (calls s h)) → (b : Bool) → is_session s e.actor ≡ b
+        → Begins (made_by s (h ▹ e) n) (calls s (h ▹ e))
     by_owner before false other =
         let same : presents s (h ▹ e) ≡ presents s h = presents-other s h e other in
         let few : n ≤ length (presents s h) = omega (arith, fits, ap (length {A = Published}) same) in
-        subst (λ (xs : List Call). Begins (made_by s (h ▹ e) n) xs) (sym (calls-other s h e other)) (subst (λ (ps : List Published). Begins (made_at ps n) (calls s h)) (sym same) (before few))
+        subst (λ (xs : List Call). Begins (made_by s (h ▹ e) n) xs) (sym (calls-other s h e other))
+        (subst (λ (ps : List Published). Begins (made_at ps n) (calls s h)) (sym same) (before few))
     by_owner before true mine =
         let more : List Published = published e.kind e.reply (calls s h ++ e.calls) in
         let is : presents s (h ▹ e) ≡ presents s h ++ more = presents-own s h e mine in
@@ -82,18 +88,23 @@ abbrev pub Has : PairNo → ℕ → ℕ → List Call → Type 0
 Has p n serial cs = of_serial (serials_in p 1 (contents_made cs)) n ≡ cond (nat_le serial (length (contents_made cs))) (Some serial) None
 
 -- calls that have it go on to have it
-pub has-more : (p : PairNo) (n serial : ℕ) (cs more : List Call) → of_serial (serials_in p 1 (contents_made cs)) n ≡ Some serial → serial ≤ length (contents_made cs)
+pub has-more : (p : PairNo) (n serial : ℕ) (cs more : List Call) → of_serial (serials_in p 1 (contents_made cs)) n ≡ Some serial
+    → serial ≤ length (contents_made cs)
     → (of_serial (serials_in p 1 (contents_made (cs ++ more))) n ≡ Some serial) × (serial ≤ length (contents_made (cs ++ more)))
 has-more p n serial cs more at fits =
     let all : contents_made (cs ++ more) ≡ contents_made cs ++ contents_made more = contents-append cs more in
-    let serials : serials_in p 1 (contents_made (cs ++ more)) ≡ serials_in p 1 (contents_made cs) ++ serials_in p (1 + length (contents_made cs)) (contents_made more) =
+    let serials : serials_in p 1 (contents_made (cs ++ more)) ≡ serials_in p 1 (contents_made cs)
+    ++ serials_in p (1 + length (contents_made cs)) (contents_made more) =
     ap (serials_in p 1) all ∙ serials-append p 1 (contents_made cs) (contents_made more) in
-    let long : length (contents_made (cs ++ more)) ≡ length (contents_made cs) + length (contents_made more) = ap (length {A = Option PairNo}) all ∙ length-append (contents_made cs) (contents_made more) in (
-      ap (λ (l : List ℕ). of_serial l n) serials ∙ serial-append (serials_in p 1 (contents_made cs)) (serials_in p (1 + length (contents_made cs)) (contents_made more)) n (serial-within (serials_in p 1 (contents_made cs)) n serial at) ∙ at,
+    let long : length (contents_made (cs ++ more)) ≡ length (contents_made cs) + length (contents_made more) =
+    ap (length {A = Option PairNo}) all ∙ length-append (contents_made cs) (contents_made more) in (
+      ap (λ (l : List ℕ). of_serial l n) serials ∙ serial-append (serials_in p 1 (contents_made cs))
+          (serials_in p (1 + length (contents_made cs)) (contents_made more)) n (serial-within (serials_in p 1 (contents_made cs)) n serial at) ∙ at,
       omega (arith, fits, long),
     )
 
-has-some : (p : PairNo) (n serial : ℕ) (cs : List Call) → (of_serial (serials_in p 1 (contents_made cs)) n ≡ Some serial) × (serial ≤ length (contents_made cs)) → Has p n serial cs
+has-some : (p : PairNo) (n serial : ℕ) (cs : List Call) → (of_serial (serials_in p 1 (contents_made cs)) n ≡ Some serial) × (serial ≤ length (contents_made cs))
+    → Has p n serial cs
 has-some p n serial cs both = let fits : nat_le serial (length (contents_made cs)) ≡ true = fits_is both.1 in both.0 ∙ sym (rw fits refl)
   where
     fits_is : serial ≤ length (contents_made cs) → nat_le serial (length (contents_made cs)) ≡ true
@@ -128,7 +139,8 @@ module _ (setup : Setup) (s : SessionNo) (p : PairNo) (owned : owns_viewport set
             subst (λ (u : ℕ). Q (calls s (h ▹ e)) u) (sym n) (subst (λ (cs : List Call). Q cs (uses h)) (sym (calls-other s h e other)) before);
       }
 
-  more-tells : (serial u : ℕ) (ps more : List Published) (all : List Call) → MadeOf ps more all → ((k : ℕ) → k ≤ length ps → Has p u serial (made_at ps k)) → (length ps < length (ps ++ more) → Has p u serial all)
+  more-tells : (serial u : ℕ) (ps more : List Published) (all : List Call) → MadeOf ps more all → ((k : ℕ) → k ≤ length ps → Has p u serial (made_at ps k))
+      → (length ps < length (ps ++ more) → Has p u serial all)
       → (k : ℕ) → k ≤ length (ps ++ more) → Has p u serial (made_at (ps ++ more) k)
   more-tells serial u ps more all made before now k fits = by_place (le-or-lt k (length ps))
     where
@@ -137,7 +149,8 @@ module _ (setup : Setup) (s : SessionNo) (p : PairNo) (owned : owns_viewport set
       by_place (inr past) = subst (Has p u serial) (sym (made k past fits)) (now (omega (arith, past, fits)))
 
   -- its own entry that is no use of the pair, and closes nothing
-  pub serial-own : is_session s e.actor ≡ true → closes e.reply ≡ false → is_closed s h ≡ false → uses (h ▹ e) ≡ uses h → (serial : ℕ) → IsUseSerial p s h serial → IsUseSerial p s (h ▹ e) serial
+  pub serial-own : is_session s e.actor ≡ true → closes e.reply ≡ false → is_closed s h ≡ false → uses (h ▹ e) ≡ uses h → (serial : ℕ)
+      → IsUseSerial p s h serial → IsUseSerial p s (h ▹ e) serial
   serial-own mine stays open_before n serial old =
       let all : List Call = calls s h ++ e.calls in
       let more : List Published = published e.kind e.reply all in
@@ -146,16 +159,19 @@ module _ (setup : Setup) (s : SessionNo) (p : PairNo) (owned : owns_viewport set
       let was = old.opened open_before in
       let now : Q all (uses h) = has-more p (uses h) serial (calls s h) e.calls was.0 was.1 in
       let here : P (presents s h ++ more) (uses h) =
-      more-tells serial (uses h) (presents s h) more all (published-made e.kind e.reply (presents s h) all) old.tells (λ some. has-some p (uses h) serial all now) in
+      more-tells serial (uses h) (presents s h) more all (published-made e.kind e.reply (presents s h) all) old.tells
+      (λ some. has-some p (uses h) serial all now) in
       record {
         tells = subst (λ (u : ℕ). P (presents s (h ▹ e)) u) (sym n) (subst (λ (ps : List Published). P ps (uses h)) (sym (presents-own s h e mine)) here);
         opened = λ o. subst (λ (u : ℕ). Q (calls s (h ▹ e)) u) (sym n) (subst (λ (cs : List Call). Q cs (uses h)) (sym (calls-own s h e mine)) now);
       }
 
   -- one that closes the session
-  pub serial-closing : is_session s e.actor ≡ true → closes e.reply ≡ true → uses (h ▹ e) ≡ uses h → (serial : ℕ) → IsUseSerial p s h serial → IsUseSerial p s (h ▹ e) serial
+  pub serial-closing : is_session s e.actor ≡ true → closes e.reply ≡ true → uses (h ▹ e) ≡ uses h → (serial : ℕ) → IsUseSerial p s h serial
+      → IsUseSerial p s (h ▹ e) serial
   serial-closing mine is n serial old =
-      let same : presents s (h ▹ e) ≡ presents s h = presents-own s h e mine ∙ ap (λ (l : List Published). presents s h ++ l) (not-presented e.kind e.reply (calls s h ++ e.calls) is) ∙ append-nil (presents s h) in
+      let same : presents s (h ▹ e) ≡ presents s h = presents-own s h e mine
+      ∙ ap (λ (l : List Published). presents s h ++ l) (not-presented e.kind e.reply (calls s h ++ e.calls) is) ∙ append-nil (presents s h) in
       let P : List Published → ℕ → Type 0 = λ ps u. (k : ℕ) → k ≤ length ps → Has p u serial (made_at ps k) in
       let shut : is_closed s (h ▹ e) ≡ true = rw (mine, is) refl in
       record {
@@ -165,7 +181,8 @@ module _ (setup : Setup) (s : SessionNo) (p : PairNo) (owned : owns_viewport set
 
   -- ---- a new use
 
-  last-call : (props : ViewportProps) (call : Call) → makes_viewport p props (Some call) ≡ true → (q : PairNo) × ((makes_content call ≡ Some q ∷ []) × ((q.0 == p.0) ≡ true))
+  last-call : (props : ViewportProps) (call : Call) → makes_viewport p props (Some call) ≡ true
+      → (q : PairNo) × ((makes_content call ≡ Some q ∷ []) × ((q.0 == p.0) ≡ true))
   last-call props (CreateViewport c q w x inset) is = (q, (refl, and-left (q.0 == p.0) _ (and-left _ _ (and-left _ _ is))))
   last-call props _ is = cc
 
@@ -177,44 +194,59 @@ module _ (setup : Setup) (s : SessionNo) (p : PairNo) (owned : owns_viewport set
       rw (more, less) (last-serial ys x)
 
   -- the viewport that is made last has the last serial
-  made-new : (props : ViewportProps) (carries : List Call) (last : Option Call) → slice_get carries (length carries - 1) ≡ last → makes_viewport p props last ≡ true
-      → of_serial (serials_in p 1 (contents_made (calls s h ++ carries))) (made_of_pair p (calls s h ++ carries)) ≡ Some (length (contents_made (calls s h ++ carries)))
+  made-new : (props : ViewportProps) (carries : List Call) (last : Option Call) → slice_get carries (length carries - 1) ≡ last
+      → makes_viewport p props last ≡ true
+      → of_serial (serials_in p 1 (contents_made (calls s h ++ carries))) (made_of_pair p (calls s h ++ carries))
+      ≡ Some (length (contents_made (calls s h ++ carries)))
   made-new props carries None at is = cc
   made-new props carries (Some call) at is =
       let one = last-call props call is in
       let first : List Call = calls s h ++ all_but_last carries in
       let xs : List (Option PairNo) = contents_made first in
-      let split : calls s h ++ carries ≡ first ++ call ∷ [] = ap (λ (l : List Call). calls s h ++ l) (split-last carries call at) ∙ sym (append_assoc (calls s h) (all_but_last carries) (call ∷ [])) in
+      let split : calls s h ++ carries ≡ first ++ call ∷ [] =
+      ap (λ (l : List Call). calls s h ++ l) (split-last carries call at) ∙ sym (append_assoc (calls s h) (all_but_last carries) (call ∷ [])) in
       let content : contents_made (call ∷ []) ≡ Some one.0 ∷ [] = append-nil (makes_content call) ∙ one.1.0 in
-      let all : contents_made (calls s h ++ carries) ≡ xs ++ Some one.0 ∷ [] = ap contents_made split ∙ contents-append first (call ∷ []) ∙ ap (λ (l : List (Option PairNo)). xs ++ l) content in
+      let all : contents_made (calls s h ++ carries) ≡ xs ++ Some one.0 ∷ [] =
+      ap contents_made split ∙ contents-append first (call ∷ []) ∙ ap (λ (l : List (Option PairNo)). xs ++ l) content in
       let mine : is_pair (Some one.0) p ≡ true = one.1.1 in
       let end : serials_in p (1 + length xs) (Some one.0 ∷ []) ≡ (1 + length xs) ∷ [] = rw mine refl in
       let serials : serials_in p 1 (contents_made (calls s h ++ carries)) ≡ serials_in p 1 xs ++ (1 + length xs) ∷ [] =
       ap (serials_in p 1) all ∙ serials-append p 1 xs (Some one.0 ∷ []) ∙ ap (λ (l : List ℕ). serials_in p 1 xs ++ l) end in
-      let count : length (serials_in p 1 (contents_made (calls s h ++ carries))) ≡ made_of_pair p (calls s h ++ carries) = serials-count p 1 (calls s h ++ carries) in
-      let long : length (serials_in p 1 (contents_made (calls s h ++ carries))) ≡ length (serials_in p 1 xs) + 1 = ap (length {A = ℕ}) serials ∙ length-append (serials_in p 1 xs) ((1 + length xs) ∷ []) in
+      let count : length (serials_in p 1 (contents_made (calls s h ++ carries))) ≡ made_of_pair p (calls s h ++ carries) =
+      serials-count p 1 (calls s h ++ carries) in
+      let long : length (serials_in p 1 (contents_made (calls s h ++ carries))) ≡ length (serials_in p 1 xs) + 1 =
+      ap (length {A = ℕ}) serials ∙ length-append (serials_in p 1 xs) ((1 + length xs) ∷ []) in
       let n : made_of_pair p (calls s h ++ carries) ≡ length (serials_in p 1 xs) + 1 = sym count ∙ long in
-      let m : length (contents_made (calls s h ++ carries)) ≡ 1 + length xs = ap (length {A = Option PairNo}) all ∙ length-append xs (Some one.0 ∷ []) ∙ omega arith in
-      ap (λ (l : List ℕ). of_serial l (made_of_pair p (calls s h ++ carries))) serials ∙ ap (λ (k : ℕ). of_serial (serials_in p 1 xs ++ (1 + length xs) ∷ []) k) n ∙ last-serial (serials_in p 1 xs) (1 + length xs)
+      let m : length (contents_made (calls s h ++ carries)) ≡ 1 + length xs =
+      ap (length {A = Option PairNo}) all ∙ length-append xs (Some one.0 ∷ []) ∙ omega arith in
+      ap (λ (l : List ℕ). of_serial l (made_of_pair p (calls s h ++ carries))) serials
+      ∙ ap (λ (k : ℕ). of_serial (serials_in p 1 xs ++ (1 + length xs) ∷ []) k) n ∙ last-serial (serials_in p 1 xs) (1 + length xs)
       ∙ ap (λ (k : ℕ). let o : Option ℕ = Some k in o) (sym m)
 
-  made-begins-more : (cs more all : List Call) → all ≡ cs ++ more → (made_of_pair p cs ≤ made_of_pair p all) × (length (contents_made cs) ≤ length (contents_made all))
+  made-begins-more : (cs more all : List Call) → all ≡ cs ++ more
+      → (made_of_pair p cs ≤ made_of_pair p all) × (length (contents_made cs) ≤ length (contents_made all))
   made-begins-more cs more all is =
       let pairs : made_of_pair p all ≡ made_of_pair p (cs ++ more) = ap (made_of_pair p) is in
-      let contents : length (contents_made all) ≡ length (contents_made cs) + length (contents_made more) = ap (λ (l : List Call). length (contents_made l)) is ∙ ap (length {A = Option PairNo}) (contents-append cs more) ∙ length-append (contents_made cs) (contents_made more) in
+      let contents : length (contents_made all) ≡ length (contents_made cs) + length (contents_made more) =
+      ap (λ (l : List Call). length (contents_made l)) is ∙ ap (length {A = Option PairNo}) (contents-append cs more)
+      ∙ length-append (contents_made cs) (contents_made more) in
       (omega (arith, made-append p cs more, pairs), omega (arith, contents))
 
   -- a use of the pair: the viewport that it makes has the last serial
-  pub serial-new : is_session s e.actor ≡ true → closes e.reply ≡ false → is_closed s h ≡ false → ((made : List Call) → published e.kind e.reply made ≡ []) → uses (h ▹ e) ≡ uses h + 1
-      → (props : ViewportProps) → makes_viewport p props (slice_get e.calls (length e.calls - 1)) ≡ true → IsUseSerial p s (h ▹ e) (length (contents_made (calls s h ++ e.calls)))
+  pub serial-new : is_session s e.actor ≡ true → closes e.reply ≡ false → is_closed s h ≡ false → ((made : List Call) → published e.kind e.reply made ≡ [])
+      → uses (h ▹ e) ≡ uses h + 1
+      → (props : ViewportProps) → makes_viewport p props (slice_get e.calls (length e.calls - 1)) ≡ true
+      → IsUseSerial p s (h ▹ e) (length (contents_made (calls s h ++ e.calls)))
   serial-new mine stays open_before none n props last =
       let all : List Call = calls s h ++ e.calls in
       let serial : ℕ = length (contents_made all) in
-      let same : presents s (h ▹ e) ≡ presents s h = presents-own s h e mine ∙ ap (λ (l : List Published). presents s h ++ l) (none all) ∙ append-nil (presents s h) in
+      let same : presents s (h ▹ e) ≡ presents s h = presents-own s h e mine ∙ ap (λ (l : List Published). presents s h ++ l) (none all)
+      ∙ append-nil (presents s h) in
       let before : uses h ≡ made_of_pair p (calls s h) = uses-made setup s p owned h legal.0 open_before in
       let more = uses-own setup s p owned h e legal.1 mine stays in
       let now : uses (h ▹ e) ≡ made_of_pair p all = omega (arith, more, before, made-append p (calls s h) e.calls) in
-      let fresh : of_serial (serials_in p 1 (contents_made all)) (made_of_pair p all) ≡ Some serial = made-new props e.calls (slice_get e.calls (length e.calls - 1)) refl last in
+      let fresh : of_serial (serials_in p 1 (contents_made all)) (made_of_pair p all) ≡ Some serial =
+      made-new props e.calls (slice_get e.calls (length e.calls - 1)) refl last in
       let grown : length (contents_made (calls s h)) < serial = longer props e.calls (slice_get e.calls (length e.calls - 1)) refl last in
       let P : List Published → ℕ → Type 0 = λ ps u. (k : ℕ) → k ≤ length ps → Has p u serial (made_at ps k) in
       let Q : List Call → ℕ → Type 0 = λ cs u. (of_serial (serials_in p 1 (contents_made cs)) u ≡ Some serial) × (serial ≤ length (contents_made cs)) in
@@ -225,16 +257,20 @@ module _ (setup : Setup) (s : SessionNo) (p : PairNo) (owned : owns_viewport set
       has-none p (uses (h ▹ e)) serial (made_by s h k) (omega (arith, less.0, before, n)) (omega (arith, less.1, grown)) in
       record {
         tells = subst (λ (ps : List Published). P ps (uses (h ▹ e))) (sym same) old;
-        opened = λ o. subst (λ (u : ℕ). Q (calls s (h ▹ e)) u) (sym now) (subst (λ (cs : List Call). Q cs (made_of_pair p all)) (sym (calls-own s h e mine)) (fresh, omega arith));
+        opened = λ o. subst (λ (u : ℕ). Q (calls s (h ▹ e)) u) (sym now)
+            (subst (λ (cs : List Call). Q cs (made_of_pair p all)) (sym (calls-own s h e mine)) (fresh, omega arith));
       }
     where
-      longer : (props : ViewportProps) (carries : List Call) (last : Option Call) → slice_get carries (length carries - 1) ≡ last → makes_viewport p props last ≡ true → length (contents_made (calls s h)) < length (contents_made (calls s h ++ carries))
+      longer : (props : ViewportProps) (carries : List Call) (last : Option Call) → slice_get carries (length carries - 1) ≡ last
+          → makes_viewport p props last ≡ true → length (contents_made (calls s h)) < length (contents_made (calls s h ++ carries))
       longer props carries None at is = cc
       longer props carries (Some call) at is =
           let one = last-call props call is in
           let content : length (contents_made (call ∷ [])) ≡ 1 = ap (length {A = Option PairNo}) (append-nil (makes_content call) ∙ one.1.0) in
           let split : length (contents_made carries) ≡ length (contents_made (all_but_last carries)) + length (contents_made (call ∷ [])) =
-          ap (λ (l : List Call). length (contents_made l)) (split-last carries call at) ∙ ap (length {A = Option PairNo}) (contents-append (all_but_last carries) (call ∷ [])) ∙ length-append (contents_made (all_but_last carries)) (contents_made (call ∷ [])) in
+          ap (λ (l : List Call). length (contents_made l)) (split-last carries call at)
+          ∙ ap (length {A = Option PairNo}) (contents-append (all_but_last carries) (call ∷ []))
+          ∙ length-append (contents_made (all_but_last carries)) (contents_made (call ∷ [])) in
           let all : length (contents_made (calls s h ++ carries)) ≡ length (contents_made (calls s h)) + length (contents_made carries) =
           ap (length {A = Option PairNo}) (contents-append (calls s h) carries) ∙ length-append (contents_made (calls s h)) (contents_made carries) in
           omega (arith, content, split, all)
@@ -255,21 +291,29 @@ abbrev calls_in : Option Published → List Call
 calls_in o = unwrap_or (option_map (λ present. present.made) o) []
 
 -- the properties that the state taken at an earlier moment has of the last use, read off the tree that was taken
-pub seen-props : (setup : Setup) (s : SessionNo) (p : PairNo) (k h : List Entry) (serial : ℕ) → Legal setup h → IsEarlier k h → 0 < length (viewport_uses p h) → IsUseSerial p s h serial
+pub seen-props : (setup : Setup) (s : SessionNo) (p : PairNo) (k h : List Entry) (serial : ℕ) → Legal setup h → IsEarlier k h → 0 < length (viewport_uses p h)
+    → IsUseSerial p s h serial
     → option_and_then (props_of p (length (viewport_uses p h))) (result_ok (draft_of setup (taken_calls setup k s)))
     ≡ option_and_then (λ (t : Tree). props_at_serial t.viewports serial) (option_and_then (tree_of setup) (last_taken setup k s))
-seen-props setup s p k h serial legal before some is = by_present (last_taken setup k s) refl (found-sound setup s (taken setup k s) (presents s k) (presents-sound setup s k (legal-earlier setup k h before legal)))
+seen-props setup s p k h serial legal before some is =
+    by_present (last_taken setup k s) refl (found-sound setup s (taken setup k s) (presents s k)
+    (presents-sound setup s k (legal-earlier setup k h before legal)))
   where
     tells : Has p (length (viewport_uses p h)) serial (taken_calls setup k s)
-    tells = subst (Has p (length (viewport_uses p h)) serial) (sym (calls-taken setup s k h before)) (is.tells (taken setup k s) (taken-fits setup s k h before))
+    tells = subst (Has p (length (viewport_uses p h)) serial) (sym (calls-taken setup s k h before))
+        (is.tells (taken setup k s) (taken-fits setup s k h before))
 
     by_present : (o : Option Published) → last_taken setup k s ≡ o → MaySound setup s o
-        → option_and_then (props_of p (length (viewport_uses p h))) (result_ok (draft_of setup (calls_in (last_taken setup k s)))) ≡ option_and_then (λ (t : Tree). props_at_serial t.viewports serial) (option_and_then (tree_of setup) (last_taken setup k s))
+        → option_and_then (props_of p (length (viewport_uses p h))) (result_ok (draft_of setup (calls_in (last_taken setup k s))))
+        ≡ option_and_then (λ (t : Tree). props_at_serial t.viewports serial) (option_and_then (tree_of setup) (last_taken setup k s))
     by_present None at sound = rw at refl
     by_present (Some present) at sound =
         let d : Draft = sound.0 in
         let good = sound.1 in
         let t = tree-some d good.tests in
-        let has : Has p (length (viewport_uses p h)) serial present.made = ap (λ (o : Option Published). of_serial (serials_in p 1 (contents_made (calls_in o))) (length (viewport_uses p h))) (sym at) ∙ tells ∙ ap (λ (o : Option Published). cond (nat_le serial (length (contents_made (calls_in o)))) (Some serial) None) at in
-        let props : props_of p (length (viewport_uses p h)) d ≡ props_at_serial t.0.viewports serial = use-props setup present.made d good.made t.0 t.1 p (length (viewport_uses p h)) serial has in
+        let has : Has p (length (viewport_uses p h)) serial present.made =
+        ap (λ (o : Option Published). of_serial (serials_in p 1 (contents_made (calls_in o))) (length (viewport_uses p h))) (sym at) ∙ tells
+        ∙ ap (λ (o : Option Published). cond (nat_le serial (length (contents_made (calls_in o)))) (Some serial) None) at in
+        let props : props_of p (length (viewport_uses p h)) d ≡ props_at_serial t.0.viewports serial =
+        use-props setup present.made d good.made t.0 t.1 p (length (viewport_uses p h)) serial has in
         rw at (rw (good.made, t.1) props)

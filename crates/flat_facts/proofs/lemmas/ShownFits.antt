@@ -1,5 +1,6 @@
 -- What the sessions of a legal history show fits the setup.
-use Rattle.std.proofs.Common.{◌≡◌, ◌≢◌, ℕ, zero, suc, ◌-◌, ◌≤◌, Bool, true, false, cond, ◌==◌, List, [], ◌∷◌, ◌++◌, refl, sym, ap, ◌∙◌, subst, arith, Option, Some, None, Ok, Err, Result, slice_get, is_none, inl, inr}
+use Rattle.std.proofs.Common.{◌≡◌, ◌≢◌, ℕ, zero, suc, ◌-◌, ◌≤◌, Bool, true, false, cond, ◌==◌, List, [], ◌∷◌, ◌++◌, refl, sym, ap, ◌∙◌, subst, arith, Option}
+use Rattle.std.proofs.Common.{Some, None, Ok, Err, Result, slice_get, is_none, inl, inr}
 use Rattle.std.specs.List.{list_all, AllByRecursion, Contains, AllPairs}
 use Rattle.std.specs.Option.{option_map, option_and_then, unwrap_or}
 use Rattle.std.specs.Result.{result_ok}
@@ -69,7 +70,8 @@ IsSound setup s present = (d : Draft) × IsGood setup s present.made d
 module _ (setup : Setup) (s : SessionNo) where
   -- ---- presents
 
-  presented : (before : List Entry) (e : Entry) → Legal setup (before ▹ e) → is_session s e.actor ≡ true → (args : PresentArgs) (n k : ℕ) → e.kind ≡ Present args → e.reply ≡ Presented n k
+  presented : (before : List Entry) (e : Entry) → Legal setup (before ▹ e) → is_session s e.actor ≡ true → (args : PresentArgs) (n k : ℕ)
+      → e.kind ≡ Present args → e.reply ≡ Presented n k
       → (r : Result Draft Reason) → draft_of setup (calls s before ++ e.calls) ≡ r → (d : Draft) × IsGood setup s (calls s before ++ e.calls) d
   presented before e legal mine args n k kind reply r is = by_draft r is refl
     where
@@ -95,11 +97,14 @@ module _ (setup : Setup) (s : SessionNo) where
       none_of None none = refl
       none_of (Some reason) none = cc
 
-      by_draft : (r : Result Draft Reason) → draft_of setup (calls s before ++ e.calls) ≡ r → result_ok (draft_of setup (calls s before ++ e.calls)) ≡ result_ok (draft_of setup (calls s before ++ e.calls))
+      by_draft : (r : Result Draft Reason) → draft_of setup (calls s before ++ e.calls) ≡ r
+          → result_ok (draft_of setup (calls s before ++ e.calls)) ≡ result_ok (draft_of setup (calls s before ++ e.calls))
           → (d : Draft) × IsGood setup s (calls s before ++ e.calls) d
-      by_draft (Err reason) made same = let wrong : false ≡ true = ap (λ (x : Result Draft Reason). has_tree setup (result_ok x) (Present args)) (sym made) ∙ may.tree in cc
+      by_draft (Err reason) made same = let wrong : false ≡ true =
+          ap (λ (x : Result Draft Reason). has_tree setup (result_ok x) (Present args)) (sym made) ∙ may.tree in cc
       by_draft (Ok d) made same =
-          let fine : is_none (first_reason (present_tests d args)) ≡ true = ap (λ (x : Result Draft Reason). has_tree setup (result_ok x) (Present args)) (sym made) ∙ may.tree in
+          let fine : is_none (first_reason (present_tests d args)) ≡ true =
+          ap (λ (x : Result Draft Reason). has_tree setup (result_ok x) (Present args)) (sym made) ∙ may.tree in
           let all = lived-all setup (calls s before ++ e.calls) d made in
           let here : live_in s (before ▹ e) ≡ lives_of d = rw mine (sym all.lives) in (
             d,
@@ -111,9 +116,11 @@ module _ (setup : Setup) (s : SessionNo) where
             },
           )
 
-  published-sound : (before : List Entry) (e : Entry) → Legal setup (before ▹ e) → is_session s e.actor ≡ true → (kind : Kind) (reply : Reply) → e.kind ≡ kind → e.reply ≡ reply
+  published-sound : (before : List Entry) (e : Entry) → Legal setup (before ▹ e) → is_session s e.actor ≡ true → (kind : Kind) (reply : Reply) → e.kind ≡ kind
+      → e.reply ≡ reply
       → AllByRecursion (IsSound setup s) (published kind reply (calls s before ++ e.calls))
-  published-sound before e legal mine (Present args) (Presented n k) kind reply = (presented before e legal mine args n k kind reply (draft_of setup (calls s before ++ e.calls)) refl, tt)
+  published-sound before e legal mine (Present args) (Presented n k) kind reply =
+      (presented before e legal mine args n k kind reply (draft_of setup (calls s before ++ e.calls)) refl, tt)
   published-sound before e legal mine _ _ kind reply = tt
 
   all-and : (xs ys : List Published) → AllByRecursion (IsSound setup s) xs → AllByRecursion (IsSound setup s) ys → AllByRecursion (IsSound setup s) (xs ++ ys)
@@ -124,10 +131,12 @@ module _ (setup : Setup) (s : SessionNo) where
   presents-sound [] legal = tt
   presents-sound (before ▹ e) legal = by_owner (presents-sound before legal.0) (is_session s e.actor) refl
     where
-      by_owner : AllByRecursion (IsSound setup s) (presents s before) → (b : Bool) → is_session s e.actor ≡ b → AllByRecursion (IsSound setup s) (presents s (before ▹ e))
+      by_owner : AllByRecursion (IsSound setup s) (presents s before) → (b : Bool) → is_session s e.actor ≡ b
+          → AllByRecursion (IsSound setup s) (presents s (before ▹ e))
       by_owner old true mine =
           subst (AllByRecursion (IsSound setup s)) (sym (presents-own s before e mine))
-          (all-and (presents s before) (published e.kind e.reply (calls s before ++ e.calls)) old (published-sound before e legal mine e.kind e.reply refl refl))
+          (all-and (presents s before) (published e.kind e.reply (calls s before ++ e.calls)) old
+          (published-sound before e legal mine e.kind e.reply refl refl))
       by_owner old false other = subst (AllByRecursion (IsSound setup s)) (sym (presents-other s before e other)) old
 
   -- ---- what is shown
@@ -174,21 +183,24 @@ module _ (setup : Setup) (s : SessionNo) where
   well-open false o well = well
 
   pub shown-well : (history : List Entry) → Legal setup history → ShownWell (shown setup history s)
-  shown-well history legal = well-open (is_closed s history) _ (well-last (last_taken setup history s) (found-sound (taken setup history s) (presents s history) (presents-sound history legal)))
+  shown-well history legal = well-open (is_closed s history) _
+      (well-last (last_taken setup history s) (found-sound (taken setup history s) (presents s history) (presents-sound history legal)))
 
   -- ---- what a state must meet
 
   owner-is : (p : PairNo) → owns_view setup s p ≡ true → OwnsView setup s.0 p.0
   owner-is p owned = by_pair (slice_get setup.pairs p.0) refl owned
     where
-      by_pair : (o : Option PairDecl) → slice_get setup.pairs p.0 ≡ o → unwrap_or (option_map (λ t. t.0 == s.0) (option_map (λ (pair : PairDecl). pair.view) o)) false ≡ true → OwnsView setup s.0 p.0
+      by_pair : (o : Option PairDecl) → slice_get setup.pairs p.0 ≡ o
+          → unwrap_or (option_map (λ t. t.0 == s.0) (option_map (λ (pair : PairDecl). pair.view) o)) false ≡ true → OwnsView setup s.0 p.0
       by_pair None is h = cc
       by_pair (Some pair) is h = (pair, is, ap (λ n. let t : SessionNo = record { 0 = n } in t) (eqb-true pair.view.0 s.0 h))
 
   viewport-is : (n : ℕ) → owns setup s n ≡ true → OwnsViewport setup s.0 n
   viewport-is n owned = by_pair (slice_get setup.pairs n) refl owned
     where
-      by_pair : (o : Option PairDecl) → slice_get setup.pairs n ≡ o → unwrap_or (option_map (is_session s) (option_map (λ (pair : PairDecl). pair.viewport) o)) false ≡ true → OwnsViewport setup s.0 n
+      by_pair : (o : Option PairDecl) → slice_get setup.pairs n ≡ o
+          → unwrap_or (option_map (is_session s) (option_map (λ (pair : PairDecl). pair.viewport) o)) false ≡ true → OwnsViewport setup s.0 n
       by_pair None is h = cc
       by_pair (Some pair) is h = (pair, is, same-session s pair.viewport h)
 
@@ -204,7 +216,13 @@ module _ (setup : Setup) (s : SessionNo) where
   no-one p has = in-contains p [] has
 
   nothing-fits : StateFits None
-  nothing-fits = record { views = λ p is. cc; viewports = λ p has. absurd (no-one p has); once = pairs-distinct [] tt; small = omega arith; opacities = omega arith }
+  nothing-fits = record {
+    views = λ p is. cc;
+    viewports = λ p has. absurd (no-one p has);
+    once = pairs-distinct [] tt;
+    small = omega arith;
+    opacities = omega arith;
+  }
 
   view-is : (view : Option PairNo) (p : ℕ) → option_map (λ (pair : PairNo). pair.0) view ≡ Some p → view ≡ Some (record { 0 = p })
   view-is None p is = cc
@@ -225,7 +243,8 @@ module _ (setup : Setup) (s : SessionNo) where
   list-in (x ∷ xs) p (inl same) all = ap (owns setup s) same ∙ and-left (owns setup s x) (list_all (owns setup s) xs) all
   list-in (x ∷ xs) p (inr on) all = list-in xs p on (and-right (owns setup s x) (list_all (owns setup s) xs) all)
 
-  made-is : (m : Option Made) (p : PairNo) → option_and_then pair_made m ≡ Some p → ((x : Made) → m ≡ Some x → made_owned setup s x ≡ true) → owns_viewport setup s p ≡ true
+  made-is : (m : Option Made) (p : PairNo) → option_and_then pair_made m ≡ Some p → ((x : Made) → m ≡ Some x → made_owned setup s x ≡ true)
+      → owns_viewport setup s p ≡ true
   made-is None p is owned = cc
   made-is (Some (an_image i)) p is owned = cc
   made-is (Some (a_fill x)) p is owned = cc
@@ -243,7 +262,8 @@ module _ (setup : Setup) (s : SessionNo) where
       let all : all_nodes d ≡ Some nodes = well.low.all in
       let owned : list_all (owns setup s) (pairs_in nodes) ≡ true = all-owned setup s d good.owned nodes all in
       let tidy = (lived-all setup well.calls d good.made).tidy in
-      let twice : shows_twice (all_nodes d) ≡ false = third (is_cyclic d) (is_too_large (all_nodes d)) (shows_twice (all_nodes d)) Cycle TreeTooLarge ViewportTwice good.tests in
+      let twice : shows_twice (all_nodes d) ≡ false = third (is_cyclic d) (is_too_large (all_nodes d)) (shows_twice (all_nodes d)) Cycle TreeTooLarge
+      ViewportTwice good.tests in
       let once : has_twice (viewports_in nodes) ≡ false = ap shows_twice (sym all) ∙ twice in
       let single : (k : ℕ) (p : PairNo) → pair_at d.contents k ≡ Some p → held_of p (lives_of d) ≤ 1 =
       λ k p is. good.single p (made-is (of_serial d.contents k) p is (λ x at. at-serial (made_owned setup s) d.contents k x good.owned.contents at)) in
@@ -262,7 +282,8 @@ module _ (setup : Setup) (history : List Entry) (legal : Legal setup history) wh
   each-fits zero = nothing-fits setup (record { 0 = zero })
   each-fits (suc k) =
       let s : SessionNo = record { 0 = suc k } in
-      within-or-past (StateFits setup s) (shown setup history) None setup.sessions k (nothing-fits setup s) (state-fits setup s (shown setup history s) (shown-well setup s history legal))
+      within-or-past (StateFits setup s) (shown setup history) None setup.sessions k (nothing-fits setup s)
+      (state-fits setup s (shown setup history s) (shown-well setup s history legal))
 
   -- what is shown of a legal history fits
   pub states-fit : FitsSetup setup (shown_states setup history)

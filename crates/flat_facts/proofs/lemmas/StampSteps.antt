@@ -28,7 +28,8 @@ pub stamp-of : (test : List Call → Bool) → IsLasting test → (s : SessionNo
 stamp-of test lasting s h = record { tells = (stamped test lasting s h).seen; opened = λ o. refl }
 
 -- another's entry
-pub other-stamp : (test : List Call → Bool) → IsLasting test → (s : SessionNo) (h : List Entry) (e : Entry) (stamp : Option ℕ) → is_session s e.actor ≡ false → IsStamp test s h stamp → IsStamp test s (h ▹ e) stamp
+pub other-stamp : (test : List Call → Bool) → IsLasting test → (s : SessionNo) (h : List Entry) (e : Entry) (stamp : Option ℕ) → is_session s e.actor ≡ false
+    → IsStamp test s h stamp → IsStamp test s (h ▹ e) stamp
 other-stamp test lasting s h e stamp other old =
     let same : presents s (h ▹ e) ≡ presents s h = presents-other s h e other in
     let P : List Published → Type 0 = λ ps. (n : ℕ) → n ≤ length ps → test (made_at ps n) ≡ is_seen stamp n in
@@ -47,17 +48,21 @@ early None true k n few = grind (arith, nat_tests)
 early None false k n few = refl
 
 -- its own entry, which does what the test asks for, or doesn't
-pub own-stamp : (test : List Call → Bool) → IsLasting test → (s : SessionNo) (h : List Entry) (e : Entry) (stamp : Option ℕ) (b : Bool) → is_session s e.actor ≡ true → is_closed s h ≡ false
-    → (closes e.reply ≡ false → stamp ≡ None → b ≡ test (calls s h ++ e.calls)) → IsStamp test s h stamp → IsStamp test s (h ▹ e) (stamp_then stamp b (length (presents s h)))
+pub own-stamp : (test : List Call → Bool) → IsLasting test → (s : SessionNo) (h : List Entry) (e : Entry) (stamp : Option ℕ) (b : Bool)
+    → is_session s e.actor ≡ true → is_closed s h ≡ false
+    → (closes e.reply ≡ false → stamp ≡ None → b ≡ test (calls s h ++ e.calls)) → IsStamp test s h stamp
+    → IsStamp test s (h ▹ e) (stamp_then stamp b (length (presents s h)))
 own-stamp test lasting s h e stamp b mine opened does_it old = by_close (closes e.reply) refl
   where
     now : closes e.reply ≡ false → stamp_then stamp b (length (presents s h)) ≡ first_at test s (h ▹ e)
     now stays =
         let was : first_at test s h ≡ stamp = sym (old.opened opened) in
-        let step : stamp_then stamp b (length (presents s h)) ≡ option_or stamp (cond (test (calls s h ++ e.calls)) (Some (length (presents s h))) None) = by_stamp stamp (does_it stays) in
+        let step : stamp_then stamp b (length (presents s h)) ≡ option_or stamp (cond (test (calls s h ++ e.calls)) (Some (length (presents s h))) None) =
+        by_stamp stamp (does_it stays) in
         step ∙ ap (λ (o : Option ℕ). option_or o (cond (test (calls s h ++ e.calls)) (Some (length (presents s h))) None)) (sym was) ∙ rw mine refl
       where
-        by_stamp : (o : Option ℕ) → (o ≡ None → b ≡ test (calls s h ++ e.calls)) → stamp_then o b (length (presents s h)) ≡ option_or o (cond (test (calls s h ++ e.calls)) (Some (length (presents s h))) None)
+        by_stamp : (o : Option ℕ) → (o ≡ None → b ≡ test (calls s h ++ e.calls))
+            → stamp_then o b (length (presents s h)) ≡ option_or o (cond (test (calls s h ++ e.calls)) (Some (length (presents s h))) None)
         by_stamp (Some k) same = refl
         by_stamp None same = ap (λ x. cond x (Some (length (presents s h))) None) (same refl)
 
@@ -67,7 +72,8 @@ own-stamp test lasting s h e stamp b mine opened does_it old = by_close (closes 
     by_close : (c : Bool) → closes e.reply ≡ c → IsStamp test s (h ▹ e) (stamp_then stamp b (length (presents s h)))
     by_close false stays = subst (IsStamp test s (h ▹ e)) (sym (now stays)) (stamp-of test lasting s (h ▹ e))
     by_close true is =
-        let same : presents s (h ▹ e) ≡ presents s h = presents-own s h e mine ∙ ap (λ (l : List Published). presents s h ++ l) (not-presented e.kind e.reply (calls s h ++ e.calls) is) ∙ append-nil (presents s h) in
+        let same : presents s (h ▹ e) ≡ presents s h = presents-own s h e mine
+        ∙ ap (λ (l : List Published). presents s h ++ l) (not-presented e.kind e.reply (calls s h ++ e.calls) is) ∙ append-nil (presents s h) in
         let P : List Published → Type 0 = λ ps. (n : ℕ) → n ≤ length ps → test (made_at ps n) ≡ is_seen (stamp_then stamp b (length (presents s h))) n in
         let here : P (presents s h) = λ n few. old.tells n few ∙ sym (early stamp b (length (presents s h)) n few) in
         record {
@@ -78,10 +84,12 @@ own-stamp test lasting s h e stamp b mine opened does_it old = by_close (closes 
 -- ---- what frames had taken
 
 -- whether the calls that were taken then pass the test
-pub stamp-taken : (setup : Setup) (test : List Call → Bool) (s : SessionNo) (k h : List Entry) (stamp : Option ℕ) → IsEarlier k h → IsStamp test s h stamp → test (taken_calls setup k s) ≡ is_seen stamp (taken setup k s)
+pub stamp-taken : (setup : Setup) (test : List Call → Bool) (s : SessionNo) (k h : List Entry) (stamp : Option ℕ) → IsEarlier k h → IsStamp test s h stamp
+    → test (taken_calls setup k s) ≡ is_seen stamp (taken setup k s)
 stamp-taken setup test s k h stamp before is = ap test (calls-taken setup s k h before) ∙ is.tells (taken setup k s) (taken-fits setup s k h before)
 
 -- whether an owner was closed then, or did it and a frame had seen it
-pub stamp-ended : (setup : Setup) (test : Draft → Call → Bool) (s : SessionNo) (k h : List Entry) (stamp : Option ℕ) → IsEarlier k h → IsStamp (happens setup test) s h stamp
+pub stamp-ended : (setup : Setup) (test : Draft → Call → Bool) (s : SessionNo) (k h : List Entry) (stamp : Option ℕ) → IsEarlier k h
+    → IsStamp (happens setup test) s h stamp
     → has_ended setup test k s ≡ (is_closed s k || is_seen stamp (taken setup k s))
 stamp-ended setup test s k h stamp before is = ap (λ b. is_closed s k || b) (stamp-taken setup (happens setup test) s k h stamp before is)

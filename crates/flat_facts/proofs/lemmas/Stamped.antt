@@ -1,5 +1,6 @@
 -- What holds of a session's calls is seen by exactly the presents after its stamp.
-use Rattle.std.proofs.Common.{◌≡◌, ◌∙◌, sym, subst, ℕ, ◌<◌, ◌≤◌, Bool, true, false, List, [], ◌++◌, length, refl, arith, ap, Some, None, Ok, inl, inr, ◌⊎◌, length-append}
+use Rattle.std.proofs.Common.{◌≡◌, ◌∙◌, sym, subst, ℕ, ◌<◌, ◌≤◌, Bool, true, false, List, [], ◌++◌, length, refl, arith, ap, Some, None, Ok, inl, inr, ◌⊎◌}
+use Rattle.std.proofs.Common.{length-append}
 use Rattle.std.specs.Prelude.{cond, nat_lt, nat_le, Option, is_some}
 use Rattle.std.proofs.lemmas.Bool.Decides.{nat_tests}
 use Rattle.flat_base.specs.declared.ids.SessionNo.{SessionNo}
@@ -55,7 +56,8 @@ module _ (test : List Call → Bool) (lasting : IsLasting test) (cs carries : Li
       by_test true = grind (arith, nat_tests)
       by_test false = refl
 
-  seen-after : (first : Option ℕ) (n : ℕ) → is_some first ≡ test cs → ((k : ℕ) → first ≡ Some k → k ≤ length ps) → length ps < n → is_seen (now first) n ≡ test (cs ++ carries)
+  seen-after : (first : Option ℕ) (n : ℕ) → is_some first ≡ test cs → ((k : ℕ) → first ≡ Some k → k ≤ length ps) → length ps < n
+      → is_seen (now first) n ≡ test (cs ++ carries)
   seen-after (Some k) n some fits past =
       let few : k ≤ length ps = fits k refl in
       let less : nat_lt k n ≡ true = grind (arith, nat_tests) in
@@ -78,15 +80,19 @@ module _ (test : List Call → Bool) (lasting : IsLasting test) (cs carries : Li
       by_place n few (inr past) = ap test (made n past few) ∙ sym (seen-after first n old.some old.fits past)
 
 -- no more calls
-same-stamp : (test : List Call → Bool) (cs : List Call) (k : ℕ) (first : Option ℕ) → is_some first ≡ test cs → option_or first (cond (test cs) (Some k) None) ≡ first
+same-stamp : (test : List Call → Bool) (cs : List Call) (k : ℕ) (first : Option ℕ) → is_some first ≡ test cs
+    → option_or first (cond (test cs) (Some k) None) ≡ first
 same-stamp test cs k (Some j) some = refl
 same-stamp test cs k None some = rw (sym some) refl
 
-stamped-by : (test : List Call → Bool) → IsLasting test → (s : SessionNo) (h : List Entry) (e : Entry) → Stamped test (calls s h) (presents s h) (first_at test s h)
+stamped-by : (test : List Call → Bool) → IsLasting test → (s : SessionNo) (h : List Entry) (e : Entry)
+    → Stamped test (calls s h) (presents s h) (first_at test s h)
     → (b : Bool) → is_session s e.actor ≡ b → Stamped test (calls s (h ▹ e)) (presents s (h ▹ e)) (first_at test s (h ▹ e))
 stamped-by test lasting s h e old true mine =
-    let here : Stamped test (calls s h ++ e.calls) (presents s h ++ published e.kind e.reply (calls s h ++ e.calls)) (option_or (first_at test s h) (cond (test (calls s h ++ e.calls)) (Some (length (presents s h))) None)) =
-    stamped-more test lasting (calls s h) e.calls (presents s h) (published e.kind e.reply (calls s h ++ e.calls)) (published-made e.kind e.reply (presents s h) (calls s h ++ e.calls)) (first_at test s h) old in
+    let here : Stamped test (calls s h ++ e.calls) (presents s h ++ published e.kind e.reply (calls s h ++ e.calls))
+    (option_or (first_at test s h) (cond (test (calls s h ++ e.calls)) (Some (length (presents s h))) None)) =
+    stamped-more test lasting (calls s h) e.calls (presents s h) (published e.kind e.reply (calls s h ++ e.calls))
+    (published-made e.kind e.reply (presents s h) (calls s h ++ e.calls)) (first_at test s h) old in
     rw mine here
 stamped-by test lasting s h e old false other =
     let S : Option ℕ → Type 0 = λ first. Stamped test (calls s h) (presents s h) first in
@@ -99,7 +105,8 @@ stamped test lasting s [] = record { some = sym lasting.none; fits = λ k is. cc
 stamped test lasting s (h ▹ e) = stamped-by test lasting s h e (stamped test lasting s h) (is_session s e.actor) refl
 
 -- another's entry leaves a stamp as it is
-pub stamp-other : (test : List Call → Bool) → IsLasting test → (s : SessionNo) (h : List Entry) (e : Entry) → is_session s e.actor ≡ false → first_at test s (h ▹ e) ≡ first_at test s h
+pub stamp-other : (test : List Call → Bool) → IsLasting test → (s : SessionNo) (h : List Entry) (e : Entry) → is_session s e.actor ≡ false
+    → first_at test s (h ▹ e) ≡ first_at test s h
 stamp-other test lasting s h e other =
     let same : option_or (first_at test s h) (cond (test (calls s h)) (Some (length (presents s h))) None) ≡ first_at test s h =
     same-stamp test (calls s h) (length (presents s h)) (first_at test s h) (stamped test lasting s h).some in

@@ -22,7 +22,8 @@ use Rattle.flat_rules.specs.Ends.{to_begin, to_finished, times, releases_viewpor
 use Rattle.flat_rules.specs.Legal.{Legal, reply_to, refused_token, has_token, is_token_back, owns_viewport, is_frame_open, keeps_time, may_act}
 use Rattle.flat_facts.specs.Lives.{held_of, lives_after, made_of_pair}
 use Rattle.flat_rules.specs.Posts.{posted, releases_seen, Sent}
-use Rattle.flat_facts.proofs.lemmas.Earlier.{begin-earlier, begun-earlier, finished-earlier, calls-taken, taken-fits, taken-begun, times-seen, times-rise, IsEarlier, taken-drop}
+use Rattle.flat_facts.proofs.lemmas.Earlier.{begin-earlier, begun-earlier, finished-earlier, calls-taken, taken-fits, taken-begun, times-seen, times-rise}
+use Rattle.flat_facts.proofs.lemmas.Earlier.{IsEarlier, taken-drop}
 use Rattle.flat_facts.proofs.lemmas.LiveCounts.{lived-all, balance, lives-append}
 use Rattle.flat_facts.proofs.lemmas.TokensBack.{no-token, token-finish}
 use Rattle.flat_facts.proofs.lemmas.Uses.{uses-made, uses-other, uses-own}
@@ -67,16 +68,21 @@ module _ (setup : Setup) (s : SessionNo) (p : PairNo) where
   -- what earlier frames have seen
   pub seen-then : (k h : List Entry) → IsEarlier k h → releases_seen setup k s p ≤ times setup (releases_viewport p) (Ok empty_draft) (calls s h)
   seen-then k h before =
-      let is : releases_seen setup k s p ≡ times setup (releases_viewport p) (Ok empty_draft) _ = ap (times setup (releases_viewport p) (Ok empty_draft)) (calls-taken setup s k h before) in
+      let is : releases_seen setup k s p ≡ times setup (releases_viewport p) (Ok empty_draft) _ =
+      ap (times setup (releases_viewport p) (Ok empty_draft)) (calls-taken setup s k h before) in
       omega (arith, is, times-seen setup (releases_viewport p) s h (taken setup k s) (taken-fits setup s k h before))
 
-  pub seen-rises : (k l h : List Entry) → IsEarlier k h → IsEarlier l h → taken setup k s ≤ taken setup l s → releases_seen setup k s p ≤ releases_seen setup l s p
+  pub seen-rises : (k l h : List Entry) → IsEarlier k h → IsEarlier l h → taken setup k s ≤ taken setup l s
+      → releases_seen setup k s p ≤ releases_seen setup l s p
   seen-rises k l h before then less =
-      let first : releases_seen setup k s p ≡ times setup (releases_viewport p) (Ok empty_draft) _ = ap (times setup (releases_viewport p) (Ok empty_draft)) (calls-taken setup s k h before) in
-      let second : releases_seen setup l s p ≡ times setup (releases_viewport p) (Ok empty_draft) _ = ap (times setup (releases_viewport p) (Ok empty_draft)) (calls-taken setup s l h then) in
+      let first : releases_seen setup k s p ≡ times setup (releases_viewport p) (Ok empty_draft) _ =
+      ap (times setup (releases_viewport p) (Ok empty_draft)) (calls-taken setup s k h before) in
+      let second : releases_seen setup l s p ≡ times setup (releases_viewport p) (Ok empty_draft) _ =
+      ap (times setup (releases_viewport p) (Ok empty_draft)) (calls-taken setup s l h then) in
       omega (arith, first, second, times-rise setup (releases_viewport p) s h (taken setup k s) (taken setup l s) less (taken-fits setup s l h then))
 
-  pub few-released : (owned : owns_viewport setup s p ≡ true) (h : List Entry) → Legal setup h → is_closed s h ≡ false → released h + held_of p (live_in s h) ≤ uses h
+  pub few-released : (owned : owns_viewport setup s p ≡ true) (h : List Entry) → Legal setup h → is_closed s h ≡ false
+      → released h + held_of p (live_in s h) ≤ uses h
   few-released owned h legal opened = omega (arith, seen-then (to_finished h) h (finished-earlier h), balanced owned h legal opened)
 
   -- ---- one entry more
@@ -94,7 +100,8 @@ module _ (setup : Setup) (s : SessionNo) (p : PairNo) where
         let r : released (h ▹ e) ≡ released h = rw no_finish refl in
         let none : (uses_viewport p e.kind && is_done e.reply) ≡ false = none-put e (viewport_uses p h) (uses_viewport p e.kind && is_done e.reply) same in
         record {
-          token = token-kept (uses_viewport p e.kind && is_done e.reply) (has_token setup p h) _ none (no-token setup p h e no_finish) ∙ old.token ∙ rw (n, r) refl;
+          token = token-kept (uses_viewport p e.kind && is_done e.reply) (has_token setup p h) _ none (no-token setup p h e no_finish) ∙ old.token
+              ∙ rw (n, r) refl;
           near = omega (arith, n, r, old.near);
           few = rw other old.few;
         }
@@ -111,7 +118,8 @@ module _ (setup : Setup) (s : SessionNo) (p : PairNo) where
     uses-is false e xs = omega arith
 
     -- what a use asks for
-    used-held : (kind : Kind) (reply : Reply) → reply ≡ reply_to setup h e.actor e.calls kind → (uses_viewport p kind && is_done reply) ≡ true → has_token setup p h ≡ true
+    used-held : (kind : Kind) (reply : Reply) → reply ≡ reply_to setup h e.actor e.calls kind → (uses_viewport p kind && is_done reply) ≡ true
+        → has_token setup p h ≡ true
     used-held (Viewport q props) reply replied used =
         let here : (q.0 == p.0) ≡ true = and-left (q.0 == p.0) (is_done reply) used in
         let number : q.0 ≡ p.0 = grind (arith, nat_tests) in
@@ -134,7 +142,8 @@ module _ (setup : Setup) (s : SessionNo) (p : PairNo) where
             let n : uses (h ▹ e) ≡ uses h = rw none refl in
             let nothing : made_of_pair p e.calls ≡ 0 = let more = uses-own setup s p owned h e legal.1 mine stays in omega (arith, more, n) in
             record {
-              token = token-kept (uses_viewport p e.kind && is_done e.reply) (has_token setup p h) _ none (no-token setup p h e no_finish) ∙ old.token ∙ rw (n, r) refl;
+              token = token-kept (uses_viewport p e.kind && is_done e.reply) (has_token setup p h) _ none (no-token setup p h e no_finish) ∙ old.token
+                  ∙ rw (n, r) refl;
               near = omega (arith, n, r, old.near);
               few = held-own mine 1 (omega (arith, nothing, old.few));
             }
@@ -187,7 +196,8 @@ module _ (setup : Setup) (s : SessionNo) (p : PairNo) where
         let b : ℕ = releases_seen setup (to_begin h) s p in
         let f : ℕ = releases_seen setup (drop 1 (to_begin h)) s p in
         let now : released (h ▹ e) ≡ b = rw ends refl in
-        let last : taken setup (drop 1 (to_begin h)) s ≡ taken setup (to_finished h) s = taken-begun setup s h legal.0 (finish-open e.kind legal.1.may.times ends) in
+        let last : taken setup (drop 1 (to_begin h)) s ≡ taken setup (to_finished h) s =
+        taken-begun setup s h legal.0 (finish-open e.kind legal.1.may.times ends) in
         let before_it : f ≤ released h = seen-rises (drop 1 (to_begin h)) (to_finished h) h (begun-earlier h) (finished-earlier h) (omega (arith, last)) in
         let after_it : released h ≤ f = seen-rises (to_finished h) (drop 1 (to_begin h)) h (finished-earlier h) (begun-earlier h) (omega (arith, last)) in
         let same : f ≡ released h = omega (arith, before_it, after_it) in
@@ -197,7 +207,8 @@ module _ (setup : Setup) (s : SessionNo) (p : PairNo) where
         let all = balanced owned h legal.0 opened in
         let fits : b ≤ uses h = omega (arith, seen, all) in
         let near : uses h ≤ f + 1 = omega (arith, old.near, same) in
-        let back : list_any (λ (sent : Sent). is_token_back p sent.event) (posted setup h e) ≡ nat_lt 0 (b - f) = token-finish setup p h e ends s owned declared still in
+        let back : list_any (λ (sent : Sent). is_token_back p sent.event) (posted setup h e) ≡ nat_lt 0 (b - f) =
+        token-finish setup p h e ends s owned declared still in
         let held : has_token setup p h ≡ nat_le (uses h) f = old.token ∙ ap (λ (k : ℕ). nat_le (uses h) k) (sym same) in
         let comes : has_token setup p (h ▹ e) ≡ nat_le (uses h) b = rw (no_use, back, held) (sums (uses h) f b rises fits near) in
         let moved : nat_le (uses h) b ≡ nat_le (uses (h ▹ e)) (released (h ▹ e)) = rw (n, now) refl in
@@ -209,14 +220,18 @@ module _ (setup : Setup) (s : SessionNo) (p : PairNo) where
 
   -- ---- all of a history
 
-  counted-by : (owned : owns_viewport setup s p ≡ true) (declared : is_declared setup s ≡ true) (h : List Entry) (e : Entry) → Legal setup (h ▹ e) → is_closed s h ≡ false → is_closed s (h ▹ e) ≡ false
-      → (is_session s e.actor ≡ true → closes e.reply ≡ false) → IsCounted h → (f : Bool) → is_finish e.kind ≡ f → (b : Bool) → is_session s e.actor ≡ b → IsCounted (h ▹ e)
+  counted-by : (owned : owns_viewport setup s p ≡ true) (declared : is_declared setup s ≡ true) (h : List Entry) (e : Entry) → Legal setup (h ▹ e)
+      → is_closed s h ≡ false → is_closed s (h ▹ e) ≡ false
+      → (is_session s e.actor ≡ true → closes e.reply ≡ false) → IsCounted h → (f : Bool) → is_finish e.kind ≡ f → (b : Bool) → is_session s e.actor ≡ b
+      → IsCounted (h ▹ e)
   counted-by owned declared h e legal opened still stays old true ends b actor = counted-finish owned h e legal opened declared ends still old
   counted-by owned declared h e legal opened still stays old false goes true mine = counted-own owned h e legal opened mine (stays mine) goes old
   counted-by owned declared h e legal opened still stays old false goes false other = counted-other owned h e legal opened other goes old
 
-  pub counted : (owned : owns_viewport setup s p ≡ true) (declared : is_declared setup s ≡ true) (h : List Entry) → Legal setup h → is_closed s h ≡ false → IsCounted h
+  pub counted : (owned : owns_viewport setup s p ≡ true) (declared : is_declared setup s ≡ true) (h : List Entry) → Legal setup h → is_closed s h ≡ false
+      → IsCounted h
   counted owned declared [] legal opened = record { token = refl; near = omega arith; few = omega arith }
   counted owned declared (h ▹ e) legal opened =
       let closing = closes-first (is_session s e.actor) e (own s h) opened in
-      counted-by owned declared h e legal closing.1 opened closing.0 (counted owned declared h legal.0 closing.1) (is_finish e.kind) refl (is_session s e.actor) refl
+      counted-by owned declared h e legal closing.1 opened closing.0 (counted owned declared h legal.0 closing.1) (is_finish e.kind) refl (is_session s e.actor)
+      refl

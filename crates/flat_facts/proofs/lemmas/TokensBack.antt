@@ -1,5 +1,6 @@
 -- Which tokens an entry brings back.
-use Rattle.std.proofs.Common.{◌≡◌, ◌∙◌, sym, subst, ℕ, zero, suc, ◌+◌, ◌-◌, Bool, true, false, List, [], ◌∷◌, ◌++◌, length, refl, arith, ap, Some, None, drop, zero-add}
+use Rattle.std.proofs.Common.{◌≡◌, ◌∙◌, sym, subst, ℕ, zero, suc, ◌+◌, ◌-◌, Bool, true, false, List, [], ◌∷◌, ◌++◌, length, refl, arith, ap, Some, None, drop}
+use Rattle.std.proofs.Common.{zero-add}
 use Rattle.std.specs.Prelude.{cond, not, ◌&&◌, ◌||◌, ◌==◌, nat_lt, nat_le, Option, option_map, unwrap_or, slice_get, flat_map, map, replicate}
 use Rattle.std.specs.List.{list_any}
 use Rattle.std.proofs.lemmas.Bool.Decides.{nat_tests}
@@ -42,15 +43,18 @@ any-copies : (p q : PairNo) (n : ℕ) → list_any (is_token_back p) (replicate 
 any-copies p q zero = refl
 any-copies p q (suc n) = by_pair (q.0 == p.0) (any-copies p q n)
   where
-    by_pair : (b : Bool) → list_any (is_token_back p) (replicate n (event.TokenBack q)) ≡ (nat_lt 0 n && b) → (b || list_any (is_token_back p) (replicate n (event.TokenBack q))) ≡ (nat_lt 0 (suc n) && b)
+    by_pair : (b : Bool) → list_any (is_token_back p) (replicate n (event.TokenBack q)) ≡ (nat_lt 0 n && b)
+        → (b || list_any (is_token_back p) (replicate n (event.TokenBack q))) ≡ (nat_lt 0 (suc n) && b)
     by_pair true rest = grind (arith, nat_tests)
     by_pair false rest = rest ∙ and-false (nat_lt 0 n) ∙ sym (and-false (nat_lt 0 (suc n)))
 
 -- five parts in a row
-five-parts : (f : Event → Bool) (a b c d e : List Event) → list_any f a ≡ false → list_any f b ≡ false → list_any f c ≡ false → list_any f e ≡ false → list_any f (a ++ b ++ c ++ d ++ e) ≡ list_any f d
+five-parts : (f : Event → Bool) (a b c d e : List Event) → list_any f a ≡ false → list_any f b ≡ false → list_any f c ≡ false → list_any f e ≡ false
+    → list_any f (a ++ b ++ c ++ d ++ e) ≡ list_any f d
 five-parts f a b c d e na nb nc ne =
     list_any-append f (a ++ b ++ c ++ d) e
-    ∙ ap (λ x. x || list_any f e) (list_any-append f (a ++ b ++ c) d ∙ ap (λ x. x || list_any f d) (list_any-append f (a ++ b) c ∙ ap (λ x. x || list_any f c) (list_any-append f a b)))
+    ∙ ap (λ x. x || list_any f e) (list_any-append f (a ++ b ++ c) d
+    ∙ ap (λ x. x || list_any f d) (list_any-append f (a ++ b) c ∙ ap (λ x. x || list_any f c) (list_any-append f a b)))
     ∙ rw (na, nb, nc, ne) (or-false (list_any f d))
 
 -- ---- what an entry tells a session
@@ -64,7 +68,8 @@ module _ (setup : Setup) (p : PairNo) where
       by_more true = refl
       by_more false = refl
 
-  news-tokens : (before : List Entry) (e : Entry) (t : SessionNo) → list_any (is_token_back p) (news_for setup before e t) ≡ list_any (is_token_back p) (cond (is_finish e.kind) (at_finish setup before t) [])
+  news-tokens : (before : List Entry) (e : Entry) (t : SessionNo)
+      → list_any (is_token_back p) (news_for setup before e t) ≡ list_any (is_token_back p) (cond (is_finish e.kind) (at_finish setup before t) [])
   news-tokens before e t =
       five-parts (is_token_back p)
       (flat_map (λ q. told_event setup q (layout_of q) before e) (views_of setup t))
@@ -74,17 +79,22 @@ module _ (setup : Setup) (p : PairNo) where
       (cond (is_begin e.kind) (at_begin setup before e t) [])
       (any-flat-nothing (is_token_back p) (λ q. told_event setup q (layout_of q) before e) (λ q. no-told p q _ _) (views_of setup t))
       (any-flat-nothing (is_token_back p) (λ q. told_event setup q (status_of q) before e) (λ q. no-told p q _ _) (views_of setup t))
-      (any-flat-nothing (is_token_back p) (λ q. flat_map (λ n. told_event setup q (child_of q n) before e) (up_to (length (viewport_uses q before)))) (λ q. any-flat-nothing (is_token_back p) (λ n. told_event setup q (child_of q n) before e) (λ n. no-told p q _ _) (up_to (length (viewport_uses q before)))) (viewports_of setup t))
+      (any-flat-nothing (is_token_back p) (λ q. flat_map (λ n. told_event setup q (child_of q n) before e) (up_to (length (viewport_uses q before))))
+      (λ q. any-flat-nothing (is_token_back p) (λ n. told_event setup q (child_of q n) before e) (λ n. no-told p q _ _)
+      (up_to (length (viewport_uses q before)))) (viewports_of setup t))
       (no-credits before e t (is_begin e.kind))
 
-  any-sent : (t : SessionNo) (events : List Event) → list_any (λ (sent : Sent). is_token_back p sent.event) (map (λ event. let sent : Sent = record { to = t; event = event } in sent) events) ≡ list_any (is_token_back p) events
+  any-sent : (t : SessionNo) (events : List Event) → list_any (λ (sent : Sent). is_token_back p sent.event)
+      (map (λ event. let sent : Sent = record { to = t; event = event } in sent) events) ≡ list_any (is_token_back p) events
   any-sent t [] = refl
   any-sent t (e ∷ es) = ap (λ b. is_token_back p e || b) (any-sent t es)
 
   posted-tokens : (before : List Entry) (e : Entry)
-      → list_any (λ (sent : Sent). is_token_back p sent.event) (posted setup before e) ≡ list_any (λ t. list_any (is_token_back p) (events_to setup before e t)) (sessions_to setup.sessions)
+      → list_any (λ (sent : Sent). is_token_back p sent.event) (posted setup before e)
+      ≡ list_any (λ t. list_any (is_token_back p) (events_to setup before e t)) (sessions_to setup.sessions)
   posted-tokens before e =
-      any-flat (λ (sent : Sent). is_token_back p sent.event) (λ t. map (λ event. let sent : Sent = record { to = t; event = event } in sent) (events_to setup before e t)) (sessions_to setup.sessions)
+      any-flat (λ (sent : Sent). is_token_back p sent.event)
+      (λ t. map (λ event. let sent : Sent = record { to = t; event = event } in sent) (events_to setup before e t)) (sessions_to setup.sessions)
       ∙ any-same _ _ (λ t. any-sent t (events_to setup before e t)) (sessions_to setup.sessions)
 
   none-closed : (b : Bool) (news : List Event) → list_any (is_token_back p) news ≡ false → list_any (is_token_back p) (cond b [] news) ≡ false
@@ -92,7 +102,8 @@ module _ (setup : Setup) (p : PairNo) where
   none-closed false news none = none
 
   -- no token comes back but at the end of a frame
-  pub no-token : (before : List Entry) (e : Entry) → is_finish e.kind ≡ false → list_any (λ (sent : Sent). is_token_back p sent.event) (posted setup before e) ≡ false
+  pub no-token : (before : List Entry) (e : Entry) → is_finish e.kind ≡ false
+      → list_any (λ (sent : Sent). is_token_back p sent.event) (posted setup before e) ≡ false
   no-token before e no_finish =
       posted-tokens before e
       ∙ any-none (λ t. list_any (is_token_back p) (events_to setup before e t)) (sessions_to setup.sessions)
@@ -104,7 +115,8 @@ module _ (setup : Setup) (p : PairNo) where
   abbrev pub came : List Entry → SessionNo → PairNo → ℕ
   came before t q = releases_seen setup (to_begin before) t q - releases_seen setup (drop 1 (to_begin before)) t q
 
-  any-pairs : (before : List Entry) (t : SessionNo) → list_any (is_token_back p) (tokens_back setup before t) ≡ list_any (λ q. nat_lt 0 (came before t q) && q.0 == p.0) (viewports_of setup t)
+  any-pairs : (before : List Entry) (t : SessionNo) → list_any (is_token_back p) (tokens_back setup before t)
+      ≡ list_any (λ q. nat_lt 0 (came before t q) && q.0 == p.0) (viewports_of setup t)
   any-pairs before t =
       any-flat (is_token_back p) (λ q. replicate (came before t q) (event.TokenBack q)) (viewports_of setup t)
       ∙ any-same _ _ (λ q. any-copies p q (came before t q)) (viewports_of setup t)
@@ -113,7 +125,8 @@ module _ (setup : Setup) (p : PairNo) where
   pair-is n same = let number : n ≡ p.0 = grind (arith, nat_tests) in ap (λ (k : ℕ). let x : PairNo = record { 0 = k } in x) number
 
   -- of the pairs whose viewport end a session owns
-  one-pair : (before : List Entry) (t : SessionNo) → list_any (λ q. nat_lt 0 (came before t q) && q.0 == p.0) (viewports_of setup t) ≡ (owns_viewport setup t p && nat_lt 0 (came before t p))
+  one-pair : (before : List Entry) (t : SessionNo) → list_any (λ q. nat_lt 0 (came before t q) && q.0 == p.0) (viewports_of setup t)
+      ≡ (owns_viewport setup t p && nat_lt 0 (came before t p))
   one-pair before t =
       let f : PairNo → Bool = λ q. nat_lt 0 (came before t q) && q.0 == p.0 in
       let test : PairDecl → Bool = λ pair. is_session t pair.viewport in
@@ -124,7 +137,8 @@ module _ (setup : Setup) (p : PairNo) where
       let holds = and_parts (nat_lt 0 (came before t q)) (q.0 == p.0) one.2 in
       let same : q ≡ p = pair-is (0 + one.0) holds.1 in
       let number : one.0 ≡ p.0 = grind (arith, nat_tests) in
-      let owns : owns_viewport setup t p ≡ true = sym (viewport-nested t (slice_get setup.pairs p.0)) ∙ ap (λ (k : ℕ). unwrap_or (option_map test (slice_get setup.pairs k)) false) (sym number) ∙ one.1 in
+      let owns : owns_viewport setup t p ≡ true = sym (viewport-nested t (slice_get setup.pairs p.0))
+      ∙ ap (λ (k : ℕ). unwrap_or (option_map test (slice_get setup.pairs k)) false) (sym number) ∙ one.1 in
       let some : nat_lt 0 (came before t p) ≡ true = ap (λ (r : PairNo). nat_lt 0 (came before t r)) (sym same) ∙ holds.0 in
       rw (owns, some) refl)
       (λ both.
@@ -138,17 +152,20 @@ module _ (setup : Setup) (p : PairNo) where
       → list_any (is_token_back p) (events_to setup before e t) ≡ (not (is_closed t (before ▹ e)) && (owns_viewport setup t p && nat_lt 0 (came before t p)))
   finish-tokens before e ends t = by_closed (is_closed t (before ▹ e))
     where
-      by_took : (b : Bool) → list_any (is_token_back p) (cond b (event.FramePresented (frame_took setup before t) ∷ []) [] ++ tokens_back setup before t) ≡ list_any (is_token_back p) (tokens_back setup before t)
+      by_took : (b : Bool) → list_any (is_token_back p) (cond b (event.FramePresented (frame_took setup before t) ∷ []) [] ++ tokens_back setup before t)
+          ≡ list_any (is_token_back p) (tokens_back setup before t)
       by_took true = refl
       by_took false = refl
 
-      by_closed : (b : Bool) → list_any (is_token_back p) (cond b [] (news_for setup before e t)) ≡ (not b && (owns_viewport setup t p && nat_lt 0 (came before t p)))
+      by_closed : (b : Bool) → list_any (is_token_back p) (cond b [] (news_for setup before e t))
+          ≡ (not b && (owns_viewport setup t p && nat_lt 0 (came before t p)))
       by_closed true = refl
       by_closed false = news-tokens before e t ∙ rw ends (by_took (nat_lt 0 (frame_took setup before t)) ∙ any-pairs before t ∙ one-pair before t)
 
   -- ---- of all sessions
 
-  one-owner : (o : Option Actor) (t s : SessionNo) → unwrap_or (option_map (is_session s) o) false ≡ true → unwrap_or (option_map (is_session t) o) false ≡ (t.0 == s.0)
+  one-owner : (o : Option Actor) (t s : SessionNo) → unwrap_or (option_map (is_session s) o) false ≡ true
+      → unwrap_or (option_map (is_session t) o) false ≡ (t.0 == s.0)
   one-owner None t s owned = cc
   one-owner (Some Display) t s owned = cc
   one-owner (Some (Probe n)) t s owned = cc
@@ -166,7 +183,8 @@ module _ (setup : Setup) (p : PairNo) where
   session-is n s same = let number : n ≡ s.0 = grind (arith, nat_tests) in ap (λ (k : ℕ). let x : SessionNo = record { 0 = k } in x) number
 
   -- where one session alone passes a test
-  any-to : (g : SessionNo → Bool) (v : Bool) (s : SessionNo) → ((t : SessionNo) → (t.0 == s.0) ≡ false → g t ≡ false) → g s ≡ v → (n : ℕ) → list_any g (sessions_to n) ≡ (is_within n s.0 && v)
+  any-to : (g : SessionNo → Bool) (v : Bool) (s : SessionNo) → ((t : SessionNo) → (t.0 == s.0) ≡ false → g t ≡ false) → g s ≡ v → (n : ℕ)
+      → list_any g (sessions_to n) ≡ (is_within n s.0 && v)
   any-to g v s others here zero = none (nat_lt 0 s.0) (nat_le s.0 0) refl refl
     where
       none : (a b : Bool) → nat_lt 0 s.0 ≡ a → nat_le s.0 0 ≡ b → false ≡ ((a && b) && v)
@@ -198,12 +216,14 @@ module _ (setup : Setup) (p : PairNo) where
           same_test true false true p q r = absurd (grind (arith, nat_tests))
 
   -- at the end of a frame a token comes back exactly where its owner is open and the frame has seen a release
-  pub token-finish : (before : List Entry) (e : Entry) → is_finish e.kind ≡ true → (s : SessionNo) → owns_viewport setup s p ≡ true → is_declared setup s ≡ true → is_closed s (before ▹ e) ≡ false
+  pub token-finish : (before : List Entry) (e : Entry) → is_finish e.kind ≡ true → (s : SessionNo) → owns_viewport setup s p ≡ true → is_declared setup s ≡ true
+      → is_closed s (before ▹ e) ≡ false
       → list_any (λ (sent : Sent). is_token_back p sent.event) (posted setup before e) ≡ nat_lt 0 (came before s p)
   token-finish before e ends s owned declared opened =
       let g : SessionNo → Bool = λ t. list_any (is_token_back p) (events_to setup before e t) in
       let here : g s ≡ nat_lt 0 (came before s p) = finish-tokens before e ends s ∙ rw (opened, owned) refl in
       posted-tokens before e
       ∙ any-to g (nat_lt 0 (came before s p)) s
-      (λ t other. finish-tokens before e ends t ∙ rw (one-owner (viewport_owner setup p) t s owned, other) (and-false (not (is_closed t (before ▹ e))))) here setup.sessions
+      (λ t other. finish-tokens before e ends t ∙ rw (one-owner (viewport_owner setup p) t s owned, other) (and-false (not (is_closed t (before ▹ e))))) here
+      setup.sessions
       ∙ rw declared refl

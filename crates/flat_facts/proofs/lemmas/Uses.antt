@@ -19,7 +19,8 @@ use Rattle.flat_scene.specs.declared.setup.Setup.{Setup}
 use Rattle.flat_scene.specs.History.{◌▹◌, own, calls, closes, is_closed, is_session}
 use Rattle.flat_base.proofs.lemmas.Tests.{and-left}
 use Rattle.flat_rules.specs.Ends.{viewport_uses, uses_viewport, is_done, viewport_owner}
-use Rattle.flat_rules.specs.Legal.{Legal, LegalEntry, MayEnter, reply_to, refused_token, is_link, all_but_last, owns_viewport, owns_in_call, makes_view, makes_viewport, number_if, has_token}
+use Rattle.flat_rules.specs.Legal.{Legal, LegalEntry, MayEnter, reply_to, refused_token, is_link, all_but_last, owns_viewport, owns_in_call, makes_view}
+use Rattle.flat_rules.specs.Legal.{makes_viewport, number_if, has_token}
 use Rattle.flat_facts.specs.Lives.{makes_one, made_of_pair}
 use Rattle.flat_facts.proofs.lemmas.LiveCounts.{made-append}
 use Rattle.flat_facts.proofs.lemmas.ViewCalls.{split-last}
@@ -51,7 +52,8 @@ last-viewport p q props (CreateViewport c r w h inset) is = same-number r.0 q.0 
 last-viewport p q props (CreateView r) is = let wrong : false ≡ true = is in cc
 last-viewport p q props _ is = let wrong : false ≡ true = is in cc
 
-made-last : (p : PairNo) (carries : List Call) (b : Bool) (call : Option Call) → slice_get carries (length carries - 1) ≡ call → ((c : Call) → call ≡ Some c → makes_one p c ≡ b) → (call ≡ None → false ≡ true)
+made-last : (p : PairNo) (carries : List Call) (b : Bool) (call : Option Call) → slice_get carries (length carries - 1) ≡ call
+    → ((c : Call) → call ≡ Some c → makes_one p c ≡ b) → (call ≡ None → false ≡ true)
     → list_any is_link (all_but_last carries) ≡ false → made_of_pair p carries ≡ number_if b
 made-last p carries b None at one some none = let wrong : false ≡ true = some refl in cc
 made-last p carries b (Some c) at one some none =
@@ -62,14 +64,16 @@ made-last p carries b (Some c) at one some none =
 -- ---- one entry
 
 module _ (setup : Setup) (s : SessionNo) (p : PairNo) (owned : owns_viewport setup s p ≡ true) where
-  one-owner : (o : Option Actor) (t u : SessionNo) → unwrap_or (option_map (is_session t) o) false ≡ true → unwrap_or (option_map (is_session u) o) false ≡ true → (t.0 == u.0) ≡ true
+  one-owner : (o : Option Actor) (t u : SessionNo) → unwrap_or (option_map (is_session t) o) false ≡ true → unwrap_or (option_map (is_session u) o) false ≡ true
+      → (t.0 == u.0) ≡ true
   one-owner None t u a b = cc
   one-owner (Some Display) t u a b = cc
   one-owner (Some (Probe n)) t u a b = cc
   one-owner (Some (Session v)) t u a b = grind (arith, nat_tests)
 
   -- another's entry is no use
-  other-use : (h : List Entry) (who : Actor) (carries : List Call) (kind : Kind) → MayEnter setup h who carries kind → is_session s who ≡ false → uses_viewport p kind ≡ false
+  other-use : (h : List Entry) (who : Actor) (carries : List Call) (kind : Kind) → MayEnter setup h who carries kind → is_session s who ≡ false
+      → uses_viewport p kind ≡ false
   other-use h Display carries (Viewport q props) may other = let wrong : false ≡ true = may.acts in cc
   other-use h (Probe n) carries (Viewport q props) may other = let wrong : false ≡ true = may.acts in cc
   other-use h (Session t) carries (Viewport q props) may other = by_pair (q.0 == p.0) refl
@@ -78,13 +82,15 @@ module _ (setup : Setup) (s : SessionNo) (p : PairNo) (owned : owns_viewport set
       by_pair false is = refl
       by_pair true is =
           let O : PairNo → Type 0 = λ r. owns_viewport setup t r ≡ true in
-          let theirs : owns_viewport setup t p ≡ true = subst O (same-pair q p is) (and-left (owns_viewport setup t q) (list_all (owns_in_call setup t) carries) may.owned) in
+          let theirs : owns_viewport setup t p ≡ true = subst O (same-pair q p is)
+          (and-left (owns_viewport setup t q) (list_all (owns_in_call setup t) carries) may.owned) in
           let same : (t.0 == s.0) ≡ true = one-owner (viewport_owner setup p) t s theirs owned in
           let wrong : true ≡ false = sym same ∙ other in cc
   other-use h who carries _ may other = refl
 
   -- what it makes by its own entries is what it uses
-  own-use : (h : List Entry) (who : Actor) (carries : List Call) (kind : Kind) (reply : Reply) → MayEnter setup h (Session s) carries kind → reply ≡ reply_to setup h (Session s) carries kind → closes reply ≡ false
+  own-use : (h : List Entry) (who : Actor) (carries : List Call) (kind : Kind) (reply : Reply) → MayEnter setup h (Session s) carries kind
+      → reply ≡ reply_to setup h (Session s) carries kind → closes reply ≡ false
       → made_of_pair p carries ≡ number_if (uses_viewport p kind && is_done reply)
   own-use h who carries (Close None) reply may replied stays = let wrong : true ≡ false = sym (ap closes replied) ∙ stays in cc
   own-use h who carries (Close (Some reason)) reply may replied stays = let wrong : true ≡ false = sym (ap closes replied) ∙ stays in cc
@@ -122,7 +128,8 @@ module _ (setup : Setup) (s : SessionNo) (p : PairNo) (owned : owns_viewport set
       let is : e.actor ≡ Session s = same-session s e.actor mine in
       let M : Actor → Type 0 = λ who. MayEnter setup h who e.calls e.kind in
       let R : Actor → Type 0 = λ who. e.reply ≡ reply_to setup h who e.calls e.kind in
-      let made : made_of_pair p e.calls ≡ number_if (uses_viewport p e.kind && is_done e.reply) = own-use h e.actor e.calls e.kind e.reply (subst M is legal.may) (subst R is legal.reply) stays in
+      let made : made_of_pair p e.calls ≡ number_if (uses_viewport p e.kind && is_done e.reply) =
+      own-use h e.actor e.calls e.kind e.reply (subst M is legal.may) (subst R is legal.reply) stays in
       uses-more (uses_viewport p e.kind && is_done e.reply) e (viewport_uses p h) ∙ ap (λ (n : ℕ). length (viewport_uses p h) + n) (sym made)
 
   -- all of them
@@ -132,10 +139,12 @@ module _ (setup : Setup) (s : SessionNo) (p : PairNo) (owned : owns_viewport set
       let closing = closes-first (is_session s e.actor) e (own s h) opened in
       by_owner (uses-made h legal.0 closing.1) closing.0 (is_session s e.actor) refl
     where
-      by_owner : length (viewport_uses p h) ≡ made_of_pair p (calls s h) → (is_session s e.actor ≡ true → closes e.reply ≡ false) → (b : Bool) → is_session s e.actor ≡ b
+      by_owner : length (viewport_uses p h) ≡ made_of_pair p (calls s h) → (is_session s e.actor ≡ true → closes e.reply ≡ false) → (b : Bool)
+          → is_session s e.actor ≡ b
           → length (viewport_uses p (h ▹ e)) ≡ made_of_pair p (calls s (h ▹ e))
       by_owner before stays true mine =
           let all : made_of_pair p (calls s h ++ e.calls) ≡ made_of_pair p (calls s h) + made_of_pair p e.calls = made-append p (calls s h) e.calls in
-          let here : length (viewport_uses p (h ▹ e)) ≡ made_of_pair p (calls s h ++ e.calls) = omega (arith, uses-own h e legal.1 mine (stays mine), before, all) in
+          let here : length (viewport_uses p (h ▹ e)) ≡ made_of_pair p (calls s h ++ e.calls) =
+          omega (arith, uses-own h e legal.1 mine (stays mine), before, all) in
           here ∙ rw mine refl
       by_owner before stays false other = ap (length {A = Entry}) (uses-other h e legal.1 other) ∙ before ∙ rw other refl

@@ -1,5 +1,6 @@
 -- What calls do to the view of a draft.
-use Rattle.std.proofs.Common.{◌≡◌, ◌∙◌, sym, ℕ, suc, ◌+◌, ◌-◌, ◌<◌, Bool, true, false, List, [], ◌∷◌, ◌++◌, length, refl, arith, ap, Some, None, Ok, Err, inl, inr, ◌⊎◌}
+use Rattle.std.proofs.Common.{◌≡◌, ◌∙◌, sym, ℕ, suc, ◌+◌, ◌-◌, ◌<◌, Bool, true, false, List, [], ◌∷◌, ◌++◌, length, refl, arith, ap, Some, None, Ok, Err, inl}
+use Rattle.std.proofs.Common.{inr, ◌⊎◌}
 use Rattle.std.specs.Prelude.{cond, ◌||◌, ◌==◌, Option, Result, is_some, slice_get}
 use Rattle.std.specs.List.{list_any}
 use Rattle.std.proofs.lemmas.List.Folds.{list_any-append}
@@ -23,7 +24,8 @@ use Rattle.std.proofs.lemmas.Bool.{or_from, or_parts}
 
 -- ---- several calls, one after the other
 
-pub after-append : (setup : Setup) (r : Result Draft Reason) (xs ys : List Call) → after_calls setup r (xs ++ ys) ≡ after_calls setup (after_calls setup r xs) ys
+pub after-append : (setup : Setup) (r : Result Draft Reason) (xs ys : List Call)
+    → after_calls setup r (xs ++ ys) ≡ after_calls setup (after_calls setup r xs) ys
 after-append setup r [] ys = refl
 after-append setup r (x ∷ xs) ys = after-append setup (after_call setup r x) xs ys
 
@@ -31,14 +33,17 @@ pub times-append : (setup : Setup) (test : Draft → Call → Bool) (r : Result 
     → times setup test r (xs ++ ys) ≡ times setup test r xs + times setup test (after_calls setup r xs) ys
 times-append setup test r [] ys = omega arith
 times-append setup test r (x ∷ xs) ys =
-    let rest : times setup test (after_call setup r x) (xs ++ ys) ≡ times setup test (after_call setup r x) xs + times setup test (after_calls setup (after_call setup r x) xs) ys = times-append setup test (after_call setup r x) xs ys in
+    let rest : times setup test (after_call setup r x) (xs ++ ys)
+    ≡ times setup test (after_call setup r x) xs + times setup test (after_calls setup (after_call setup r x) xs) ys =
+    times-append setup test (after_call setup r x) xs ys in
     omega (arith, rest)
 
 pub after-refused : (setup : Setup) (reason : Reason) (xs : List Call) → after_calls setup (Err reason) xs ≡ Err reason
 after-refused setup reason [] = refl
 after-refused setup reason (x ∷ xs) = after-refused setup reason xs
 
-pub good-one : (setup : Setup) (d d' : Draft) (calls : List Call) (reason : Option Reason) → after_calls setup (unless reason d) calls ≡ Ok d' → after_calls setup (Ok d) calls ≡ Ok d'
+pub good-one : (setup : Setup) (d d' : Draft) (calls : List Call) (reason : Option Reason) → after_calls setup (unless reason d) calls ≡ Ok d'
+    → after_calls setup (Ok d) calls ≡ Ok d'
 good-one setup d d' calls None good = good
 good-one setup d d' calls (Some reason) good = let wrong : Err reason ≡ Ok d' = sym (after-refused setup reason calls) ∙ good in cc
 
@@ -73,13 +78,15 @@ calm-then a b c m n first second = record {
   some = λ is. calm-some a b c m n second (first.some is);
 }
 
-calm-one : (p : PairNo) (d : Draft) (call : Call) → is_new_view call ≡ false → Calm (is_pair d.view p) (is_pair (effect d call).view p) (count_if (Some (ends_view p d call)))
+calm-one : (p : PairNo) (d : Draft) (call : Call) → is_new_view call ≡ false
+    → Calm (is_pair d.view p) (is_pair (effect d call).view p) (count_if (Some (ends_view p d call)))
 calm-one p d (CreateView q) no_link = let wrong : true ≡ false = no_link in cc
 calm-one p d ReleaseView no_link = calm-end (is_pair d.view p)
 calm-one p d Clear no_link = calm-end (is_pair d.view p)
 calm-one p d _ no_link = calm-same (is_pair d.view p)
 
-ended-one : (setup : Setup) (p : PairNo) (d : Draft) (calls : List Call) (reason : Option Reason) (d1 d' : Draft) → after_calls setup (unless reason d1) calls ≡ Ok d'
+ended-one : (setup : Setup) (p : PairNo) (d : Draft) (calls : List Call) (reason : Option Reason) (d1 d' : Draft)
+    → after_calls setup (unless reason d1) calls ≡ Ok d'
     → times setup (ends_view p) (unless reason d1) calls ≡ times setup (ends_view p) (Ok d1) calls
 ended-one setup p d calls None d1 d' good = refl
 ended-one setup p d calls (Some reason) d1 d' good = let wrong : Err reason ≡ Ok d' = sym (after-refused setup reason calls) ∙ good in cc
@@ -92,7 +99,8 @@ calm setup p (call ∷ calls) d d' no_link good =
     rw (ended-one setup p d calls (misuse setup d call) after d' good)
     (calm-then (is_pair d.view p) (is_pair after.view p) (is_pair d'.view p) (count_if (Some (ends_view p d call))) (times setup (ends_view p) (Ok after) calls)
     (calm-one p d call (or_parts (is_new_view call) (list_any is_new_view calls) no_link).0)
-    (calm setup p calls after d' (or_parts (is_new_view call) (list_any is_new_view calls) no_link).1 (good-one setup after d' calls (misuse setup d call) good)))
+    (calm setup p calls after d' (or_parts (is_new_view call) (list_any is_new_view calls) no_link).1
+    (good-one setup after d' calls (misuse setup d call) good)))
 
 -- ---- a view is made
 
@@ -103,18 +111,22 @@ pub record Creates (setup : Setup) (q : PairNo) (calls : List Call) (d d' : Draf
   pub none : between.view ≡ None
   pub some : d'.view ≡ Some q
 
-no-view : (q : PairNo) (d0 d' : Draft) (view : Option PairNo) → d0.view ≡ view → unless (cond (is_some view) (Some HasView) None) (effect d0 (CreateView q)) ≡ Ok d' → (d0.view ≡ None) × (d'.view ≡ Some q)
+no-view : (q : PairNo) (d0 d' : Draft) (view : Option PairNo) → d0.view ≡ view
+    → unless (cond (is_some view) (Some HasView) None) (effect d0 (CreateView q)) ≡ Ok d' → (d0.view ≡ None) × (d'.view ≡ Some q)
 no-view q d0 d' None is good = (is, sym (same-view (effect d0 (CreateView q)) d' good))
 no-view q d0 d' (Some p) is good = let wrong : Err HasView ≡ Ok d' = good in cc
 
-creates-after : (setup : Setup) (q : PairNo) (calls : List Call) (d d' : Draft) (r : Result Draft Reason) → after_calls setup (Ok d) calls ≡ r → after_calls setup r (CreateView q ∷ []) ≡ Ok d' → Creates setup q calls d d'
+creates-after : (setup : Setup) (q : PairNo) (calls : List Call) (d d' : Draft) (r : Result Draft Reason) → after_calls setup (Ok d) calls ≡ r
+    → after_calls setup r (CreateView q ∷ []) ≡ Ok d' → Creates setup q calls d d'
 creates-after setup q calls d d' (Err reason) is good = let wrong : Err reason ≡ Ok d' = good in cc
 creates-after setup q calls d d' (Ok d0) is good =
     let here = no-view q d0 d' d0.view refl good in
     record { between = d0; good = is; none = here.0; some = here.1 }
 
-pub creates : (setup : Setup) (q : PairNo) (calls : List Call) (d d' : Draft) → after_calls setup (Ok d) (calls ++ CreateView q ∷ []) ≡ Ok d' → Creates setup q calls d d'
-creates setup q calls d d' good = creates-after setup q calls d d' (after_calls setup (Ok d) calls) refl (sym (after-append setup (Ok d) calls (CreateView q ∷ [])) ∙ good)
+pub creates : (setup : Setup) (q : PairNo) (calls : List Call) (d d' : Draft) → after_calls setup (Ok d) (calls ++ CreateView q ∷ []) ≡ Ok d'
+    → Creates setup q calls d d'
+creates setup q calls d d' good = creates-after setup q calls d d' (after_calls setup (Ok d) calls) refl
+    (sym (after-append setup (Ok d) calls (CreateView q ∷ [])) ∙ good)
 
 -- ---- the last call of an entry that makes a view
 
@@ -152,9 +164,11 @@ viewport-no-view : (p : PairNo) (props : ViewportProps) (call : Call) → makes_
 viewport-no-view p props (CreateView q) is = let wrong : false ≡ true = is in cc
 viewport-no-view p props _ is = refl
 
-pub viewport-alone : (p : PairNo) (props : ViewportProps) (carries : List Call) (last : Option Call) → slice_get carries (length carries - 1) ≡ last → makes_viewport p props last ≡ true
+pub viewport-alone : (p : PairNo) (props : ViewportProps) (carries : List Call) (last : Option Call) → slice_get carries (length carries - 1) ≡ last
+    → makes_viewport p props last ≡ true
     → list_any is_link (all_but_last carries) ≡ false → list_any is_new_view carries ≡ false
 viewport-alone p props carries None at is none = let wrong : false ≡ true = is in cc
 viewport-alone p props carries (Some call) at is none =
     ap (list_any is_new_view) (split-last carries call at) ∙ list_any-append is_new_view (all_but_last carries) (call ∷ [])
-    ∙ or_from (list_any is_new_view (all_but_last carries)) (is_new_view call || false) (no-links-view (all_but_last carries) none) (or_from (is_new_view call) false (viewport-no-view p props call is) refl)
+    ∙ or_from (list_any is_new_view (all_but_last carries)) (is_new_view call || false) (no-links-view (all_but_last carries) none)
+    (or_from (is_new_view call) false (viewport-no-view p props call is) refl)

@@ -1,5 +1,6 @@
 -- What the presents of a session see of the ends of its views: one that sees the end of the last view sees the end of each.
-use Rattle.std.proofs.Common.{◌≡◌, ◌∙◌, sym, subst, ℕ, ◌+◌, ◌<◌, ◌≤◌, Bool, true, false, List, [], ◌∷◌, ◌++◌, length, refl, arith, ap, Some, None, Ok, inl, inr, ◌⊎◌}
+use Rattle.std.proofs.Common.{◌≡◌, ◌∙◌, sym, subst, ℕ, ◌+◌, ◌<◌, ◌≤◌, Bool, true, false, List, [], ◌∷◌, ◌++◌, length, refl, arith, ap, Some, None, Ok, inl, inr}
+use Rattle.std.proofs.Common.{◌⊎◌}
 use Rattle.std.specs.Prelude.{◌||◌, ◌==◌, nat_lt, nat_le, Option, Result, option_map, is_some, unwrap_or}
 use Rattle.std.specs.List.{list_any}
 use Rattle.std.proofs.lemmas.Bool.Decides.{nat_tests}
@@ -43,7 +44,8 @@ pub record Viewing (setup : Setup) (s : SessionNo) (used : PairNo → Bool) (cs 
   -- the last is its own, and was used
   pub made : (q : PairNo) → last ≡ Some q → (owns_view setup s q ≡ true) × (used q ≡ true)
   -- a present that sees the end of the last sees that of each
-  pub later : (q p : PairNo) → last ≡ Some q → owns_view setup s p ≡ true → used p ≡ true → (n : ℕ) → n ≤ length ps → ended setup q (made_at ps n) ≡ true → ended setup p (made_at ps n) ≡ true
+  pub later : (q p : PairNo) → last ≡ Some q → owns_view setup s p ≡ true → used p ≡ true → (n : ℕ) → n ≤ length ps → ended setup q (made_at ps n) ≡ true
+      → ended setup p (made_at ps n) ≡ true
   pub known : (p : PairNo) → owns_view setup s p ≡ true → used p ≡ true → is_some last ≡ true
 
 -- ---- before any entry
@@ -80,23 +82,28 @@ ended-append : (setup : Setup) (p : PairNo) (cs more : List Call) (d : Draft) �
     → ended setup p (cs ++ more) ≡ nat_lt 0 (times setup (ends_view p) (Ok empty_draft) cs + times setup (ends_view p) (Ok d) more)
 ended-append setup p cs more d good =
     ap (λ (n : ℕ). nat_lt 0 n)
-    (times-append setup (ends_view p) (Ok empty_draft) cs more ∙ ap (λ (r : Result Draft Reason). times setup (ends_view p) (Ok empty_draft) cs + times setup (ends_view p) r more) good)
+    (times-append setup (ends_view p) (Ok empty_draft) cs more
+    ∙ ap (λ (r : Result Draft Reason). times setup (ends_view p) (Ok empty_draft) cs + times setup (ends_view p) r more) good)
 
-pub good-more : (setup : Setup) (cs more : List Call) (d d' : Draft) → draft_of setup cs ≡ Ok d → draft_of setup (cs ++ more) ≡ Ok d' → after_calls setup (Ok d) more ≡ Ok d'
+pub good-more : (setup : Setup) (cs more : List Call) (d d' : Draft) → draft_of setup cs ≡ Ok d → draft_of setup (cs ++ more) ≡ Ok d'
+    → after_calls setup (Ok d) more ≡ Ok d'
 good-more setup cs more d d' good all =
     ap (λ (r : Result Draft Reason). after_calls setup r more) (sym good) ∙ sym (after-append setup (Ok empty_draft) cs more) ∙ all
 
 -- whether a session has a view after more calls, without a new one
-standing-more : (setup : Setup) (p : PairNo) (cs more : List Call) (d d' : Draft) → draft_of setup cs ≡ Ok d → Calm (is_pair d.view p) (is_pair d'.view p) (times setup (ends_view p) (Ok d) more)
+standing-more : (setup : Setup) (p : PairNo) (cs more : List Call) (d d' : Draft) → draft_of setup cs ≡ Ok d
+    → Calm (is_pair d.view p) (is_pair d'.view p) (times setup (ends_view p) (Ok d) more)
     → (is_pair d.view p ≡ true) ⊎ (ended setup p cs ≡ true) → (is_pair d'.view p ≡ true) ⊎ (ended setup p (cs ++ more) ≡ true)
 standing-more setup p cs more d d' good quiet (inr gone) =
     inr (ended-append setup p cs more d good ∙ ended-stays (times setup (ends_view p) (Ok empty_draft) cs) (times setup (ends_view p) (Ok d) more) gone)
 standing-more setup p cs more d d' good quiet (inl here) = by_calm (quiet.some here)
   where
-    by_calm : ((is_pair d'.view p ≡ true) × (times setup (ends_view p) (Ok d) more ≡ 0)) ⊎ ((is_pair d'.view p ≡ false) × (0 < times setup (ends_view p) (Ok d) more))
+    by_calm : ((is_pair d'.view p ≡ true) × (times setup (ends_view p) (Ok d) more ≡ 0))
+        ⊎ ((is_pair d'.view p ≡ false) × (0 < times setup (ends_view p) (Ok d) more))
         → (is_pair d'.view p ≡ true) ⊎ (ended setup p (cs ++ more) ≡ true)
     by_calm (inl q) = inl q.0
-    by_calm (inr q) = inr (ended-append setup p cs more d good ∙ ended-more (times setup (ends_view p) (Ok empty_draft) cs) (times setup (ends_view p) (Ok d) more) q.1)
+    by_calm (inr q) = inr (ended-append setup p cs more d good
+        ∙ ended-more (times setup (ends_view p) (Ok empty_draft) cs) (times setup (ends_view p) (Ok d) more) q.1)
 
 -- what is held after is held before, and isn't ended between
 held-more : (a a' : Bool) (n : ℕ) → Calm a a' n → a' ≡ true → (b : Bool) → a ≡ b → (a ≡ true) × (n ≡ 0)
@@ -122,13 +129,15 @@ le-or-lt n m = by-order n m (nat_le n m) refl
 abbrev pub MadeOf : List Published → List Published → List Call → Type 0
 MadeOf ps more all = (n : ℕ) → length ps < n → n ≤ length (ps ++ more) → made_at (ps ++ more) n ≡ all
 
-early-more : (setup : Setup) (p : PairNo) (ps more : List Published) (all : List Call) (n : ℕ) → MadeOf ps more all → ended setup p all ≡ false → (n ≤ length ps → ended setup p (made_at ps n) ≡ false) → n ≤ length (ps ++ more)
+early-more : (setup : Setup) (p : PairNo) (ps more : List Published) (all : List Call) (n : ℕ) → MadeOf ps more all → ended setup p all ≡ false
+    → (n ≤ length ps → ended setup p (made_at ps n) ≡ false) → n ≤ length (ps ++ more)
     → (n ≤ length ps) ⊎ (length ps < n) → ended setup p (made_at (ps ++ more) n) ≡ false
 early-more setup p ps more all n made none before few (inl less) = ap (ended setup p) (made-earlier ps more n less) ∙ before less
 early-more setup p ps more all n made none before few (inr past) = ap (ended setup p) (made n past few) ∙ none
 
 -- what sees the end of the last sees that of each, where it was the last before
-later-more : (setup : Setup) (q p : PairNo) (ps more : List Published) (all : List Call) (n : ℕ) → MadeOf ps more all → (ended setup q all ≡ true → ended setup p all ≡ true)
+later-more : (setup : Setup) (q p : PairNo) (ps more : List Published) (all : List Call) (n : ℕ) → MadeOf ps more all
+    → (ended setup q all ≡ true → ended setup p all ≡ true)
     → (n ≤ length ps → ended setup q (made_at ps n) ≡ true → ended setup p (made_at ps n) ≡ true) → n ≤ length (ps ++ more)
     → (n ≤ length ps) ⊎ (length ps < n) → ended setup q (made_at (ps ++ more) n) ≡ true → ended setup p (made_at (ps ++ more) n) ≡ true
 later-more setup q p ps more all n made now before few (inl less) sees =
@@ -139,14 +148,16 @@ later-more setup q p ps more all n made now before few (inr past) sees =
     same p ∙ now (sym (same q) ∙ sees)
 
 -- where the last is ended, so is what stands
-now-ended : (setup : Setup) (q p : PairNo) (all : List Call) (last : Option PairNo) → last ≡ Some q → (last ≡ Some p) ⊎ (ended setup p all ≡ true) → ended setup q all ≡ true → ended setup p all ≡ true
+now-ended : (setup : Setup) (q p : PairNo) (all : List Call) (last : Option PairNo) → last ≡ Some q → (last ≡ Some p) ⊎ (ended setup p all ≡ true)
+    → ended setup q all ≡ true → ended setup p all ≡ true
 now-ended setup q p all last is (inr gone) sees = gone
 now-ended setup q p all last is (inl here) sees =
     let both : Some q ≡ Some p = sym is ∙ here in
     let same : q ≡ p = cc in
     ap (λ (r : PairNo). ended setup r all) (sym same) ∙ sees
 
-last-or-ended : (is_held gone : Bool) (last : Option PairNo) (p : PairNo) → (is_held ≡ true → last ≡ Some p) → (is_held ≡ true) ⊎ (gone ≡ true) → (last ≡ Some p) ⊎ (gone ≡ true)
+last-or-ended : (is_held gone : Bool) (last : Option PairNo) (p : PairNo) → (is_held ≡ true → last ≡ Some p) → (is_held ≡ true) ⊎ (gone ≡ true)
+    → (last ≡ Some p) ⊎ (gone ≡ true)
 last-or-ended is_held gone last p named (inl here) = inl (named here)
 last-or-ended is_held gone last p named (inr is) = inr is
 
@@ -155,23 +166,33 @@ fresh-by a a' true m n quiet is never none = let wrong : true ≡ false = never 
 fresh-by a a' false m n quiet is never none = ended-false m n none (quiet.none is).1
 
 -- an entry of the session that makes no view
-pub viewing-more : (setup : Setup) (s : SessionNo) (used : PairNo → Bool) (cs : List Call) (ps : List Published) (last : Option PairNo) → Viewing setup s used cs ps last
-    → (carries : List Call) (more : List Published) (d' : Draft) → list_any is_new_view carries ≡ false → draft_of setup (cs ++ carries) ≡ Ok d' → MadeOf ps more (cs ++ carries)
+pub viewing-more : (setup : Setup) (s : SessionNo) (used : PairNo → Bool) (cs : List Call) (ps : List Published) (last : Option PairNo)
+    → Viewing setup s used cs ps last
+    → (carries : List Call) (more : List Published) (d' : Draft) → list_any is_new_view carries ≡ false → draft_of setup (cs ++ carries) ≡ Ok d'
+    → MadeOf ps more (cs ++ carries)
     → Viewing setup s used (cs ++ carries) (ps ++ more) last
 viewing-more setup s used cs ps last old carries more d' no_link good made =
     let d = old.draft in
     let after : after_calls setup (Ok d) carries ≡ Ok d' = good-more setup cs carries d d' old.good good in
-    let quiet : (p : PairNo) → Calm (is_pair d.view p) (is_pair d'.view p) (times setup (ends_view p) (Ok d) carries) = λ p. calm setup p carries d d' no_link after in
+    let quiet : (p : PairNo) → Calm (is_pair d.view p) (is_pair d'.view p) (times setup (ends_view p) (Ok d) carries) =
+    λ p. calm setup p carries d d' no_link after in
     let standing : (p : PairNo) → owns_view setup s p ≡ true → used p ≡ true → (is_pair d'.view p ≡ true) ⊎ (ended setup p (cs ++ carries) ≡ true) =
     λ p owned is. standing-more setup p cs carries d d' old.good (quiet p) (old.standing p owned is) in
-    let held : (p : PairNo) → is_pair d'.view p ≡ true → (owns_view setup s p ≡ true) × (used p ≡ true) × (ended setup p (cs ++ carries) ≡ false) × (last ≡ Some p) =
+    let held : (p : PairNo) → is_pair d'.view p ≡ true → (owns_view setup s p ≡ true) × (used p ≡ true) × (ended setup p (cs ++ carries) ≡ false)
+    × (last ≡ Some p) =
     λ p here.
     let was = held-more (is_pair d.view p) (is_pair d'.view p) (times setup (ends_view p) (Ok d) carries) (quiet p) here (is_pair d.view p) refl in
-    let before = old.held p was.0 in
-    (before.0, before.1, ended-append setup p cs carries d old.good ∙ ended-false (times setup (ends_view p) (Ok empty_draft) cs) (times setup (ends_view p) (Ok d) carries) before.2 was.1, before.3) in
+    let before = old.held p was.0 in (
+      before.0,
+      before.1,
+      ended-append setup p cs carries d old.good
+          ∙ ended-false (times setup (ends_view p) (Ok empty_draft) cs) (times setup (ends_view p) (Ok d) carries) before.2 was.1,
+      before.3,
+    ) in
     let early : (p : PairNo) → ended setup p (cs ++ carries) ≡ false → (n : ℕ) → n ≤ length (ps ++ more) → ended setup p (made_at (ps ++ more) n) ≡ false =
     λ p none n few.
-    let before : ended setup p cs ≡ false = not-ended (times setup (ends_view p) (Ok empty_draft) cs) (times setup (ends_view p) (Ok d) carries) (sym (ended-append setup p cs carries d old.good) ∙ none) in
+    let before : ended setup p cs ≡ false = not-ended (times setup (ends_view p) (Ok empty_draft) cs) (times setup (ends_view p) (Ok d) carries)
+    (sym (ended-append setup p cs carries d old.good) ∙ none) in
     early-more setup p ps more (cs ++ carries) n made none (λ less. old.early p before n less) few (le-or-lt n (length ps)) in
     record {
       draft = d';
@@ -180,13 +201,15 @@ viewing-more setup s used cs ps last old carries more d' no_link good made =
       held = held;
       fresh = λ p owned unused.
           ended-append setup p cs carries d old.good
-          ∙ fresh-by (is_pair d.view p) (is_pair d'.view p) (is_pair d.view p) (times setup (ends_view p) (Ok empty_draft) cs) (times setup (ends_view p) (Ok d) carries) (quiet p) refl
+          ∙ fresh-by (is_pair d.view p) (is_pair d'.view p) (is_pair d.view p) (times setup (ends_view p) (Ok empty_draft) cs)
+          (times setup (ends_view p) (Ok d) carries) (quiet p) refl
           (λ here. let wrong : true ≡ false = sym (old.held p here).1 ∙ unused in cc) (old.fresh p owned unused);
       early = early;
       made = old.made;
       later = λ q p is owned used_p n few sees.
           later-more setup q p ps more (cs ++ carries) n made
-          (now-ended setup q p (cs ++ carries) last is (last-or-ended (is_pair d'.view p) (ended setup p (cs ++ carries)) last p (λ here. (held p here).3) (standing p owned used_p)))
+          (now-ended setup q p (cs ++ carries) last is (last-or-ended (is_pair d'.view p) (ended setup p (cs ++ carries)) last p (λ here. (held p here).3)
+          (standing p owned used_p)))
           (old.later q p is owned used_p n) few (le-or-lt n (length ps)) sees;
       known = old.known;
     }
@@ -197,7 +220,8 @@ made-times : (setup : Setup) (p q : PairNo) (calls : List Call) (d d0 : Draft) �
     → times setup (ends_view p) (Ok d) (calls ++ CreateView q ∷ []) ≡ times setup (ends_view p) (Ok d) calls
 made-times setup p q calls d d0 good =
     let none : times setup (ends_view p) (Ok d0) (CreateView q ∷ []) ≡ 0 = refl in
-    let last : times setup (ends_view p) (after_calls setup (Ok d) calls) (CreateView q ∷ []) ≡ 0 = ap (λ (r : Result Draft Reason). times setup (ends_view p) r (CreateView q ∷ [])) good ∙ none in
+    let last : times setup (ends_view p) (after_calls setup (Ok d) calls) (CreateView q ∷ []) ≡ 0 =
+    ap (λ (r : Result Draft Reason). times setup (ends_view p) r (CreateView q ∷ [])) good ∙ none in
     omega (arith, times-append setup (ends_view p) (Ok d) calls (CreateView q ∷ []), last)
 
 -- what stood is ended, since there was no view before the new one
@@ -209,13 +233,16 @@ ended-before a m n gone quiet is (inl here) = by_calm (quiet.some here)
     by_calm (inl q) = let wrong : false ≡ true = q.0 in cc
     by_calm (inr q) = is ∙ ended-more m n q.1
 
-stood-or-new : (setup : Setup) (p q : PairNo) (all : List Call) (view : Option PairNo) (before : Bool) → view ≡ Some q → (before ≡ true → ended setup p all ≡ true) → (before || q.0 == p.0) ≡ true
+stood-or-new : (setup : Setup) (p q : PairNo) (all : List Call) (view : Option PairNo) (before : Bool) → view ≡ Some q
+    → (before ≡ true → ended setup p all ≡ true) → (before || q.0 == p.0) ≡ true
     → (is_pair view p ≡ true) ⊎ (ended setup p all ≡ true)
 stood-or-new setup p q all view true new gone is = inr (gone refl)
 stood-or-new setup p q all view false new gone is = inl (ap (λ (v : Option PairNo). is_pair v p) new ∙ is)
 
-pub viewing-made : (setup : Setup) (s : SessionNo) (used : PairNo → Bool) (cs : List Call) (ps : List Published) (last : Option PairNo) → Viewing setup s used cs ps last
-    → (q : PairNo) (first : List Call) (d' : Draft) → list_any is_new_view first ≡ false → draft_of setup (cs ++ (first ++ CreateView q ∷ [])) ≡ Ok d' → owns_view setup s q ≡ true → used q ≡ false
+pub viewing-made : (setup : Setup) (s : SessionNo) (used : PairNo → Bool) (cs : List Call) (ps : List Published) (last : Option PairNo)
+    → Viewing setup s used cs ps last
+    → (q : PairNo) (first : List Call) (d' : Draft) → list_any is_new_view first ≡ false → draft_of setup (cs ++ (first ++ CreateView q ∷ [])) ≡ Ok d'
+    → owns_view setup s q ≡ true → used q ≡ false
     → (used' : PairNo → Bool) → ((p : PairNo) → used' p ≡ (used p || q.0 == p.0))
     → Viewing setup s used' (cs ++ (first ++ CreateView q ∷ [])) ps (Some q)
 viewing-made setup s used cs ps last old q first d' no_link good owned_q unused used' uses =
@@ -226,11 +253,13 @@ viewing-made setup s used cs ps last old q first d' no_link good owned_q unused 
     let n : PairNo → ℕ = λ p. times setup (ends_view p) (Ok d) first in
     let m : PairNo → ℕ = λ p. times setup (ends_view p) (Ok empty_draft) cs in
     let quiet : (p : PairNo) → Calm (is_pair d.view p) false (n p) =
-    λ p. let C : Option PairNo → Type 0 = λ v. Calm (is_pair d.view p) (is_pair v p) (n p) in subst C made.none (calm setup p first d made.between no_link made.good) in
+    λ p. let C : Option PairNo → Type 0 = λ v. Calm (is_pair d.view p) (is_pair v p) (n p) in
+    subst C made.none (calm setup p first d made.between no_link made.good) in
     let counted : (p : PairNo) → ended setup p all ≡ nat_lt 0 (m p + n p) =
     λ p. ended-append setup p cs carries d old.good ∙ ap (λ (k : ℕ). nat_lt 0 (m p + k)) (made-times setup p q first d made.between made.good) in
     let unended : (p : PairNo) → owns_view setup s p ≡ true → used p ≡ false → ended setup p all ≡ false =
-    λ p owned none. counted p ∙ fresh-by (is_pair d.view p) false (is_pair d.view p) (m p) (n p) (quiet p) refl (λ here. let wrong : true ≡ false = sym (old.held p here).1 ∙ none in cc) (old.fresh p owned none) in
+    λ p owned none. counted p ∙ fresh-by (is_pair d.view p) false (is_pair d.view p) (m p) (n p) (quiet p) refl
+    (λ here. let wrong : true ≡ false = sym (old.held p here).1 ∙ none in cc) (old.fresh p owned none) in
     let early : (p : PairNo) → ended setup p all ≡ false → (k : ℕ) → k ≤ length ps → ended setup p (made_at ps k) ≡ false =
     λ p none k few. old.early p (not-ended (m p) (n p) (sym (counted p) ∙ none)) k few in
     let here : (p : PairNo) → is_pair d'.view p ≡ true → q ≡ p = λ p is. same-pair q p (ap (λ (v : Option PairNo). is_pair v p) (sym made.some) ∙ is) in
@@ -240,7 +269,9 @@ viewing-made setup s used cs ps last old q first d' no_link good owned_q unused 
       draft = d';
       good = good;
       standing = λ p owned is.
-          stood-or-new setup p q all d'.view (used p) made.some (λ before. ended-before (is_pair d.view p) (m p) (n p) (ended setup p all) (quiet p) (counted p) (old.standing p owned before)) (sym (uses p) ∙ is);
+          stood-or-new setup p q all d'.view (used p) made.some
+          (λ before. ended-before (is_pair d.view p) (m p) (n p) (ended setup p all) (quiet p) (counted p) (old.standing p owned before))
+          (sym (uses p) ∙ is);
       held = λ p is.
           let same : q ≡ p = here p is in
           let H : PairNo → Type 0 = λ r. (owns_view setup s r ≡ true) × (used' r ≡ true) × (ended setup r all ≡ false) × (Some q ≡ Some r) in

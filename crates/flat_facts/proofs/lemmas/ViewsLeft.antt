@@ -40,7 +40,8 @@ pub record Viewed (setup : Setup) (d : Draft) (calls : List Call) (d' : Draft) :
   pub ends : (p : PairNo) → times setup (ends_view p) (Ok d) calls ≡ ends_of p d.view calls
 
 viewed-more : (setup : Setup) (d : Draft) (call : Call) (calls : List Call) (d' : Draft) → (reason : Option Reason) → misuse setup d call ≡ reason
-    → (after_calls setup (Ok (effect d call)) calls ≡ Ok d' → Viewed setup (effect d call) calls d') → after_calls setup (unless reason (effect d call)) calls ≡ Ok d' → Viewed setup d (call ∷ calls) d'
+    → (after_calls setup (Ok (effect d call)) calls ≡ Ok d' → Viewed setup (effect d call) calls d')
+    → after_calls setup (unless reason (effect d call)) calls ≡ Ok d' → Viewed setup d (call ∷ calls) d'
 viewed-more setup d call calls d' (Some reason) is rest good = let wrong : Err reason ≡ Ok d' = sym (after-refused setup reason calls) ∙ good in cc
 viewed-more setup d call calls d' None is rest good =
     let later = rest good in
@@ -60,7 +61,8 @@ view-append view [] ys = refl
 view-append view (x ∷ xs) ys = view-append (view_then view x) xs ys
 
 -- the view that a session's calls leave it, and that of its draft
-pub view-own : (s : SessionNo) (h : List Entry) (e : Entry) → is_session s e.actor ≡ true → view_after None (calls s (h ▹ e)) ≡ view_after (view_after None (calls s h)) e.calls
+pub view-own : (s : SessionNo) (h : List Entry) (e : Entry) → is_session s e.actor ≡ true
+    → view_after None (calls s (h ▹ e)) ≡ view_after (view_after None (calls s h)) e.calls
 view-own s h e mine = rw mine (view-append None (calls s h) e.calls)
 
 pub view-other : (s : SessionNo) (h : List Entry) (e : Entry) → is_session s e.actor ≡ false → view_after None (calls s (h ▹ e)) ≡ view_after None (calls s h)
@@ -73,7 +75,8 @@ view-drafted setup cs d good = (viewed setup empty_draft cs d good).view
 
 -- an ended view isn't held, and one that is held is the last
 left-by : (setup : Setup) (s : SessionNo) (h : List Entry) (view : Option PairNo) (last : Option PairNo) (is_ended : PairNo → Bool)
-    → ((p : PairNo) → is_pair view p ≡ true → (is_ended p ≡ false) × (last ≡ Some p)) → ((q : PairNo) → last ≡ Some q → (is_pair view q ≡ true) ⊎ (is_ended q ≡ true)) → view ≡ if_unended last is_ended
+    → ((p : PairNo) → is_pair view p ≡ true → (is_ended p ≡ false) × (last ≡ Some p))
+    → ((q : PairNo) → last ≡ Some q → (is_pair view q ≡ true) ⊎ (is_ended q ≡ true)) → view ≡ if_unended last is_ended
 left-by setup s h (Some p) last is_ended held standing =
     let here = held p (grind (arith, nat_tests)) in
     sym (ap (λ (o : Option PairNo). if_unended o is_ended) here.1 ∙ ap (λ b. cond b None (Some p)) here.0)
@@ -86,7 +89,8 @@ left-by setup s h None (Some q) is_ended held standing = by_case (standing q ref
 
 -- of a session that is open, where it is known which of its views have ended
 pub view-left : (setup : Setup) (s : SessionNo) (h : List Entry) → Legal setup h → is_closed s h ≡ false
-    → (is_ended : PairNo → Bool) → ((p : PairNo) → owns_view setup s p ≡ true → is_ended p ≡ happens setup (ends_view p) (calls s h)) → view_after None (calls s h) ≡ if_unended (last_view s h) is_ended
+    → (is_ended : PairNo → Bool) → ((p : PairNo) → owns_view setup s p ≡ true → is_ended p ≡ happens setup (ends_view p) (calls s h))
+    → view_after None (calls s h) ≡ if_unended (last_view s h) is_ended
 view-left setup s h legal opened is_ended knows =
     let view = viewing-of setup s h legal opened in
     sym (view-drafted setup (calls s h) view.draft view.good)
@@ -94,6 +98,7 @@ view-left setup s h legal opened is_ended knows =
     (λ p here. let was = view.held p here in (knows p was.0 ∙ was.2, was.3))
     (λ q is. let own = view.made q is in by_case view.draft.view q own.0 (view.standing q own.0 own.1))
   where
-    by_case : (left : Option PairNo) (q : PairNo) → owns_view setup s q ≡ true → (is_pair left q ≡ true) ⊎ (happens setup (ends_view q) (calls s h) ≡ true) → (is_pair left q ≡ true) ⊎ (is_ended q ≡ true)
+    by_case : (left : Option PairNo) (q : PairNo) → owns_view setup s q ≡ true → (is_pair left q ≡ true) ⊎ (happens setup (ends_view q) (calls s h) ≡ true)
+        → (is_pair left q ≡ true) ⊎ (is_ended q ≡ true)
     by_case left q own (inl here) = inl here
     by_case left q own (inr gone) = inr (knows q own ∙ gone)

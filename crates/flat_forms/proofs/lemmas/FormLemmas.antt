@@ -42,10 +42,18 @@ pub record Applied {A B : Type 0} (f : Form (A → B)) (x : Form A) (words : Lis
   pub second : Gives x mid a rest
   pub value : g a ≡ v
 
-pub apply_ok : {A B : Type 0} (f : Form (A → B)) (x : Form A) (words : List Word) (v : B) (rest : List Word) → Gives (f <*> x) words v rest → Applied f x words v rest
+pub apply_ok : {A B : Type 0} (f : Form (A → B)) (x : Form A) (words : List Word) (v : B) (rest : List Word) → Gives (f <*> x) words v rest
+    → Applied f x words v rest
 apply_ok f x words v rest given =
     let parts = both_ok (λ h w. h w) (f words).0 (x (f words).1).0 v given.value in
-    record { g = parts.a; a = parts.b; mid = (f words).1; first = record { value = parts.first; left = refl }; second = record { value = parts.second; left = given.left }; value = parts.value }
+    record {
+      g = parts.a;
+      a = parts.b;
+      mid = (f words).1;
+      first = record { value = parts.first; left = refl };
+      second = record { value = parts.second; left = given.left };
+      value = parts.value;
+    }
 
 -- a value of a form
 pub record Mapped {A B : Type 0} (h : A → B) (x : Form A) (words : List Word) (v : B) (rest : List Word) : Type 0 where
@@ -64,7 +72,8 @@ pub record Placed {A : Type 0} (test : Word → Reading A) (words : List Word) (
   pub begins : words ≡ word ∷ rest
   pub passes : test word ≡ Ok v
 
-pub place_ok : {A : Type 0} (test : Word → Reading A) (words : List Word) (v : A) (rest : List Word) → Gives (place test) words v rest → Placed test words v rest
+pub place_ok : {A : Type 0} (test : Word → Reading A) (words : List Word) (v : A) (rest : List Word) → Gives (place test) words v rest
+    → Placed test words v rest
 place_ok test [] v rest given = absurd (let is = given.value in cc)
 place_ok test (w ∷ words) v rest given = record { word = w; begins = ap (λ r. w ∷ r) given.left; passes = given.value }
 
@@ -86,7 +95,8 @@ whole_mapped h form words v is =
 
 -- what isn't read makes nothing
 
-failed_both : {A B : Type 0} (h : A → B) (x : Reading A) (n : Reading (Unit {0})) (k : FaultKind) → both (λ w _. w) x n ≡ Err k → both (λ w _. w) (mapped h x) n ≡ Err k
+failed_both : {A B : Type 0} (h : A → B) (x : Reading A) (n : Reading (Unit {0})) (k : FaultKind) → both (λ w _. w) x n ≡ Err k
+    → both (λ w _. w) (mapped h x) n ≡ Err k
 failed_both h (Ok a) (Ok u) k is = absurd (cc)
 failed_both h (Ok a) (Err j) k is = ap Err (cc)
 failed_both h (Err j) (Ok u) k is = ap Err (cc)
@@ -95,7 +105,8 @@ failed_both h (Err i) (Err j) k is = ap Err (cc)
 pub whole_failed : {A B : Type 0} (h : A → B) (form : Form A) (words : List Word) (k : FaultKind) → whole form words ≡ Err k → whole (h <$> form) words ≡ Err k
 whole_failed h form words k is = failed_both h (form words).0 (nothing (form words).1) k is
 
-pub refused_whole : {A B : Type 0} (h : A → B) (form : Form A) (words : List Word) (e : LineError) → Refused e (whole form words) → Refused e (whole (h <$> form) words)
+pub refused_whole : {A B : Type 0} (h : A → B) (form : Form A) (words : List Word) (e : LineError) → Refused e (whole form words)
+    → Refused e (whole (h <$> form) words)
 refused_whole h form words (Kind k) is = whole_failed h form words k is
 refused_whole h form words Memory is = tt
 
@@ -125,5 +136,6 @@ pub shown_whole : {A : Type 0} (read : List Word → Reading A) (spelt words : L
 shown_whole read spelt words v same is = record { behind = []; begins = sym same ∙ sym (append-nil spelt); again = ap read same ∙ is }
 
 -- the same of a value that a function changes
-pub shown_mapped : {A B : Type 0} (f : A → B) (read : List Word → Reading A) (spelt words : List Word) (v : A) → Shown read spelt words v → Shown (λ ws. mapped f (read ws)) spelt words (f v)
+pub shown_mapped : {A B : Type 0} (f : A → B) (read : List Word → Reading A) (spelt words : List Word) (v : A) → Shown read spelt words v
+    → Shown (λ ws. mapped f (read ws)) spelt words (f v)
 shown_mapped f read spelt words v shown = record { behind = shown.behind; begins = shown.begins; again = ap (mapped f) shown.again }

@@ -12,10 +12,12 @@ use Rattle.flat_places.specs.declared.script.Script.{Script}
 use Rattle.flat_places.specs.Forms.{Word, Reading, whole, ◌<$>◌, ◌<*>◌}
 use Rattle.flat_places.specs.Names.{is_name, is_declared}
 use Rattle.flat_places.specs.Places.{session, number_from, new_name, pair_owner, owners}
-use Rattle.flat_forms.specs.Head.{head_line, display_line, session_line, probe_line, buffers_line, pair_line, fence_line, side, size, buffers, pair, fence, has_display, with_display, with_session, with_probe, with_buffers, with_pair, with_fence}
+use Rattle.flat_forms.specs.Head.{head_line, display_line, session_line, probe_line, buffers_line, pair_line, fence_line, side, size, buffers, pair, fence}
+use Rattle.flat_forms.specs.Head.{has_display, with_display, with_session, with_probe, with_buffers, with_pair, with_fence}
 use Rattle.flat_forms.proofs.lemmas.FormLemmas.{Gives, apply_ok, map_ok, place_ok, whole_ok, unless_ok, mapped_ok, or_kind_ok}
 use Rattle.flat_forms.proofs.lemmas.IndexLemmas.{new_name_ok}
-use Rattle.flat_forms.proofs.lemmas.StepLemmas.{SizeStep, SessionStep, ProbeStep, BuffersStep, PairStep, FenceStep, Step, size_step, session_step, probe_step, buffers_step, pair_step, fence_step}
+use Rattle.flat_forms.proofs.lemmas.StepLemmas.{SizeStep, SessionStep, ProbeStep, BuffersStep, PairStep, FenceStep, Step, size_step, session_step, probe_step}
+use Rattle.flat_forms.proofs.lemmas.StepLemmas.{buffers_step, pair_step, fence_step}
 use Rattle.std.proofs.lemmas.Bool.{not-true}
 
 tested_word : (b : Bool) (w v : Word) → cond {A = Reading Word} b (Ok w) (Err BadHead) ≡ Ok v → w ≡ v
@@ -31,21 +33,42 @@ size_found : (u : Script) (words : List Word) (t : Script) → display_line u wo
 size_found u words t is =
     let m = mapped_ok (λ d. with_display u d.0 d.1 d.2) _ t is in
     let tested = unless_ok BadHead (not (has_display u)) (whole (size u.version) words) m.a m.given in
-    record { rest = words; w = m.a.0; h = m.a.1; q = m.a.2; begins = refl; first = not-true (has_display u) tested.passed; read = tested.given; made = sym m.value }
+    record {
+      rest = words;
+      w = m.a.0;
+      h = m.a.1;
+      q = m.a.2;
+      begins = refl;
+      first = not-true (has_display u) tested.passed;
+      read = tested.given;
+      made = sym m.value;
+    }
 
 session_found : (u : Script) (words : List Word) (t : Script) → session_line u words ≡ Ok t → SessionStep u (codes "session" ∷ words) t
 session_found u words t is =
     let m = mapped_ok (with_session u) _ t is in
     let tested = unless_ok Limit (nat_lt (length u.sessions) 16) (whole (new_name u) words) m.a m.given in
     let given = whole_ok (new_name u) words m.a tested.given in
-    record { name = m.a; begins = ap (λ r. codes "session" ∷ r) (new_name_word u words m.a [] given); room = tested.passed; fresh = new_name_ok u words m.a [] given; made = sym m.value }
+    record {
+      name = m.a;
+      begins = ap (λ r. codes "session" ∷ r) (new_name_word u words m.a [] given);
+      room = tested.passed;
+      fresh = new_name_ok u words m.a [] given;
+      made = sym m.value;
+    }
 
 probe_found : (u : Script) (words : List Word) (t : Script) → probe_line u words ≡ Ok t → ProbeStep u (codes "probe" ∷ words) t
 probe_found u words t is =
     let m = mapped_ok (with_probe u) _ t is in
     let tested = unless_ok Limit (nat_lt (length u.probes) 8) (whole (new_name u) words) m.a m.given in
     let given = whole_ok (new_name u) words m.a tested.given in
-    record { name = m.a; begins = ap (λ r. codes "probe" ∷ r) (new_name_word u words m.a [] given); room = tested.passed; fresh = new_name_ok u words m.a [] given; made = sym m.value }
+    record {
+      name = m.a;
+      begins = ap (λ r. codes "probe" ∷ r) (new_name_word u words m.a [] given);
+      room = tested.passed;
+      fresh = new_name_ok u words m.a [] given;
+      made = sym m.value;
+    }
 
 fence_found : (u : Script) (words : List Word) (t : Script) → fence_line u words ≡ Ok t → FenceStep u (codes "fence" ∷ words) t
 fence_found u words t is =
@@ -83,7 +106,8 @@ pair_found u words t is =
       x = x.word;
       y = y.word;
       decl = record { viewport = next.a; view = last.a };
-      begins = ap (λ r. codes "pair" ∷ r) (new_name_word u words first.a next.mid first.given ∙ ap (λ r. first.a ∷ r) (x.begins ∙ ap (λ r. x.word ∷ r) y.begins));
+      begins = ap (λ r. codes "pair" ∷ r) (new_name_word u words first.a next.mid first.given
+          ∙ ap (λ r. first.a ∷ r) (x.begins ∙ ap (λ r. x.word ∷ r) y.begins));
       room = tested.passed;
       fresh = new_name_ok u words first.a next.mid first.given;
       single = not-true _ lone.passed;
@@ -106,7 +130,8 @@ buffers_found u words t is =
     let a = place_ok _ three.mid three.a four.mid three.second in
     let b = place_ok _ four.mid four.a five.mid four.second in
     let c = place_ok _ five.mid five.a [] five.second in
-    let value : h first.a two.a three.a four.a five.a ≡ m.a = ap (λ g. g two.a three.a four.a five.a) first.value ∙ ap (λ g. g three.a four.a five.a) two.value ∙ ap (λ g. g four.a five.a) three.value
+    let value : h first.a two.a three.a four.a five.a ≡ m.a =
+    ap (λ g. g two.a three.a four.a five.a) first.value ∙ ap (λ g. g three.a four.a five.a) two.value ∙ ap (λ g. g four.a five.a) three.value
     ∙ ap (λ g. g five.a) four.value ∙ five.value in
     record {
       name = first.a;
@@ -115,7 +140,8 @@ buffers_found u words t is =
       b = b.word;
       c = c.word;
       decl = record { owner = two.a; count = three.a; w = four.a; h = five.a };
-      begins = ap (λ r. codes "buffers" ∷ r) (new_name_word u words first.a two.mid first.given ∙ ap (λ r. first.a ∷ r) (o.begins ∙ ap (λ r. o.word ∷ r) (a.begins ∙ ap (λ r. a.word ∷ r) (b.begins ∙ ap (λ r. b.word ∷ r) c.begins))));
+      begins = ap (λ r. codes "buffers" ∷ r) (new_name_word u words first.a two.mid first.given
+          ∙ ap (λ r. first.a ∷ r) (o.begins ∙ ap (λ r. o.word ∷ r) (a.begins ∙ ap (λ r. a.word ∷ r) (b.begins ∙ ap (λ r. b.word ∷ r) c.begins))));
       room = tested.passed;
       fresh = new_name_ok u words first.a two.mid first.given;
       owned = or_kind_ok UnknownName _ two.a o.passes;
@@ -128,27 +154,42 @@ buffers_found u words t is =
 step_at : (u : Script) (v w : Word) (words : List Word) (t : Script) → bytes_eq v w ≡ true → Step u (w ∷ words) t → Step u (v ∷ words) t
 step_at u v w words t same step = let P : Word → Type 0 = λ x. Step u (x ∷ words) t in subst P (sym ((bytes_eq-Decides v w).0 same)) step
 
-by_fence : (u : Script) (w : Word) (words : List Word) (t : Script) (b : Bool) → bytes_eq w (codes "fence") ≡ b → cond b (fence_line u words) (Err BadHead) ≡ Ok t → Step u (w ∷ words) t
+by_fence : (u : Script) (w : Word) (words : List Word) (t : Script) (b : Bool) → bytes_eq w (codes "fence") ≡ b
+    → cond b (fence_line u words) (Err BadHead) ≡ Ok t → Step u (w ∷ words) t
 by_fence u w words t true at is = step_at u w (codes "fence") words t at (fence_step (fence_found u words t is))
 by_fence u w words t false at is = absurd (cc)
 
-by_pair : (u : Script) (w : Word) (words : List Word) (t : Script) (b : Bool) → bytes_eq w (codes "pair") ≡ b → cond b (pair_line u words) (cond (bytes_eq w (codes "fence")) (fence_line u words) (Err BadHead)) ≡ Ok t → Step u (w ∷ words) t
+by_pair : (u : Script) (w : Word) (words : List Word) (t : Script) (b : Bool) → bytes_eq w (codes "pair") ≡ b
+    → cond b (pair_line u words) (cond (bytes_eq w (codes "fence")) (fence_line u words) (Err BadHead)) ≡ Ok t → Step u (w ∷ words) t
 by_pair u w words t true at is = step_at u w (codes "pair") words t at (pair_step (pair_found u words t is))
 by_pair u w words t false at is = by_fence u w words t (bytes_eq w (codes "fence")) refl is
 
-by_buffers : (u : Script) (w : Word) (words : List Word) (t : Script) (b : Bool) → bytes_eq w (codes "buffers") ≡ b → cond b (buffers_line u words) (cond (bytes_eq w (codes "pair")) (pair_line u words) (cond (bytes_eq w (codes "fence")) (fence_line u words) (Err BadHead))) ≡ Ok t → Step u (w ∷ words) t
+by_buffers : (u : Script) (w : Word) (words : List Word) (t : Script) (b : Bool) → bytes_eq w (codes "buffers") ≡ b
+    → cond b (buffers_line u words) (cond (bytes_eq w (codes "pair")) (pair_line u words)
+    (cond (bytes_eq w (codes "fence")) (fence_line u words) (Err BadHead))) ≡ Ok t → Step u (w ∷ words) t
 by_buffers u w words t true at is = step_at u w (codes "buffers") words t at (buffers_step (buffers_found u words t is))
 by_buffers u w words t false at is = by_pair u w words t (bytes_eq w (codes "pair")) refl is
 
-by_probe : (u : Script) (w : Word) (words : List Word) (t : Script) (b : Bool) → bytes_eq w (codes "probe") ≡ b → cond b (probe_line u words) (cond (bytes_eq w (codes "buffers")) (buffers_line u words) (cond (bytes_eq w (codes "pair")) (pair_line u words) (cond (bytes_eq w (codes "fence")) (fence_line u words) (Err BadHead)))) ≡ Ok t → Step u (w ∷ words) t
+by_probe : (u : Script) (w : Word) (words : List Word) (t : Script) (b : Bool) → bytes_eq w (codes "probe") ≡ b
+    → cond b (probe_line u words) (cond (bytes_eq w (codes "buffers")) (buffers_line u words)
+    (cond (bytes_eq w (codes "pair")) (pair_line u words) (cond (bytes_eq w (codes "fence")) (fence_line u words) (Err BadHead)))) ≡ Ok t → Step u (w ∷ words) t
 by_probe u w words t true at is = step_at u w (codes "probe") words t at (probe_step (probe_found u words t is))
 by_probe u w words t false at is = by_buffers u w words t (bytes_eq w (codes "buffers")) refl is
 
-by_session : (u : Script) (w : Word) (words : List Word) (t : Script) (b : Bool) → bytes_eq w (codes "session") ≡ b → cond b (session_line u words) (cond (bytes_eq w (codes "probe")) (probe_line u words) (cond (bytes_eq w (codes "buffers")) (buffers_line u words) (cond (bytes_eq w (codes "pair")) (pair_line u words) (cond (bytes_eq w (codes "fence")) (fence_line u words) (Err BadHead))))) ≡ Ok t → Step u (w ∷ words) t
+by_session : (u : Script) (w : Word) (words : List Word) (t : Script) (b : Bool) → bytes_eq w (codes "session") ≡ b
+    → cond b (session_line u words) (cond (bytes_eq w (codes "probe")) (probe_line u words)
+    (cond (bytes_eq w (codes "buffers")) (buffers_line u words)
+    (cond (bytes_eq w (codes "pair")) (pair_line u words) (cond (bytes_eq w (codes "fence")) (fence_line u words) (Err BadHead))))) ≡ Ok t
+    → Step u (w ∷ words) t
 by_session u w words t true at is = step_at u w (codes "session") words t at (session_step (session_found u words t is))
 by_session u w words t false at is = by_probe u w words t (bytes_eq w (codes "probe")) refl is
 
-by_display : (u : Script) (w : Word) (words : List Word) (t : Script) (b : Bool) → bytes_eq w (codes "display") ≡ b → cond b (display_line u words) (cond (bytes_eq w (codes "session")) (session_line u words) (cond (bytes_eq w (codes "probe")) (probe_line u words) (cond (bytes_eq w (codes "buffers")) (buffers_line u words) (cond (bytes_eq w (codes "pair")) (pair_line u words) (cond (bytes_eq w (codes "fence")) (fence_line u words) (Err BadHead)))))) ≡ Ok t → Step u (w ∷ words) t
+by_display : (u : Script) (w : Word) (words : List Word) (t : Script) (b : Bool) → bytes_eq w (codes "display") ≡ b
+    → cond b (display_line u words) (cond (bytes_eq w (codes "session")) (session_line u words)
+    (cond (bytes_eq w (codes "probe")) (probe_line u words)
+    (cond (bytes_eq w (codes "buffers")) (buffers_line u words)
+    (cond (bytes_eq w (codes "pair")) (pair_line u words) (cond (bytes_eq w (codes "fence")) (fence_line u words) (Err BadHead)))))) ≡ Ok t
+    → Step u (w ∷ words) t
 by_display u w words t true at is = step_at u w (codes "display") words t at (size_step (size_found u words t is))
 by_display u w words t false at is = by_session u w words t (bytes_eq w (codes "session")) refl is
 

@@ -1,5 +1,6 @@
 -- The index of names after one more name.
-use Rattle.std.proofs.Common.{◌≡◌, ℕ, ◌+◌, ◌≤◌, ◌==◌, Bool, true, false, ◌&&◌, not, cond, nat_lt, List, [], ◌∷◌, ◌++◌, length, Option, Some, None, is_some, Ok, Err, refl, sym, ◌∙◌, ap, arith, length-append, if◌then◌else◌}
+use Rattle.std.proofs.Common.{◌≡◌, ℕ, ◌+◌, ◌≤◌, ◌==◌, Bool, true, false, ◌&&◌, not, cond, nat_lt, List, [], ◌∷◌, ◌++◌, length, Option, Some, None, is_some, Ok}
+use Rattle.std.proofs.Common.{Err, refl, sym, ◌∙◌, ap, arith, length-append, if◌then◌else◌}
 use Rattle.std.proofs.lemmas.Bool.Decides.{nat_tests, same_from_decides, Decides-like}
 use Rattle.std.proofs.lemmas.List.Sums.{prefix_len-le-length}
 use Rattle.std.proofs.lemmas.Slice.Eq.{bytes_eq-Decides}
@@ -45,7 +46,8 @@ new_name_ok s words v rest given = let placed = place_ok _ words v rest given in
 
 -- the place of a name in a list with one more
 
-there : (at len at' len' : ℕ) (b : Bool) → at ≤ len → cond (nat_lt at len) (Some at) None ≡ None → b ≡ true → at' ≡ cond (at == len) (len + cond b 0 1) at → len' ≡ len + 1
+there : (at len at' len' : ℕ) (b : Bool) → at ≤ len → cond (nat_lt at len) (Some at) None ≡ None → b ≡ true → at' ≡ cond (at == len) (len + cond b 0 1) at
+    → len' ≡ len + 1
     → cond (nat_lt at' len') (Some at') None ≡ Some len
 there at len at' len' b within none is next more = grind (arith, nat_tests)
 
@@ -69,7 +71,8 @@ place_else names n w other =
     (position_or_len-le-length p names) other (position_or_len_push p names n) (length-append names (n ∷ []))
 
 pub bytes_eq_sym : (xs ys : List ℕ) → bytes_eq xs ys ≡ bytes_eq ys xs
-bytes_eq_sym xs ys = same_from_decides (bytes_eq xs ys) (bytes_eq ys xs) (bytes_eq-Decides xs ys) (Decides-like (bytes_eq ys xs) (λ e. sym e) (λ e. sym e) (bytes_eq-Decides ys xs))
+bytes_eq_sym xs ys = same_from_decides (bytes_eq xs ys) (bytes_eq ys xs) (bytes_eq-Decides xs ys)
+    (Decides-like (bytes_eq ys xs) (λ e. sym e) (λ e. sym e) (bytes_eq-Decides ys xs))
 
 -- the place of a word after one more name, of that sort and of another sort
 
@@ -119,67 +122,82 @@ no_place s w fresh =
     let five = or_parts (is_some (place_of s.fences w)) _ four.1 in
     record { sessions = none _ one.0; probes = none _ two.0; buffers = none _ three.0; pairs = none _ four.0; fences = none _ five.0 }
 
-pub finds_sessions : (s : Script) (name w : Word) (o o' : Option Meaning) → IsFresh s name → o' ≡ cond (bytes_eq w name) (Some (Session (length s.sessions))) o → Means o s w → Means o' (with_session s name) w
+pub finds_sessions : (s : Script) (name w : Word) (o o' : Option Meaning) → IsFresh s name → o' ≡ cond (bytes_eq w name) (Some (Session (length s.sessions))) o
+    → Means o s w → Means o' (with_session s name) w
 finds_sessions s name w o o' fresh is m =
     let none = no_place s name fresh.fresh in
     let seen = choose {A = Option Meaning} {B = Option ℕ} in
     let m' = Some (Session (length s.sessions)) in
     record {
-      sessions = added s.sessions name w (session_place o) (session_place o') none.sessions m.sessions (ap session_place is ∙ seen session_place (bytes_eq w name) m' o);
+      sessions = added s.sessions name w (session_place o) (session_place o') none.sessions m.sessions
+          (ap session_place is ∙ seen session_place (bytes_eq w name) m' o);
       probes = same s.probes name w (probe_place o) (probe_place o') none.probes m.probes (ap probe_place is ∙ seen probe_place (bytes_eq w name) m' o);
-      buffers = same s.buffers name w (buffers_place o) (buffers_place o') none.buffers m.buffers (ap buffers_place is ∙ seen buffers_place (bytes_eq w name) m' o);
+      buffers = same s.buffers name w (buffers_place o) (buffers_place o') none.buffers m.buffers
+          (ap buffers_place is ∙ seen buffers_place (bytes_eq w name) m' o);
       pairs = same s.pairs name w (pair_place o) (pair_place o') none.pairs m.pairs (ap pair_place is ∙ seen pair_place (bytes_eq w name) m' o);
       fences = same s.fences name w (fence_place o) (fence_place o') none.fences m.fences (ap fence_place is ∙ seen fence_place (bytes_eq w name) m' o);
     }
 
-pub finds_probes : (s : Script) (name w : Word) (o o' : Option Meaning) → IsFresh s name → o' ≡ cond (bytes_eq w name) (Some (Probe (length s.probes))) o → Means o s w → Means o' (with_probe s name) w
+pub finds_probes : (s : Script) (name w : Word) (o o' : Option Meaning) → IsFresh s name → o' ≡ cond (bytes_eq w name) (Some (Probe (length s.probes))) o
+    → Means o s w → Means o' (with_probe s name) w
 finds_probes s name w o o' fresh is m =
     let none = no_place s name fresh.fresh in
     let seen = choose {A = Option Meaning} {B = Option ℕ} in
     let m' = Some (Probe (length s.probes)) in
     record {
-      sessions = same s.sessions name w (session_place o) (session_place o') none.sessions m.sessions (ap session_place is ∙ seen session_place (bytes_eq w name) m' o);
+      sessions = same s.sessions name w (session_place o) (session_place o') none.sessions m.sessions
+          (ap session_place is ∙ seen session_place (bytes_eq w name) m' o);
       probes = added s.probes name w (probe_place o) (probe_place o') none.probes m.probes (ap probe_place is ∙ seen probe_place (bytes_eq w name) m' o);
-      buffers = same s.buffers name w (buffers_place o) (buffers_place o') none.buffers m.buffers (ap buffers_place is ∙ seen buffers_place (bytes_eq w name) m' o);
+      buffers = same s.buffers name w (buffers_place o) (buffers_place o') none.buffers m.buffers
+          (ap buffers_place is ∙ seen buffers_place (bytes_eq w name) m' o);
       pairs = same s.pairs name w (pair_place o) (pair_place o') none.pairs m.pairs (ap pair_place is ∙ seen pair_place (bytes_eq w name) m' o);
       fences = same s.fences name w (fence_place o) (fence_place o') none.fences m.fences (ap fence_place is ∙ seen fence_place (bytes_eq w name) m' o);
     }
 
-pub finds_buffers : (s : Script) (name w : Word) (d : BufferDecl) (o o' : Option Meaning) → IsFresh s name → o' ≡ cond (bytes_eq w name) (Some (Buffers (length s.buffers))) o → Means o s w → Means o' (with_buffers s name d) w
+pub finds_buffers : (s : Script) (name w : Word) (d : BufferDecl) (o o' : Option Meaning) → IsFresh s name
+    → o' ≡ cond (bytes_eq w name) (Some (Buffers (length s.buffers))) o → Means o s w → Means o' (with_buffers s name d) w
 finds_buffers s name w d o o' fresh is m =
     let none = no_place s name fresh.fresh in
     let seen = choose {A = Option Meaning} {B = Option ℕ} in
     let m' = Some (Buffers (length s.buffers)) in
     record {
-      sessions = same s.sessions name w (session_place o) (session_place o') none.sessions m.sessions (ap session_place is ∙ seen session_place (bytes_eq w name) m' o);
+      sessions = same s.sessions name w (session_place o) (session_place o') none.sessions m.sessions
+          (ap session_place is ∙ seen session_place (bytes_eq w name) m' o);
       probes = same s.probes name w (probe_place o) (probe_place o') none.probes m.probes (ap probe_place is ∙ seen probe_place (bytes_eq w name) m' o);
-      buffers = added s.buffers name w (buffers_place o) (buffers_place o') none.buffers m.buffers (ap buffers_place is ∙ seen buffers_place (bytes_eq w name) m' o);
+      buffers = added s.buffers name w (buffers_place o) (buffers_place o') none.buffers m.buffers
+          (ap buffers_place is ∙ seen buffers_place (bytes_eq w name) m' o);
       pairs = same s.pairs name w (pair_place o) (pair_place o') none.pairs m.pairs (ap pair_place is ∙ seen pair_place (bytes_eq w name) m' o);
       fences = same s.fences name w (fence_place o) (fence_place o') none.fences m.fences (ap fence_place is ∙ seen fence_place (bytes_eq w name) m' o);
     }
 
-pub finds_pairs : (s : Script) (name w : Word) (d : PairDecl) (o o' : Option Meaning) → IsFresh s name → o' ≡ cond (bytes_eq w name) (Some (Pair (length s.pairs))) o → Means o s w → Means o' (with_pair s name d) w
+pub finds_pairs : (s : Script) (name w : Word) (d : PairDecl) (o o' : Option Meaning) → IsFresh s name
+    → o' ≡ cond (bytes_eq w name) (Some (Pair (length s.pairs))) o → Means o s w → Means o' (with_pair s name d) w
 finds_pairs s name w d o o' fresh is m =
     let none = no_place s name fresh.fresh in
     let seen = choose {A = Option Meaning} {B = Option ℕ} in
     let m' = Some (Pair (length s.pairs)) in
     record {
-      sessions = same s.sessions name w (session_place o) (session_place o') none.sessions m.sessions (ap session_place is ∙ seen session_place (bytes_eq w name) m' o);
+      sessions = same s.sessions name w (session_place o) (session_place o') none.sessions m.sessions
+          (ap session_place is ∙ seen session_place (bytes_eq w name) m' o);
       probes = same s.probes name w (probe_place o) (probe_place o') none.probes m.probes (ap probe_place is ∙ seen probe_place (bytes_eq w name) m' o);
-      buffers = same s.buffers name w (buffers_place o) (buffers_place o') none.buffers m.buffers (ap buffers_place is ∙ seen buffers_place (bytes_eq w name) m' o);
+      buffers = same s.buffers name w (buffers_place o) (buffers_place o') none.buffers m.buffers
+          (ap buffers_place is ∙ seen buffers_place (bytes_eq w name) m' o);
       pairs = added s.pairs name w (pair_place o) (pair_place o') none.pairs m.pairs (ap pair_place is ∙ seen pair_place (bytes_eq w name) m' o);
       fences = same s.fences name w (fence_place o) (fence_place o') none.fences m.fences (ap fence_place is ∙ seen fence_place (bytes_eq w name) m' o);
     }
 
-pub finds_fences : (s : Script) (name w : Word) (d : FenceDecl) (o o' : Option Meaning) → IsFresh s name → o' ≡ cond (bytes_eq w name) (Some (Fence (length s.fences))) o → Means o s w → Means o' (with_fence s name d) w
+pub finds_fences : (s : Script) (name w : Word) (d : FenceDecl) (o o' : Option Meaning) → IsFresh s name
+    → o' ≡ cond (bytes_eq w name) (Some (Fence (length s.fences))) o → Means o s w → Means o' (with_fence s name d) w
 finds_fences s name w d o o' fresh is m =
     let none = no_place s name fresh.fresh in
     let seen = choose {A = Option Meaning} {B = Option ℕ} in
     let m' = Some (Fence (length s.fences)) in
     record {
-      sessions = same s.sessions name w (session_place o) (session_place o') none.sessions m.sessions (ap session_place is ∙ seen session_place (bytes_eq w name) m' o);
+      sessions = same s.sessions name w (session_place o) (session_place o') none.sessions m.sessions
+          (ap session_place is ∙ seen session_place (bytes_eq w name) m' o);
       probes = same s.probes name w (probe_place o) (probe_place o') none.probes m.probes (ap probe_place is ∙ seen probe_place (bytes_eq w name) m' o);
-      buffers = same s.buffers name w (buffers_place o) (buffers_place o') none.buffers m.buffers (ap buffers_place is ∙ seen buffers_place (bytes_eq w name) m' o);
+      buffers = same s.buffers name w (buffers_place o) (buffers_place o') none.buffers m.buffers
+          (ap buffers_place is ∙ seen buffers_place (bytes_eq w name) m' o);
       pairs = same s.pairs name w (pair_place o) (pair_place o') none.pairs m.pairs (ap pair_place is ∙ seen pair_place (bytes_eq w name) m' o);
       fences = added s.fences name w (fence_place o) (fence_place o') none.fences m.fences (ap fence_place is ∙ seen fence_place (bytes_eq w name) m' o);
     }

@@ -1,5 +1,6 @@
 -- The fences of a list, up to the word that ends it.
-use Rattle.std.proofs.Common.{◌≡◌, suc, ◌+◌, ◌<◌, nat_lt, not, Bool, true, false, ◌||◌, cond, List, [], ◌∷◌, ◌++◌, length, take, drop, Ok, Err, refl, sym, ◌∙◌, ap, arith, codes, if◌then◌else◌, ◌⊎◌, inl, inr}
+use Rattle.std.proofs.Common.{◌≡◌, suc, ◌+◌, ◌<◌, nat_lt, not, Bool, true, false, ◌||◌, cond, List, [], ◌∷◌, ◌++◌, length, take, drop, Ok, Err, refl, sym, ◌∙◌}
+use Rattle.std.proofs.Common.{ap, arith, codes, if◌then◌else◌, ◌⊎◌, inl, inr}
 use Rattle.std.specs.List.{list_any, before_first, after_first, position_or_len}
 use Rattle.std.proofs.lemmas.Bool.Decides.{nat_tests}
 use Rattle.std.proofs.lemmas.Slice.Eq.{bytes_eq-Decides}
@@ -50,11 +51,13 @@ goes p (w ∷ ws) some = by_test (p w) refl
 
 -- some fences of a list were read, and the others are to come
 pub record ListGoes (test : Word → Reading FenceNo) (follows : Bool) (old new : Places) (found : List FenceNo) : Type 0 where
-  pub read : lower (sofar new) (mapped (λ rest. found ++ rest) (each test (before_first (ends_list follows) (left new)))) ≡ lower (sofar old) (each test (before_first (ends_list follows) (left old)))
+  pub read : lower (sofar new) (mapped (λ rest. found ++ rest) (each test (before_first (ends_list follows) (left new))))
+      ≡ lower (sofar old) (each test (before_first (ends_list follows) (left old)))
   pub more : list_any (ends_list follows) (left new) ≡ list_any (ends_list follows) (left old)
   pub behind : after_first (ends_list follows) (left new) ≡ after_first (ends_list follows) (left old)
 
-list_step : {A : Type 0} (p : Word → Bool) (test : Word → Reading A) (xs : List Word) → Goes p xs → each test (before_first p xs) ≡ both (λ a r. a ∷ r) (place test xs).0 (each test (before_first p (place test xs).1))
+list_step : {A : Type 0} (p : Word → Bool) (test : Word → Reading A) (xs : List Word) → Goes p xs
+    → each test (before_first p xs) ≡ both (λ a r. a ∷ r) (place test xs).0 (each test (before_first p (place test xs).1))
 list_step p test xs g = rw g.is (ap (each test) (goes_before p g.w g.ws g.none))
 
 more_step : {A : Type 0} (p : Word → Bool) (test : Word → Reading A) (xs : List Word) → Goes p xs → list_any p (place test xs).1 ≡ list_any p xs
@@ -68,13 +71,15 @@ shorter_step p test xs ys g is = rw (is, g.is) (omega arith)
 
 -- one fence more
 pub list_goes : (test : Word → Reading FenceNo) (follows : Bool) (old mid new : Places) (found next : List FenceNo) (v : FenceNo)
-    → ListGoes test follows old mid found → Goes (ends_list follows) (left mid) → Reads (place test) mid new v → next ≡ found ++ v ∷ [] → ListGoes test follows old new next
+    → ListGoes test follows old mid found → Goes (ends_list follows) (left mid) → Reads (place test) mid new v → next ≡ found ++ v ∷ []
+    → ListGoes test follows old new next
 list_goes test follows old mid new found next v so_far g read is =
     let p = ends_list follows in
     record {
       read =
           ap (λ items. lower (sofar new) (mapped (λ r. items ++ r) (each test (before_first p (left new))))) is
-          ∙ one_more (λ xs. each test (before_first p xs)) (place test) found v (sofar mid) (sofar new) (left mid) (left new) (list_step p test (left mid) g) read.words read.outcome
+          ∙ one_more (λ xs. each test (before_first p xs)) (place test) found v (sofar mid) (sofar new) (left mid) (left new) (list_step p test (left mid) g)
+          read.words read.outcome
           ∙ so_far.read;
       more = ap (list_any p) read.words ∙ more_step p test (left mid) g ∙ so_far.more;
       behind = ap (after_first p) read.words ∙ behind_step p test (left mid) g ∙ so_far.behind;
@@ -89,7 +94,8 @@ none_before (x ∷ xs) none = absurd (let wrong : false ≡ true = sym none ∙ 
 
 -- the list's end
 pub list_ends : (test : Word → Reading FenceNo) (follows : Bool) (old new : Places) (found : List FenceNo)
-    → ListGoes test follows old new found → nat_lt 0 (length (before_first (ends_list follows) (left new))) ≡ false → ReadsList (each test) follows old new found
+    → ListGoes test follows old new found → nat_lt 0 (length (before_first (ends_list follows) (left new))) ≡ false
+    → ReadsList (each test) follows old new found
 list_ends test follows old new found so_far none =
     let stops = none_before (before_first (ends_list follows) (left new)) none in
     record {
@@ -101,14 +107,16 @@ list_ends test follows old new found so_far none =
 
 -- a fence at least
 
-one_at_least : {A : Type 0} (test : Word → Reading A) (s : Reading (Unit {0})) (xs : List Word) → lower s (one_or_more test xs) ≡ lower (lower s (passes WrongCount (nat_lt 0 (length xs)))) (each test xs)
+one_at_least : {A : Type 0} (test : Word → Reading A) (s : Reading (Unit {0})) (xs : List Word)
+    → lower s (one_or_more test xs) ≡ lower (lower s (passes WrongCount (nat_lt 0 (length xs)))) (each test xs)
 one_at_least test (Ok u) [] = refl
 one_at_least test (Err k) [] = refl
 one_at_least test (Ok u) (x ∷ xs) = ap (λ b. lower (lower {A = Unit {0}} (Ok u) (passes WrongCount b)) (each test (x ∷ xs))) (sym (is_some_word x xs))
 one_at_least test (Err k) (x ∷ xs) = ap (λ b. lower (lower {A = Unit {0}} (Err k) (passes WrongCount b)) (each test (x ∷ xs))) (sym (is_some_word x xs))
 
 pub some_list : (test : Word → Reading FenceNo) (follows : Bool) (old mid new : Places) (found : List FenceNo)
-    → mid.words ≡ old.words → sofar mid ≡ lower (sofar old) (passes WrongCount (nat_lt 0 (length (before_first (ends_list follows) (left old))))) → ReadsList (each test) follows mid new found
+    → mid.words ≡ old.words → sofar mid ≡ lower (sofar old) (passes WrongCount (nat_lt 0 (length (before_first (ends_list follows) (left old)))))
+    → ReadsList (each test) follows mid new found
     → ReadsList (one_or_more test) follows old new found
 some_list test follows old mid new found words kinds list =
     let p = ends_list follows in
@@ -127,7 +135,8 @@ all_before : (xs : List Word) → before_first (ends_list false) xs ≡ xs
 all_before [] = refl
 all_before (x ∷ xs) = goes_before (ends_list false) x xs refl ∙ ap (λ ys. x ∷ ys) (all_before xs)
 
-pub last_list : (reading : List Word → Reading (List FenceNo)) (old new : Places) (found : List FenceNo) → ReadsList reading false old new found → Reads (λ words. (reading words, [])) old new found
+pub last_list : (reading : List Word → Reading (List FenceNo)) (old new : Places) (found : List FenceNo) → ReadsList reading false old new found
+    → Reads (λ words. (reading words, [])) old new found
 last_list reading old new found list = record {
   words = sym (all_before (left new)) ∙ list.stops;
   outcome = ap (λ xs. lower (sofar old) (reading xs)) (sym (all_before (left old))) ∙ list.read;
@@ -135,7 +144,8 @@ last_list reading old new found list = record {
 
 -- what may stand behind a list's end
 
-pub ends_line : (reading : List Word → Reading (List FenceNo)) (old new : Places) → left old ≡ [] → left new ≡ [] → new.fault ≡ old.fault → Reads (behind_end reading) old new []
+pub ends_line : (reading : List Word → Reading (List FenceNo)) (old new : Places) → left old ≡ [] → left new ≡ [] → new.fault ≡ old.fault
+    → Reads (behind_end reading) old new []
 ends_line reading old new none gone same = record {
   words = gone;
   outcome = ap (λ xs. lower (sofar old) (behind_end reading xs).0) none ∙ lower_given [] (sofar old) ∙ ap (λ f. giving [] (reading_of f)) (sym same);
@@ -146,7 +156,8 @@ must_end p w ws true at none = at
 must_end p w ws false at none = absurd (let wrong : w ∷ before_first p ws ≡ [] = sym (goes_before p w ws at) ∙ none in cc)
 
 pub goes_on_behind : (reading : List Word → Reading (List FenceNo)) (old mid new : Places) (w : Word) (found : List FenceNo)
-    → before_first (ends_list true) (left old) ≡ [] → left old ≡ w ∷ left mid → mid.fault ≡ old.fault → Reads (λ words. (reading words, [])) mid new found → Reads (behind_end reading) old new found
+    → before_first (ends_list true) (left old) ≡ [] → left old ≡ w ∷ left mid → mid.fault ≡ old.fault → Reads (λ words. (reading words, [])) mid new found
+    → Reads (behind_end reading) old new found
 goes_on_behind reading old mid new w found stops at same read =
     let p = ends_list true in
     let is_end = must_end p w (left mid) (p w) refl (ap (before_first p) (sym at) ∙ stops) in
@@ -182,15 +193,18 @@ pub by_release : (test : Word → Reading FenceNo) (w : Word) (ws : List Word) �
     → fence_lists test (w ∷ ws) ≡ both pair_of (Ok []) (one_or_more test ws)
 by_release test w ws other is = by_other test w ws other ∙ ap (λ b. if b then both pair_of (Ok []) (one_or_more test ws) else Err WrongCount) is
 
-pub by_neither : (test : Word → Reading FenceNo) (w : Word) (ws : List Word) → bytes_eq w (codes "acquire") ≡ false → bytes_eq w (codes "release") ≡ false → fence_lists test (w ∷ ws) ≡ Err WrongCount
+pub by_neither : (test : Word → Reading FenceNo) (w : Word) (ws : List Word) → bytes_eq w (codes "acquire") ≡ false → bytes_eq w (codes "release") ≡ false
+    → fence_lists test (w ∷ ws) ≡ Err WrongCount
 by_neither test w ws other is = by_other test w ws other ∙ ap (λ b. if b then both pair_of (Ok []) (one_or_more test ws) else Err WrongCount) is
 
 -- lists that were read begin with one of the keywords
 abbrev pub ListsOk : (Word → Reading FenceNo) → Word → List Word → List FenceNo × List FenceNo → Type 0
 ListsOk test w ws lists =
-    ((w ≡ codes "acquire") × (both pair_of (one_or_more test (before_first (ends_list true) ws)) (behind_end (one_or_more test) ws).0 ≡ Ok lists)) ⊎ ((w ≡ codes "release") × (both pair_of (Ok []) (one_or_more test ws) ≡ Ok lists))
+    ((w ≡ codes "acquire") × (both pair_of (one_or_more test (before_first (ends_list true) ws)) (behind_end (one_or_more test) ws).0 ≡ Ok lists))
+    ⊎ ((w ≡ codes "release") × (both pair_of (Ok []) (one_or_more test ws) ≡ Ok lists))
 
-pub lists_ok : (test : Word → Reading FenceNo) (w : Word) (ws : List Word) (lists : List FenceNo × List FenceNo) → fence_lists test (w ∷ ws) ≡ Ok lists → ListsOk test w ws lists
+pub lists_ok : (test : Word → Reading FenceNo) (w : Word) (ws : List Word) (lists : List FenceNo × List FenceNo) → fence_lists test (w ∷ ws) ≡ Ok lists
+    → ListsOk test w ws lists
 lists_ok test w ws lists is = by_keyword (bytes_eq w (codes "acquire")) (bytes_eq w (codes "release")) refl refl
   where
     by_keyword : (b c : Bool) → bytes_eq w (codes "acquire") ≡ b → bytes_eq w (codes "release") ≡ c → ListsOk test w ws lists
@@ -198,15 +212,19 @@ lists_ok test w ws lists is = by_keyword (bytes_eq w (codes "acquire")) (bytes_e
     by_keyword false true at other = inr ((bytes_eq-Decides w (codes "release")).0 other, sym (by_release test w ws at other) ∙ is)
     by_keyword false false at other = absurd (let wrong : Err WrongCount ≡ Ok lists = sym (by_neither test w ws at other) ∙ is in cc)
 
-pub acquire_read : (test : Word → Reading FenceNo) (old mid past new : Places) (w : Word) (a r : List FenceNo) → left old ≡ w ∷ left mid → mid.fault ≡ old.fault → bytes_eq w (codes "acquire") ≡ true
+pub acquire_read : (test : Word → Reading FenceNo) (old mid past new : Places) (w : Word) (a r : List FenceNo) → left old ≡ w ∷ left mid → mid.fault ≡ old.fault
+    → bytes_eq w (codes "acquire") ≡ true
     → ReadsList (one_or_more test) true mid past a → Reads (behind_end (one_or_more test)) past new r → Reads (all_lists test) old new (a, r)
 acquire_read test old mid past new w a r at same is list read =
     let p = ends_list true in
-    let first : lower (sofar old) (one_or_more test (before_first p (left mid))) ≡ giving a (sofar past) = ap (λ f. lower (reading_of f) (one_or_more test (before_first p (left mid)))) (sym same) ∙ list.read in
+    let first : lower (sofar old) (one_or_more test (before_first p (left mid))) ≡ giving a (sofar past) =
+    ap (λ f. lower (reading_of f) (one_or_more test (before_first p (left mid)))) (sym same) ∙ list.read in
     let behind : (behind_end (one_or_more test) (left mid)).0 ≡ (behind_end (one_or_more test) (left past)).0 =
-    ap (λ b. if b then one_or_more test (after_first p (left mid)) else Ok []) (sym list.more) ∙ ap (λ xs. if list_any p (left past) then one_or_more test xs else Ok []) (sym list.behind) in
+    ap (λ b. if b then one_or_more test (after_first p (left mid)) else Ok []) (sym list.more)
+    ∙ ap (λ xs. if list_any p (left past) then one_or_more test xs else Ok []) (sym list.behind) in
     record {
       words = read.words;
       outcome = ap (λ xs. lower (sofar old) (fence_lists test xs)) at ∙ ap (lower (sofar old)) (by_acquire test w (left mid) is)
-          ∙ after pair_of (sofar old) (sofar past) (sofar new) (one_or_more test (before_first p (left mid))) (behind_end (one_or_more test) (left mid)).0 a r first (ap (lower (sofar past)) behind ∙ read.outcome);
+          ∙ after pair_of (sofar old) (sofar past) (sofar new) (one_or_more test (before_first p (left mid))) (behind_end (one_or_more test) (left mid)).0 a r
+          first (ap (lower (sofar past)) behind ∙ read.outcome);
     }

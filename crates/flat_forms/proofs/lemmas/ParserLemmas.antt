@@ -1,5 +1,7 @@
 -- The counts beside the script.
-use Rattle.std.proofs.Common.{zero, suc, ◌&&◌, get_or, set, ◌==◌, ◌≢◌, get_or-set_same, get_or-set_other, ◌≡◌, ℕ, ◌+◌, ◌<◌, Bool, true, false, ◌||◌, List, [], ◌∷◌, ◌++◌, length, refl, sym, ap, ◌∙◌, arith, length-append, Option, Some, None, cond, is_some, max, count_by, append-nil, add-zero}
+use Rattle.std.proofs.Common.{zero, suc, ◌&&◌, get_or, set, ◌==◌, ◌≢◌, get_or-set_same, get_or-set_other, ◌≡◌, ℕ, ◌+◌, ◌<◌, Bool, true, false, ◌||◌, List, []}
+use Rattle.std.proofs.Common.{◌∷◌, ◌++◌, length, refl, sym, ap, ◌∙◌, arith, length-append, Option, Some, None, cond, is_some, max, count_by, append-nil}
+use Rattle.std.proofs.Common.{add-zero}
 use Rattle.std.proofs.lemmas.Bool.Decides.{nat_tests}
 use Rattle.std.specs.List.{list_any, filter_map, cons_option}
 use Rattle.std.proofs.lemmas.List.Elements.{filter_map-append}
@@ -37,16 +39,20 @@ times ls = filter_map (λ x. time_begun x.body) ls
 times_more : (old new : List ScriptLine) (l : ScriptLine) → new ≡ old ++ l ∷ [] → times new ≡ times old ++ cons_option (time_begun l.body) []
 times_more old new l now = ap (filter_map (λ x. time_begun x.body)) now ∙ filter_map-append (λ x. time_begun x.body) old (l ∷ [])
 
-pub begins_more : (old new : List ScriptLine) (l : ScriptLine) (begins one : ℕ) → new ≡ old ++ l ∷ [] → begins ≡ length (times old) → one ≡ cond (is_some (time_begun l.body)) 1 0 → begins + one ≡ length (times new)
+pub begins_more : (old new : List ScriptLine) (l : ScriptLine) (begins one : ℕ) → new ≡ old ++ l ∷ [] → begins ≡ length (times old)
+    → one ≡ cond (is_some (time_begun l.body)) 1 0 → begins + one ≡ length (times new)
 begins_more old new l begins one now is more = rw (is, more) (sym (ap length (times_more old new l now) ∙ count_one (time_begun l.body) (times old)))
 
-pub dones_more : (old new : List ScriptLine) (l : ScriptLine) (ended one : ℕ) → new ≡ old ++ l ∷ [] → ended ≡ count_by (λ x. ends_frame x.body) old → one ≡ cond (ends_frame l.body) 1 0 → ended + one ≡ count_by (λ x. ends_frame x.body) new
+pub dones_more : (old new : List ScriptLine) (l : ScriptLine) (ended one : ℕ) → new ≡ old ++ l ∷ [] → ended ≡ count_by (λ x. ends_frame x.body) old
+    → one ≡ cond (ends_frame l.body) 1 0 → ended + one ≡ count_by (λ x. ends_frame x.body) new
 dones_more old new l ended one now is more =
     rw (is, more) (sym (ap (count_by (λ x. ends_frame x.body)) now ∙ fold-append (λ n x. n + cond (ends_frame x.body) 1 0) 0 old (l ∷ [])))
 
-pub last_more : (old new : List ScriptLine) (l : ScriptLine) (last next : ℕ) → new ≡ old ++ l ∷ [] → last ≡ greatest (times old) → next ≡ option_map_or (λ t. max last t) (time_begun l.body) last → next ≡ greatest (times new)
+pub last_more : (old new : List ScriptLine) (l : ScriptLine) (last next : ℕ) → new ≡ old ++ l ∷ [] → last ≡ greatest (times old)
+    → next ≡ option_map_or (λ t. max last t) (time_begun l.body) last → next ≡ greatest (times new)
 last_more old new l last next now is more =
-    more ∙ ap (λ m. option_map_or (λ t. max m t) (time_begun l.body) m) is ∙ sym (ap greatest (times_more old new l now) ∙ greatest_one (time_begun l.body) (times old))
+    more ∙ ap (λ m. option_map_or (λ t. max m t) (time_begun l.body) m) is
+    ∙ sym (ap greatest (times_more old new l now) ∙ greatest_one (time_begun l.body) (times old))
 
 -- the lines of each actor
 
@@ -66,7 +72,8 @@ slot_within Display n long p = omega arith
 slot_within (Session s) n long p = omega arith
 slot_within (Probe i) n long p = omega arith
 
-counted_at : (b : Bool) (counts : List ℕ) (i j n : ℕ) → (i == j) ≡ b → j < length counts → get_or (set counts i (get_or counts i 0 + n)) j 0 ≡ get_or counts j 0 + cond b n 0
+counted_at : (b : Bool) (counts : List ℕ) (i j n : ℕ) → (i == j) ≡ b → j < length counts
+    → get_or (set counts i (get_or counts i 0 + n)) j 0 ≡ get_or counts j 0 + cond b n 0
 counted_at true counts i j n same within =
     let e : i ≡ j = grind (arith, nat_tests) in
     rw e (get_or-set_same counts j (get_or counts j 0 + n) 0 within)
@@ -74,8 +81,10 @@ counted_at false counts i j n other within =
     let e : j ≢ i = grind (arith, nat_tests) in
     get_or-set_other counts i j (get_or counts i 0 + n) 0 e ∙ sym (add-zero (get_or counts j 0))
 
-lines_at : (counts : List ℕ) (old new : List ScriptLine) (l : ScriptLine) (a b : Actor) → length counts ≡ 25 → IsCounted a → IsCounted b → l.actor ≡ a → new ≡ old ++ l ∷ []
-    → get_or counts (slot b) 0 ≡ count_by (λ x. is_actor x.actor b) old → get_or (set counts (slot a) (get_or counts (slot a) 0 + 1)) (slot b) 0 ≡ count_by (λ x. is_actor x.actor b) new
+lines_at : (counts : List ℕ) (old new : List ScriptLine) (l : ScriptLine) (a b : Actor) → length counts ≡ 25 → IsCounted a → IsCounted b → l.actor ≡ a
+    → new ≡ old ++ l ∷ []
+    → get_or counts (slot b) 0 ≡ count_by (λ x. is_actor x.actor b) old
+    → get_or (set counts (slot a) (get_or counts (slot a) 0 + 1)) (slot b) 0 ≡ count_by (λ x. is_actor x.actor b) new
 lines_at counts old new l a b long p q same now is =
     let within : slot b < length counts = slot_within b (length counts) long q in
     let test : is_actor a b ≡ is_actor l.actor b = ap (λ x. is_actor x b) (sym same) in
@@ -83,8 +92,10 @@ lines_at counts old new l a b long p q same now is =
     ∙ ap (λ n. n + cond (is_actor a b) 1 0) is ∙ ap (λ t. count_by (λ x. is_actor x.actor b) old + cond t 1 0) test
     ∙ sym (ap (count_by (λ x. is_actor x.actor b)) now ∙ fold-append (λ n x. n + cond (is_actor x.actor b) 1 0) 0 old (l ∷ []))
 
-pub lines_more : (counts : List ℕ) (old new : List ScriptLine) (l : ScriptLine) (a b : Actor) (i : ℕ) → i ≡ slot a → length counts ≡ 25 → IsCounted a → IsCounted b → l.actor ≡ a → new ≡ old ++ l ∷ []
-    → get_or counts (slot b) 0 ≡ count_by (λ x. is_actor x.actor b) old → get_or (set counts i (get_or counts i 0 + 1)) (slot b) 0 ≡ count_by (λ x. is_actor x.actor b) new
+pub lines_more : (counts : List ℕ) (old new : List ScriptLine) (l : ScriptLine) (a b : Actor) (i : ℕ) → i ≡ slot a → length counts ≡ 25 → IsCounted a
+    → IsCounted b → l.actor ≡ a → new ≡ old ++ l ∷ []
+    → get_or counts (slot b) 0 ≡ count_by (λ x. is_actor x.actor b) old
+    → get_or (set counts i (get_or counts i 0 + 1)) (slot b) 0 ≡ count_by (λ x. is_actor x.actor b) new
 lines_more counts old new l a b i here long p q same now is =
     ap (λ k. get_or (set counts k (get_or counts k 0 + 1)) (slot b) 0) here ∙ lines_at counts old new l a b long p q same now is
 

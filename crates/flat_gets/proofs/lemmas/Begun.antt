@@ -1,5 +1,6 @@
 -- What a begin changes of what is kept of a session.
-use Rattle.std.proofs.Common.{◌≡◌, ℕ, zero, suc, ◌+◌, ◌-◌, ◌≤◌, Bool, true, false, List, [], ◌∷◌, length, refl, arith, sym, ◌∙◌, ap, map, take, drop, length-drop, add-zero}
+use Rattle.std.proofs.Common.{◌≡◌, ℕ, zero, suc, ◌+◌, ◌-◌, ◌≤◌, Bool, true, false, List, [], ◌∷◌, length, refl, arith, sym, ◌∙◌, ap, map, take, drop}
+use Rattle.std.proofs.Common.{length-drop, add-zero}
 use Rattle.std.proofs.Math.Seq.{take-append_seam}
 use Rattle.std.proofs.lemmas.List.{drop-drop, length-map, length-take}
 use Rattle.std.proofs.lemmas.List.Sums.{take_while-cons}
@@ -32,9 +33,15 @@ pub seen-begun-closed : (setup : Setup) (h : List Entry) (line time : ℕ) (s : 
 seen-begun-closed setup h line time s closed = let none : taken setup h s - taken setup h s ≡ 0 = omega arith in rw (closed, add-zero, none) refl
 
 -- of an open one what is ready is taken, up to an unsquashable one, and goes
-pub seen-begun-open : (setup : Setup) (h : List Entry) (line time : ℕ) (s : SessionNo) (ready : List Published) → is_closed s h ≡ false → ready ≡ ready_prefix time (is_signalled setup h) (waiting setup h s)
+pub seen-begun-open : (setup : Setup) (h : List Entry) (line time : ℕ) (s : SessionNo) (ready : List Published) → is_closed s h ≡ false
+    → ready ≡ ready_prefix time (is_signalled setup h) (waiting setup h s)
     → seen_of setup (begun h line time) s
-    ≡ record (seen_of setup h s) { taken = taken setup h s + length ready; waiting = drop (length ready) (waiting setup h s); going = ready; took = length ready }
+    ≡ record (seen_of setup h s) {
+      taken = taken setup h s + length ready;
+      waiting = drop (length ready) (waiting setup h s);
+      going = ready;
+      took = length ready;
+    }
 seen-begun-open setup h line time s ready opened is =
     let took : taken setup h s + length ready - taken setup h s ≡ length ready = omega arith in
     rw (opened, ← is) (rw (took, ← drop-drop (length ready) (taken setup h s) (presents s h)) refl)
@@ -55,7 +62,8 @@ while-map : {A B : Type 0} (p : B → Bool) (f : A → B) (xs : List A) → map 
 while-map p f [] = refl
 while-map {A} p f (x ∷ xs) = rw (take_while-cons (λ y. p (f y)) x xs, take_while-cons p (f x) (map f xs)) (by_test (while-map p f xs) (p (f x)))
   where
-    by_test : map f (take_while (λ y. p (f y)) xs) ≡ take_while p (map f xs) → (b : Bool) → map f (cond b (x ∷ take_while (λ y. p (f y)) xs) []) ≡ cond b (f x ∷ take_while p (map f xs)) []
+    by_test : map f (take_while (λ y. p (f y)) xs) ≡ take_while p (map f xs) → (b : Bool)
+        → map f (cond b (x ∷ take_while (λ y. p (f y)) xs) []) ≡ cond b (f x ∷ take_while p (map f xs)) []
     by_test rest true = ap (λ ys. f x ∷ ys) rest
     by_test rest false = refl
 
@@ -99,11 +107,13 @@ take-same f g n xs ys same = map-take f n xs ∙ ap (take n) same ∙ sym (map-t
 pub drop-same : {A B C : Type 0} (f : A → C) (g : B → C) (n : ℕ) (xs : List A) (ys : List B) → map f xs ≡ map g ys → map f (drop n xs) ≡ map g (drop n ys)
 drop-same f g n xs ys same = map-drop f n xs ∙ ap (drop n) same ∙ sym (map-drop g n ys)
 
-pub then-same : {A B C D : Type 0} (r : C → D) (f : A → C) (g : B → C) (xs : List A) (ys : List B) → map f xs ≡ map g ys → map (λ x. r (f x)) xs ≡ map (λ y. r (g y)) ys
+pub then-same : {A B C D : Type 0} (r : C → D) (f : A → C) (g : B → C) (xs : List A) (ys : List B) → map f xs ≡ map g ys
+    → map (λ x. r (f x)) xs ≡ map (λ y. r (g y)) ys
 then-same r f g xs ys same = map-then r f xs ∙ ap (map r) same ∙ sym (map-then r g ys)
 
 -- as many are taken of both
-pub takes-same : (setup : Setup) (time : ℕ) (has_it signalled : FenceNo → Bool) (waits : List (WaitingPresent (Arc Snapshot Global))) (stands : List Published) → ((f : FenceNo) → has_it f ≡ signalled f)
+pub takes-same : (setup : Setup) (time : ℕ) (has_it signalled : FenceNo → Bool) (waits : List (WaitingPresent (Arc Snapshot Global))) (stands : List Published)
+    → ((f : FenceNo) → has_it f ≡ signalled f)
     → map kept_of waits ≡ map (meant setup) stands
     → length (frame_takes time has_it waits) ≡ length (ready_prefix time signalled stands)
 takes-same setup time has_it signalled waits stands fences same =
@@ -112,7 +122,8 @@ takes-same setup time has_it signalled waits stands fences same =
 
 -- ---- what is kept stands for that
 
-pub kept-gone : (setup : Setup) (seen : Seen) (state : SessionState) → IsKept setup seen state → state.let_go ≡ true → IsKept setup (record seen { going = seen.waiting; took = 0 }) (record state { took = 0 })
+pub kept-gone : (setup : Setup) (seen : Seen) (state : SessionState) → IsKept setup seen state → state.let_go ≡ true
+    → IsKept setup (record seen { going = seen.waiting; took = 0 }) (record state { took = 0 })
 kept-gone setup seen state kept gone = record {
   closed = kept.closed;
   account = kept.account;
@@ -130,7 +141,8 @@ kept-gone setup seen state kept gone = record {
   room = kept.room;
 }
 
-pub kept-let_go : (setup : Setup) (seen : Seen) (state new : SessionState) → IsKept setup seen state → state.let_go ≡ false → state.closed ≡ true → LetGo state new
+pub kept-let_go : (setup : Setup) (seen : Seen) (state new : SessionState) → IsKept setup seen state → state.let_go ≡ false → state.closed ≡ true
+    → LetGo state new
     → IsKept setup (record seen { going = seen.waiting; took = 0 }) new
 kept-let_go setup seen state new kept stays closed gone = record {
   closed = gone.closed ∙ kept.closed;
@@ -149,8 +161,10 @@ kept-let_go setup seen state new kept stays closed gone = record {
   room = rw gone.room kept.room;
 }
 
-pub kept-ready : (setup : Setup) (seen : Seen) (state new : SessionState) (n : ℕ) → IsKept setup seen state → state.let_go ≡ false → n ≤ length state.queue.waiting
-    → new.took ≡ n → new.queue.taken ≡ state.queue.taken + new.took → new.queue.waiting ≡ drop new.took state.queue.waiting → new.going.items ≡ map (λ kept. kept.args.release) (take n state.queue.waiting)
+pub kept-ready : (setup : Setup) (seen : Seen) (state new : SessionState) (n : ℕ) → IsKept setup seen state → state.let_go ≡ false
+    → n ≤ length state.queue.waiting
+    → new.took ≡ n → new.queue.taken ≡ state.queue.taken + new.took → new.queue.waiting ≡ drop new.took state.queue.waiting
+    → new.going.items ≡ map (λ kept. kept.args.release) (take n state.queue.waiting)
     → vec_capacity new.going ≡ vec_capacity state.going → new.closed ≡ state.closed → new.let_go ≡ state.let_go → new.account ≡ state.account
     → IsKept setup (record seen { taken = seen.taken + n; waiting = drop n seen.waiting; going = take n seen.waiting; took = n }) new
 kept-ready setup seen state new n kept stays fits took taken waiting going room closes gone account = record {
@@ -163,8 +177,10 @@ kept-ready setup seen state new n kept stays fits took taken waiting going room 
   let_go = λ is. let wrong : true ≡ false = sym is ∙ gone ∙ stays in cc;
   acquire = rw (waiting, took) (All-drop (λ kept. Below (length setup.fences) kept.args.acquire) n state.queue.waiting kept.acquire);
   release = rw (waiting, took) (All-drop (λ kept. Below (length setup.fences) kept.args.release) n state.queue.waiting kept.release);
-  going = going ∙ then-same (λ pair. pair.0.release) kept_of (meant setup) (take n state.queue.waiting) (take n seen.waiting) (take-same kept_of (meant setup) n state.queue.waiting seen.waiting (kept.waiting stays));
-  going_below = rw going (All-map (Below (length setup.fences)) (λ kept. kept.args.release) (take n state.queue.waiting) (All-take (λ kept. Below (length setup.fences) kept.args.release) n state.queue.waiting kept.release));
+  going = going ∙ then-same (λ pair. pair.0.release) kept_of (meant setup) (take n state.queue.waiting) (take n seen.waiting)
+      (take-same kept_of (meant setup) n state.queue.waiting seen.waiting (kept.waiting stays));
+  going_below = rw going (All-map (Below (length setup.fences)) (λ kept. kept.args.release) (take n state.queue.waiting)
+      (All-take (λ kept. Below (length setup.fences) kept.args.release) n state.queue.waiting kept.release));
   took = took;
   goes = rw going (rw length-map (omega (arith, kept.few, length-take n state.queue.waiting)));
   room = rw room kept.room;

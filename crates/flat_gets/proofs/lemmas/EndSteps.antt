@@ -67,7 +67,8 @@ number-declared setup i n same below = le-number i setup.sessions (omega (arith,
 
 -- ---- a session that is closed
 
-pub viewports-closed : (setup : Setup) (h : List Entry) (s : SessionNo) (live : List Live) (out : List OutToken) → is_closed s h ≡ true → AreViewports setup h s live out
+pub viewports-closed : (setup : Setup) (h : List Entry) (s : SessionNo) (live : List Live) (out : List OutToken) → is_closed s h ≡ true
+    → AreViewports setup h s live out
 viewports-closed setup h s live out closed = record {
   lives = λ opened. let wrong : true ≡ false = sym closed ∙ opened in absurd (cc);
   outs = λ opened. let wrong : true ≡ false = sym closed ∙ opened in absurd (cc);
@@ -101,11 +102,13 @@ module _ (setup : Setup) (h : List Entry) (e : Entry) (legal : Legal setup (h �
   pub ends-other : (ends : List Viewports) → ((j : ℕ) → is_session (number j) e.actor ≡ false) → AreEnds setup h ends → AreEnds setup (h ▹ e) ends
   ends-other ends other old = record {
     count = old.count;
-    each = λ i d below. viewports-other setup (number i) (number-declared setup i (length ends) old.count below) h e legal (other i) no_finish _ _ (old.each i d below);
+    each = λ i d below. viewports-other setup (number i) (number-declared setup i (length ends) old.count below) h e legal (other i) no_finish _ _
+        (old.each i d below);
   }
 
   -- where a session made it, by what becomes of its own
-  pub ends-one : (ends : List Viewports) (s : SessionNo) → e.actor ≡ Session s → is_declared setup s ≡ true → (before after : Viewports) → before ≡ slice_index_or ends (s.0 - 1) before
+  pub ends-one : (ends : List Viewports) (s : SessionNo) → e.actor ≡ Session s → is_declared setup s ≡ true → (before after : Viewports)
+      → before ≡ slice_index_or ends (s.0 - 1) before
       → (AreViewports setup h s before.live.items before.out.items → AreViewports setup (h ▹ e) s after.live.items after.out.items)
       → AreEnds setup h ends → AreEnds setup (h ▹ e) (slice_set ends (s.0 - 1) after)
   ends-one ends s mine declared before after is step old =
@@ -119,25 +122,31 @@ module _ (setup : Setup) (h : List Entry) (e : Entry) (legal : Legal setup (h �
       record {
         count = length-set ends (s.0 - 1) after ∙ old.count;
         each = λ i d below.
-            changed-one (λ j one. (j < length ends) × AreViewports setup h (number j) one.live.items one.out.items) (λ j one. AreViewports setup (h ▹ e) (number j) one.live.items one.out.items) ends (s.0 - 1) after
-            (λ j one other kept. viewports-other setup (number j) (number-declared setup j (length ends) old.count kept.0) h e legal (ap (is_session (number j)) mine ∙ not-session s j some other) no_finish _ _ kept.1)
+            changed-one (λ j one. (j < length ends) × AreViewports setup h (number j) one.live.items one.out.items)
+            (λ j one. AreViewports setup (h ▹ e) (number j) one.live.items one.out.items) ends (s.0 - 1) after
+            (λ j one other kept. viewports-other setup (number j) (number-declared setup j (length ends) old.count kept.0) h e legal
+            (ap (is_session (number j)) mine ∙ not-session s j some other) no_finish _ _ kept.1)
             now (λ j x within. (within, old.each j x within)) i d below;
       }
 
   -- its calls are noted, where it uses no viewport end
-  pub ends-noted : (ends : List Viewports) (s : SessionNo) → e.actor ≡ Session s → is_declared setup s ≡ true → ((p : PairNo) → (uses_viewport p e.kind && is_done e.reply) ≡ false)
+  pub ends-noted : (ends : List Viewports) (s : SessionNo) → e.actor ≡ Session s → is_declared setup s ≡ true
+      → ((p : PairNo) → (uses_viewport p e.kind && is_done e.reply) ≡ false)
       → (before after : Viewports) → before ≡ slice_index_or ends (s.0 - 1) before → (n : ℕ) → n ≡ length (presents s h) → IsNoted e.calls n before after
       → AreEnds setup h ends → AreEnds setup (h ▹ e) (slice_set ends (s.0 - 1) after)
   ends-noted ends s mine declared no_use before after is n counts noted old =
       ends-one ends s mine declared before after is
       (λ own.
-      let step = viewports-own setup s declared h e legal (ap (is_session s) mine ∙ is-session s) no_finish (λ p owned. no_use p) before.live.items before.out.items own in
+      let step = viewports-own setup s declared h e legal (ap (is_session s) mine ∙ is-session s) no_finish (λ p owned. no_use p) before.live.items
+      before.out.items own in
       rw (noted.live, noted.out, counts) step) old
 
 -- what may come back, after such a note
-pub back-noted : (ends : List Viewports) (place : ℕ) (before after : Viewports) → place < length ends → before ≡ slice_index_or ends place before → (calls : List Call) (n : ℕ) → IsNoted calls n before after
+pub back-noted : (ends : List Viewports) (place : ℕ) (before after : Viewports) → place < length ends → before ≡ slice_index_or ends place before
+    → (calls : List Call) (n : ℕ) → IsNoted calls n before after
     → sum_by due_back (slice_set ends place after) ≡ sum_by due_back ends
-back-noted ends place before after below is calls n noted = sum-same due_back ends place after before below is (ap (length {A = OutToken}) noted.out ∙ length-map before.out.items (marked before.live.items calls n))
+back-noted ends place before after below is calls n noted =
+    sum-same due_back ends place after before below is (ap (length {A = OutToken}) noted.out ∙ length-map before.out.items (marked before.live.items calls n))
 
 -- ---- the calls of entries that use no viewport end
 
@@ -162,7 +171,8 @@ view-made p None is c same = cc
 view-made p (Some (CreateView q)) is c same = subst (λ (o : Option Call). unwrap_or (option_map is_new_viewport o) false ≡ false) same refl
 view-made p (Some _) is c same = cc
 
-last-view : (p : PairNo) (xs : List Call) (last : Option Call) → slice_get xs (length xs - 1) ≡ last → makes_view p last ≡ true → list_any is_link (all_but_last xs) ≡ false → list_any is_new_viewport xs ≡ false
+last-view : (p : PairNo) (xs : List Call) (last : Option Call) → slice_get xs (length xs - 1) ≡ last → makes_view p last ≡ true
+    → list_any is_link (all_but_last xs) ≡ false → list_any is_new_viewport xs ≡ false
 last-view p xs None at is none = cc
 last-view p xs (Some call) at is none =
     let split : xs ≡ all_but_last xs ++ call ∷ [] = split-last xs call at in
@@ -170,7 +180,8 @@ last-view p xs (Some call) at is none =
     ap (list_any is_new_viewport) split ∙ list_any-append is_new_viewport (all_but_last xs) (call ∷ []) ∙ rw (links-made (all_but_last xs) none, here) refl
 
 -- none of them makes one
-pub none-new : (kind : Kind) (xs : List Call) → may_make kind ≡ false → links_alone kind xs ≡ true → own_call kind (slice_get xs (length xs - 1)) ≡ true → list_any is_new_viewport xs ≡ false
+pub none-new : (kind : Kind) (xs : List Call) → may_make kind ≡ false → links_alone kind xs ≡ true → own_call kind (slice_get xs (length xs - 1)) ≡ true
+    → list_any is_new_viewport xs ≡ false
 none-new (View p) xs quiet alone own = last-view p xs (slice_get xs (length xs - 1)) refl own (not-true _ alone)
 none-new (Viewport p props) xs quiet alone own = cc
 none-new (Close reason) xs quiet alone own = cc
@@ -203,16 +214,20 @@ abbrev pub IsStanding : Actor → List SessionState → List Entry → Type 0
 IsStanding (Session s) states history = (state : SessionState) → state ≡ slice_index_or states (s.0 - 1) state → IsStood s history state
 IsStanding who states history = Unit {0}
 
-pub standing : (m : Machine) (who : Actor) (calls : List Call) (kind : Kind) → MayCall m who calls kind → (clock : Clock) (fences views : List Bool) (sessions : List SessionState) → Stands m.setup m.history clock fences views sessions
+pub standing : (m : Machine) (who : Actor) (calls : List Call) (kind : Kind) → MayCall m who calls kind
+    → (clock : Clock) (fences views : List Bool) (sessions : List SessionState) → Stands m.setup m.history clock fences views sessions
     → IsStanding who sessions m.history
 standing m Display calls kind call clock fences views sessions old = tt
 standing m (Probe p) calls kind call clock fences views sessions old = tt
 standing m (Session s) calls kind call clock fences views sessions old = λ state is.
-    let kept : IsKept m.setup (seen_of m.setup m.history s) state = kept-session m.setup m.history clock fences views sessions s state old (declared-of m.setup kind s call.may.acts) is in
+    let kept : IsKept m.setup (seen_of m.setup m.history s) state =
+    kept-session m.setup m.history clock fences views sessions s state old (declared-of m.setup kind s call.may.acts) is in
     record { closed = kept.closed; counted = ap (λ (a : Account). a.presents) kept.account; viewed = ap (λ (a : Account). a.view) kept.account }
 
 -- also where something else of that session was changed
-pub standing-set : (s : SessionNo) (states : List SessionState) (history : List Entry) (state new : SessionState) → s.0 - 1 < length states → state ≡ slice_index_or states (s.0 - 1) state → new.closed ≡ state.closed → new.account.presents ≡ state.account.presents → new.account.view ≡ state.account.view
+pub standing-set : (s : SessionNo) (states : List SessionState) (history : List Entry) (state new : SessionState) → s.0 - 1 < length states
+    → state ≡ slice_index_or states (s.0 - 1) state → new.closed ≡ state.closed → new.account.presents ≡ state.account.presents
+    → new.account.view ≡ state.account.view
     → IsStanding (Session s) states history → IsStanding (Session s) (slice_set states (s.0 - 1) new) history
 standing-set s states history state new below is closed counts views stands = λ one at.
     let same : one ≡ new = at ∙ get_or-set_same states (s.0 - 1) new one below in
@@ -224,18 +239,27 @@ standing-set s states history state new below is closed counts views stands = λ
     }
 
 -- all sessions' viewports after an entry that uses no viewport end, or closes its session
-pub ends-after : (m : Machine) (who : Actor) (line : ℕ) (calls : List Call) (kind : Kind) (reply : Reply) → MayCall m who calls kind → reply ≡ reply_to m.setup m.history who calls kind
+pub ends-after : (m : Machine) (who : Actor) (line : ℕ) (calls : List Call) (kind : Kind) (reply : Reply) → MayCall m who calls kind
+    → reply ≡ reply_to m.setup m.history who calls kind
     → is_begin kind ≡ false → is_finish kind ≡ false → (closes reply ≡ false → may_make kind ≡ false) → Legal m.setup m.history
     → (states : List SessionState) (ends after : List Viewports) (tied now : Ties) → IsStanding who states m.history
-    → EndsEntered (entry_of who line calls kind reply) states ends after tied now → AreEnds m.setup m.history ends → AreTied m.setup m.history tied.followings.items tied.pairs.items
-    → AreEnds m.setup (m.history ▹ entry_of who line calls kind reply) after × (sum_by due_back after ≡ sum_by due_back ends) × AreTied m.setup (m.history ▹ entry_of who line calls kind reply) now.followings.items now.pairs.items
+    → EndsEntered (entry_of who line calls kind reply) states ends after tied now → AreEnds m.setup m.history ends
+    → AreTied m.setup m.history tied.followings.items tied.pairs.items
+    → AreEnds m.setup (m.history ▹ entry_of who line calls kind reply) after × (sum_by due_back after ≡ sum_by due_back ends)
+    × AreTied m.setup (m.history ▹ entry_of who line calls kind reply) now.followings.items now.pairs.items
 ends-after m Display line calls kind reply call replied no_begin no_finish quiet was states ends after tied now stands n are ties =
     let e : Entry = entry_of Display line calls kind reply in
     let legal : Legal m.setup (m.history ▹ e) = (was, legal-entered m Display line calls kind reply call replied) in
     rw (n.0, n.1) (
       ends-other m.setup m.history e legal no_finish ends (λ j. refl) are,
       refl,
-      tied-idle m.setup m.history e (record { legal = legal; no_begin = no_begin; no_finish = no_finish; no_use = λ p. none-used kind reply p quiet; shut = λ s mine. cc }) tied.followings.items tied.pairs.items ties,
+      tied-idle m.setup m.history e (record {
+        legal = legal;
+        no_begin = no_begin;
+        no_finish = no_finish;
+        no_use = λ p. none-used kind reply p quiet;
+        shut = λ s mine. cc;
+      }) tied.followings.items tied.pairs.items ties,
     )
 ends-after m (Probe p) line calls kind reply call replied no_begin no_finish quiet was states ends after tied now stands n are ties =
     let e : Entry = entry_of (Probe p) line calls kind reply in
@@ -243,7 +267,13 @@ ends-after m (Probe p) line calls kind reply call replied no_begin no_finish qui
     rw (n.0, n.1) (
       ends-other m.setup m.history e legal no_finish ends (λ j. refl) are,
       refl,
-      tied-idle m.setup m.history e (record { legal = legal; no_begin = no_begin; no_finish = no_finish; no_use = λ p. none-used kind reply p quiet; shut = λ s mine. cc }) tied.followings.items tied.pairs.items ties,
+      tied-idle m.setup m.history e (record {
+        legal = legal;
+        no_begin = no_begin;
+        no_finish = no_finish;
+        no_use = λ p. none-used kind reply p quiet;
+        shut = λ s mine. cc;
+      }) tied.followings.items tied.pairs.items ties,
     )
 ends-after m (Session s) line calls kind reply call replied no_begin no_finish quiet was states ends after tied now stands n are ties =
     let h : List Entry = m.history in
@@ -274,20 +304,24 @@ ends-after m (Session s) line calls kind reply call replied no_begin no_finish q
     e : Entry
     e = entry_of (Session s) line calls kind reply
 
-    by_reply : Legal m.setup (m.history ▹ e) → IsTrue (is_declared m.setup s) → s.0 - 1 < length ends → n.state.account.presents ≡ length (presents s m.history) → UsesNone e → (b : Bool) → closes reply ≡ b
+    by_reply : Legal m.setup (m.history ▹ e) → IsTrue (is_declared m.setup s) → s.0 - 1 < length ends → n.state.account.presents ≡ length (presents s m.history)
+        → UsesNone e → (b : Bool) → closes reply ≡ b
         → AreEnds m.setup (m.history ▹ e) (slice_set ends (s.0 - 1) n.after) × (sum_by due_back (slice_set ends (s.0 - 1) n.after) ≡ sum_by due_back ends)
     by_reply legal declared below counts uses false opened = (
-      ends-noted m.setup m.history e legal no_finish ends s refl declared uses n.before n.after n.of_before n.state.account.presents counts (n.heard.noted opened) are,
+      ends-noted m.setup m.history e legal no_finish ends s refl declared uses n.before n.after n.of_before n.state.account.presents counts
+          (n.heard.noted opened) are,
       back-noted ends (s.0 - 1) n.before n.after below n.of_before calls n.state.account.presents (n.heard.noted opened),
     )
     by_reply legal declared below counts uses true shut =
         let closed : is_closed s (m.history ▹ e) ≡ true = rw (is-session s, shut) refl in (
-          ends-one m.setup m.history e legal no_finish ends s refl declared n.before n.after n.of_before (λ own. viewports-closed m.setup (m.history ▹ e) s n.after.live.items n.after.out.items closed) are,
+          ends-one m.setup m.history e legal no_finish ends s refl declared n.before n.after n.of_before
+              (λ own. viewports-closed m.setup (m.history ▹ e) s n.after.live.items n.after.out.items closed) are,
           sum-same due_back ends (s.0 - 1) n.after n.before below n.of_before (ap due_back (n.heard.shut shut)),
         )
 
 -- where what is kept of one session is replaced by the same
-pub ends-same : (setup : Setup) (h : List Entry) (ends : List Viewports) (place : ℕ) (before after : Viewports) → before ≡ slice_index_or ends place before → place < length ends
+pub ends-same : (setup : Setup) (h : List Entry) (ends : List Viewports) (place : ℕ) (before after : Viewports) → before ≡ slice_index_or ends place before
+    → place < length ends
     → after.live.items ≡ before.live.items → after.out.items ≡ before.out.items → AreEnds setup h ends
     → AreEnds setup h (slice_set ends place after) × (sum_by due_back (slice_set ends place after) ≡ sum_by due_back ends)
 ends-same setup h ends place before after is below live out old = (

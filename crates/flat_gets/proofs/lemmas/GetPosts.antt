@@ -1,5 +1,6 @@
 -- What entries post of held gets.
-use Rattle.std.proofs.Common.{◌≡◌, ◌≢◌, ◌∙◌, sym, subst, ℕ, zero, suc, ◌<◌, ◌≤◌, Bool, true, false, List, [], ◌∷◌, ◌++◌, length, map, refl, arith, ap, Some, None, inl, inr, ◌⊎◌}
+use Rattle.std.proofs.Common.{◌≡◌, ◌≢◌, ◌∙◌, sym, subst, ℕ, zero, suc, ◌<◌, ◌≤◌, Bool, true, false, List, [], ◌∷◌, ◌++◌, length, map, refl, arith, ap, Some}
+use Rattle.std.proofs.Common.{None, inl, inr, ◌⊎◌}
 use Rattle.std.specs.Prelude.{cond, Option, flat_map, option_map, slice_get, unwrap_or, ◌==◌, ◌&&◌, nat_lt, nat_le}
 use Rattle.std.proofs.lemmas.Bool.Decides.{nat_tests}
 use Rattle.std.proofs.lemmas.List.{append-nil}
@@ -46,11 +47,13 @@ flat-past f k (suc n) past others =
     let last : f (record { 0 = suc n }) ≡ [] = others (suc n) (λ same. absurd (omega (arith, past, same))) in
     flat-on f (sessions_to n) (record { 0 = suc n }) ∙ rw (flat-past f k n (omega (arith, past)) others, last) refl
 
-flat-only : {A : Type 0} (f : SessionNo → List A) (k n : ℕ) → 0 < k → k ≤ n → ((m : ℕ) → m ≢ k → f (record { 0 = m }) ≡ []) → flat_map f (sessions_to n) ≡ f (record { 0 = k })
+flat-only : {A : Type 0} (f : SessionNo → List A) (k n : ℕ) → 0 < k → k ≤ n → ((m : ℕ) → m ≢ k → f (record { 0 = m }) ≡ [])
+    → flat_map f (sessions_to n) ≡ f (record { 0 = k })
 flat-only f k zero some within others = absurd (omega (arith, some, within))
 flat-only {A = A} f k (suc n) some within others = flat-on f (sessions_to n) (record { 0 = suc n }) ∙ by_last (suc n == k) refl (flat-only f k n some)
   where
-    by_last : (b : Bool) → (suc n == k) ≡ b → (k ≤ n → ((m : ℕ) → m ≢ k → f (record { 0 = m }) ≡ []) → flat_map f (sessions_to n) ≡ f (record { 0 = k })) → flat_map f (sessions_to n) ++ f (record { 0 = suc n }) ≡ f (record { 0 = k })
+    by_last : (b : Bool) → (suc n == k) ≡ b → (k ≤ n → ((m : ℕ) → m ≢ k → f (record { 0 = m }) ≡ []) → flat_map f (sessions_to n) ≡ f (record { 0 = k }))
+        → flat_map f (sessions_to n) ++ f (record { 0 = suc n }) ≡ f (record { 0 = k })
     by_last true same earlier =
         let number : suc n ≡ k = grind (arith, nat_tests) in
         let none : flat_map f (sessions_to n) ≡ [] = flat-past f k n (omega (arith, number)) others in
@@ -85,15 +88,18 @@ module _ (setup : Setup) (h : List Entry) (e : Entry) (legal : Legal setup (h �
   posts-none : ((m : ℕ) → 0 < m → m ≤ setup.sessions → events_to setup h e (record { 0 = m }) ≡ []) → posts setup (h ▹ e) ≡ posts setup h
   posts-none none =
       posts-all setup h e
-      ∙ ap (λ (l : List Post). posts setup h ++ l) (flat-nobody (λ s. map (post_of (length h) s) (events_to setup h e s)) setup.sessions (λ m some within. ap (map (post_of (length h) (record { 0 = m }))) (none m some within)))
+      ∙ ap (λ (l : List Post). posts setup h ++ l) (flat-nobody (λ s. map (post_of (length h) s) (events_to setup h e s)) setup.sessions
+      (λ m some within. ap (map (post_of (length h) (record { 0 = m }))) (none m some within)))
       ∙ append-nil (posts setup h)
 
   -- a session that doesn't own the pair's view is told nothing
   events-unowned : (s : SessionNo) → owns_view setup s q ≡ false → events_to setup h e s ≡ []
-  events-unowned s foreign = shut-events (is_closed s (h ▹ e)) (owns_view setup s q) _ (events_to setup h e s) (events-joined setup h e legal s q props is) (inr foreign)
+  events-unowned s foreign = shut-events (is_closed s (h ▹ e)) (owns_view setup s q) _ (events_to setup h e s) (events-joined setup h e legal s q props is)
+      (inr foreign)
 
   events-closed : (s : SessionNo) → is_closed s (h ▹ e) ≡ true → events_to setup h e s ≡ []
-  events-closed s closed = shut-events (is_closed s (h ▹ e)) (owns_view setup s q) _ (events_to setup h e s) (events-joined setup h e legal s q props is) (inl closed)
+  events-closed s closed = shut-events (is_closed s (h ▹ e)) (owns_view setup s q) _ (events_to setup h e s) (events-joined setup h e legal s q props is)
+      (inl closed)
 
   -- where the owner of the pair's view is open, the held gets of that view are answered, and nothing else is posted
   pub joined-posts : (t : SessionNo) → is_declared setup t ≡ true → owns_view setup t q ≡ true → is_closed t (h ▹ e) ≡ false
@@ -103,8 +109,11 @@ module _ (setup : Setup) (h : List Entry) (e : Entry) (legal : Legal setup (h �
       let some : 0 < t.0 = grind (arith, nat_tests) in
       let within : t.0 ≤ setup.sessions = grind (arith, nat_tests) in
       let all : List Event = told_event setup q (layout_of q) h e ++ told_event setup q (status_of q) h e in
-      let own : events_to setup h e t ≡ all = events-joined setup h e legal t q props is ∙ ap (λ (b : Bool). cond b [] (cond (owns_view setup t q) all [])) opened ∙ ap (λ (b : Bool). cond b all []) owned in
-      posts-all setup h e ∙ ap (λ (l : List Post). posts setup h ++ l) (flat-only f t.0 setup.sessions some within (λ m other. ap (map (post_of (length h) (record { 0 = m }))) (events-unowned (record { 0 = m }) (not-owner m other))))
+      let own : events_to setup h e t ≡ all = events-joined setup h e legal t q props is
+      ∙ ap (λ (b : Bool). cond b [] (cond (owns_view setup t q) all [])) opened ∙ ap (λ (b : Bool). cond b all []) owned in
+      posts-all setup h e ∙ ap (λ (l : List Post). posts setup h ++ l)
+      (flat-only f t.0 setup.sessions some within (λ m other. ap (map (post_of (length h) (record { 0 = m })))
+      (events-unowned (record { 0 = m }) (not-owner m other))))
       ∙ ap (λ (l : List Event). posts setup h ++ map (post_of (length h) t) l) own
     where
       not-owner : (m : ℕ) → m ≢ t.0 → owns_view setup (record { 0 = m }) q ≡ false
@@ -117,7 +126,8 @@ module _ (setup : Setup) (h : List Entry) (e : Entry) (legal : Legal setup (h �
               let differ : u.0 ≢ m = λ equal. other (sym equal ∙ same) in
               grind (arith, nat_tests)
 
-  pub one-owner : (o : Option SessionNo) (s t : SessionNo) → unwrap_or (option_map (λ u. u.0 == s.0) o) false ≡ true → unwrap_or (option_map (λ u. u.0 == t.0) o) false ≡ true → s.0 ≡ t.0
+  pub one-owner : (o : Option SessionNo) (s t : SessionNo) → unwrap_or (option_map (λ u. u.0 == s.0) o) false ≡ true
+      → unwrap_or (option_map (λ u. u.0 == t.0) o) false ≡ true → s.0 ≡ t.0
   one-owner None s t a b = cc
   one-owner (Some u) s t a b = grind (arith, nat_tests)
 
@@ -148,23 +158,28 @@ module _ (setup : Setup) (h : List Entry) (e : Entry) (legal : Legal setup (h �
       by_closed : (s : SessionNo) → (b : Bool) → is_closed s (h ▹ e) ≡ b → events_to setup h e s ≡ []
       by_closed s true closed = events-closed s closed
       by_closed s false opened =
-          events-told setup s h e kind-is.0 kind-is.1.0 opened ∙ quiet-all setup h e s opened (λ w heard. (idle-kind setup h e kind-is.1.1 w, rests-refused setup h e legal q props is refused w))
+          events-told setup s h e kind-is.0 kind-is.1.0 opened
+          ∙ quiet-all setup h e s opened (λ w heard. (idle-kind setup h e kind-is.1.1 w, rests-refused setup h e legal q props is refused w))
 
 -- ---- the end of a frame
 
 -- a session that is open is told the answers, what the frame took, and which tokens are back
-pub finish-posts : (setup : Setup) (h : List Entry) (line : ℕ) (s : SessionNo) → is_declared setup s ≡ true → Legal setup h → is_frame_open h ≡ true → is_closed s h ≡ false → (live : List Live) (out : List OutToken) → AreViewports setup h s live out
-    → events_to setup h (finish_entry line) s ≡ answers_to (told setup (finished h line)) (helds_of setup h s) ++ (took_event (frame_took setup h s) ++ back_events (taken setup h s) out)
+pub finish-posts : (setup : Setup) (h : List Entry) (line : ℕ) (s : SessionNo) → is_declared setup s ≡ true → Legal setup h → is_frame_open h ≡ true
+    → is_closed s h ≡ false → (live : List Live) (out : List OutToken) → AreViewports setup h s live out
+    → events_to setup h (finish_entry line) s ≡ answers_to (told setup (finished h line)) (helds_of setup h s)
+    ++ (took_event (frame_took setup h s) ++ back_events (taken setup h s) out)
 finish-posts setup h line s declared legal going opened live out kept =
     events-finished setup s h (finish_entry line) refl refl opened
-    ∙ ap (λ (l : List Event). answers_to (told setup (finished h line)) (helds_of setup h s) ++ (took_event (frame_took setup h s) ++ l)) (tokens-finish setup s declared h legal opened going live out kept)
+    ∙ ap (λ (l : List Event). answers_to (told setup (finished h line)) (helds_of setup h s) ++ (took_event (frame_took setup h s) ++ l))
+    (tokens-finish setup s declared h legal opened going live out kept)
 
 -- ---- what isn't declared
 
 -- the view end of a pair that isn't declared is used by nobody, and nothing is told of it
 view-unused : (setup : Setup) (h : List Entry) → Legal setup h → (p : PairNo) → pair_of setup p ≡ None → view_uses p h ≡ []
 view-unused setup [] legal p none = refl
-view-unused setup (h ▹ e) legal p none = ap (λ (b : Bool). cond (b && is_done e.reply) (e ∷ view_uses p h) (view_uses p h)) (by_actor e.actor e.kind legal.1.may) ∙ view-unused setup h legal.0 p none
+view-unused setup (h ▹ e) legal p none = ap (λ (b : Bool). cond (b && is_done e.reply) (e ∷ view_uses p h) (view_uses p h))
+    (by_actor e.actor e.kind legal.1.may) ∙ view-unused setup h legal.0 p none
   where
     by_actor : (who : Actor) (kind : Kind) → MayEnter setup h who e.calls kind → uses_view p kind ≡ false
     by_actor Display (View q) may = let wrong : false ≡ true = may.acts in cc
@@ -177,11 +192,13 @@ view-unused setup (h ▹ e) legal p none = ap (λ (b : Bool). cond (b && is_done
             let number : q.0 ≡ p.0 = grind (arith, nat_tests) in
             let owned : owns_view setup t q ≡ true = and-left (owns_view setup t q) _ may.owned in
             let gone : pair_of setup q ≡ None = ap (slice_get setup.pairs) number ∙ none in
-            let wrong : owns_view setup t q ≡ false = ap (λ (o : Option PairDecl). unwrap_or (option_map (λ u. u.0 == t.0) (option_map (λ pair. pair.view) o)) false) gone in
+            let wrong : owns_view setup t q ≡ false = ap (λ (o : Option PairDecl). unwrap_or (option_map (λ u. u.0 == t.0) (option_map (λ pair. pair.view) o))
+            false) gone in
             sym owned ∙ wrong
     by_actor who kind may = refl
 
-pub undeclared-untold : (setup : Setup) (h : List Entry) → Legal setup h → (p : PairNo) → length setup.pairs ≤ p.0 → (told setup h (layout_of p) ≡ None) × ((told setup h (status_of p) ≡ None) × ((n : ℕ) → told setup h (child_of p n) ≡ None))
+pub undeclared-untold : (setup : Setup) (h : List Entry) → Legal setup h → (p : PairNo) → length setup.pairs ≤ p.0
+    → (told setup h (layout_of p) ≡ None) × ((told setup h (status_of p) ≡ None) × ((n : ℕ) → told setup h (child_of p n) ≡ None))
 undeclared-untold setup h legal p past =
     let none : pair_of setup p ≡ None = slice_get_past setup.pairs p.0 past in
     let unused : nat_lt 0 (length (view_uses p h)) ≡ false = ap (λ (l : List Entry). nat_lt 0 (length l)) (view-unused setup h legal p none) in

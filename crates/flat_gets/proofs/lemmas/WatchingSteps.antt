@@ -1,5 +1,6 @@
 -- What is kept of all gets, entry by entry.
-use Rattle.std.proofs.Common.{◌≡◌, ◌≢◌, ◌∙◌, sym, subst, ℕ, ◌+◌, ◌-◌, ◌<◌, ◌≤◌, ◌^◌, true, false, List, [], ◌∷◌, ◌++◌, length, map, refl, arith, ap, All, slice_index_or, inl, inr, ◌⊎◌, None}
+use Rattle.std.proofs.Common.{◌≡◌, ◌≢◌, ◌∙◌, sym, subst, ℕ, ◌+◌, ◌-◌, ◌<◌, ◌≤◌, ◌^◌, true, false, List, [], ◌∷◌, ◌++◌, length, map, refl, arith, ap, All}
+use Rattle.std.proofs.Common.{slice_index_or, inl, inr, ◌⊎◌, None}
 use Rattle.std.specs.Prelude.{cond, nat_lt, sum_by, ◌==◌}
 use Rattle.std.proofs.lemmas.Bool.Decides.{eqb_tells}
 use Rattle.std.proofs.lemmas.List.{length-set}
@@ -66,7 +67,8 @@ answers-none (one ∷ more) none =
     let here : answers_in one ≡ 0 = ap answers_in (All-head (λ (x : KeptGets). x ≡ no_gets) one more none) in
     sum_by-cons answers_in one more ∙ omega (arith, here, answers-none more (All-tail (λ (x : KeptGets). x ≡ no_gets) one more none))
 
-pub watched-new : (setup : Setup) (watchers : Watchers) → length watchers.pairs.items ≡ length setup.pairs → length watchers.sessions.items ≡ setup.sessions → All IsUnasked watchers.pairs.items → All (λ (one : KeptGets). one ≡ no_gets) watchers.sessions.items
+pub watched-new : (setup : Setup) (watchers : Watchers) → length watchers.pairs.items ≡ length setup.pairs → length watchers.sessions.items ≡ setup.sessions
+    → All IsUnasked watchers.pairs.items → All (λ (one : KeptGets). one ≡ no_gets) watchers.sessions.items
     → AreWatched setup [] watchers
 watched-new setup watchers count sessions pairs none = record {
   count = count;
@@ -88,25 +90,31 @@ few-all setup h watchers are short = omega (arith, are.few, gets-few h, short)
 
 -- ---- an entry that ends no frame, uses no viewport end and is no get
 
-pub watched-between : (setup : Setup) (h : List Entry) (e : Entry) → Legal setup (h ▹ e) → is_finish e.kind ≡ false → is_viewport e.kind ≡ false → is_get e.kind ≡ false → (watchers : Watchers) → AreWatched setup h watchers → AreWatched setup (h ▹ e) watchers
+pub watched-between : (setup : Setup) (h : List Entry) (e : Entry) → Legal setup (h ▹ e) → is_finish e.kind ≡ false → is_viewport e.kind ≡ false
+    → is_get e.kind ≡ false → (watchers : Watchers) → AreWatched setup h watchers → AreWatched setup (h ▹ e) watchers
 watched-between setup h e legal no_finish no_viewport no_get watchers old = record {
   count = old.count;
   sessions = old.sessions;
   each = λ i d below.
-      at-rested setup h (h ▹ e) (pair i) (slice_index_or watchers.pairs.items i d) (old.each i d below) (λ w of. rests-between setup h e legal no_finish no_viewport w (idle-kind setup h e no_get w))
+      at-rested setup h (h ▹ e) (pair i) (slice_index_or watchers.pairs.items i d) (old.each i d below)
+      (λ w of. rests-between setup h e legal no_finish no_viewport w (idle-kind setup h e no_get w))
       (no-use setup h e legal no_viewport (pair i));
   answered = λ i d below.
       old.answered i d below
-      ∙ sym (answers-rest setup h e legal (number i) (not-told setup h e legal no_get (number i)) (λ w heard. let idle = idle-kind setup h e no_get w in (idle, rests-between setup h e legal no_finish no_viewport w idle)));
+      ∙ sym (answers-rest setup h e legal (number i) (not-told setup h e legal no_get (number i))
+      (λ w heard. let idle = idle-kind setup h e no_get w in (idle, rests-between setup h e legal no_finish no_viewport w idle)));
   listed = old.listed;
   few = omega (arith, old.few);
 }
 
-pub watched-after : (m : Machine) (who : Actor) (line : ℕ) (calls : List Call) (kind : Kind) (reply : Reply) → MayCall m who calls kind → reply ≡ reply_to m.setup m.history who calls kind
-    → is_finish kind ≡ false → is_viewport kind ≡ false → is_get kind ≡ false → Legal m.setup m.history → (watchers : Watchers) → AreWatched m.setup m.history watchers
+pub watched-after : (m : Machine) (who : Actor) (line : ℕ) (calls : List Call) (kind : Kind) (reply : Reply) → MayCall m who calls kind
+    → reply ≡ reply_to m.setup m.history who calls kind
+    → is_finish kind ≡ false → is_viewport kind ≡ false → is_get kind ≡ false → Legal m.setup m.history → (watchers : Watchers)
+    → AreWatched m.setup m.history watchers
     → AreWatched m.setup (m.history ▹ entry_of who line calls kind reply) watchers
 watched-after m who line calls kind reply call replied no_finish no_viewport no_get old watchers watched =
-    watched-between m.setup m.history (entry_of who line calls kind reply) (old, legal-entered m who line calls kind reply call replied) no_finish no_viewport no_get watchers watched
+    watched-between m.setup m.history (entry_of who line calls kind reply) (old, legal-entered m who line calls kind reply call replied) no_finish no_viewport
+    no_get watchers watched
 
 -- as much may still be told
 pub told-too : {a b : ℕ} (watchers : Watchers) → a ≡ b → a + due_told watchers ≡ b + due_told watchers
@@ -114,12 +122,18 @@ told-too watchers same = ap (λ (n : ℕ). n + due_told watchers) same
 
 -- ---- the end of a frame
 
-pub few-to : (setup : Setup) (n : ℕ) (k h : List Entry) (watchers : Watchers) → WatchedUpTo setup n k h watchers → length h < 2 ^ 32 - 1 → told_and_due watchers < 2 ^ 32 - 1
+pub few-to : (setup : Setup) (n : ℕ) (k h : List Entry) (watchers : Watchers) → WatchedUpTo setup n k h watchers → length h < 2 ^ 32 - 1
+    → told_and_due watchers < 2 ^ 32 - 1
 few-to setup n k h watchers are short = omega (arith, are.few, gets-few h, short)
 
 -- any pair's, where nothing waits
 nobody : Watchers → PairWatchers
-nobody watchers = record { layout = new_cell; status = new_cell; child = new_cell; former = record { ptr = watchers.pairs.ptr; len = 0; cap = 0; alloc = watchers.pairs.alloc; items = []; ok = (refl, omega arith); small = omega arith } }
+nobody watchers = record {
+  layout = new_cell;
+  status = new_cell;
+  child = new_cell;
+  former = record { ptr = watchers.pairs.ptr; len = 0; cap = 0; alloc = watchers.pairs.alloc; items = []; ok = (refl, omega arith); small = omega arith };
+}
 
 module _ (setup : Setup) (h : List Entry) (line : ℕ) (legal : Legal setup (finished h line)) where
   abbrev K : List Entry
@@ -151,7 +165,8 @@ module _ (setup : Setup) (h : List Entry) (line : ℕ) (legal : Legal setup (fin
   }
 
   -- the next one, where it is closed
-  pub watched-passed : (s : SessionNo) → 0 < s.0 → s.0 ≤ setup.sessions → is_closed s h ≡ true → (watchers : Watchers) → WatchedUpTo setup (s.0 - 1) K h watchers → WatchedUpTo setup s.0 K h watchers
+  pub watched-passed : (s : SessionNo) → 0 < s.0 → s.0 ≤ setup.sessions → is_closed s h ≡ true → (watchers : Watchers)
+      → WatchedUpTo setup (s.0 - 1) K h watchers → WatchedUpTo setup s.0 K h watchers
   watched-passed s some few closed watchers are =
       let n : ℕ = s.0 - 1 in
       let next : s.0 ≡ n + 1 = omega (arith, some) in
@@ -165,7 +180,9 @@ module _ (setup : Setup) (h : List Entry) (line : ℕ) (legal : Legal setup (fin
         few = are.few;
       })
     where
-      by_place : (i : ℕ) (d : KeptGets) → i < length watchers.sessions.items → ((i == (s.0 - 1)) ≡ true) × (i ≡ (s.0 - 1)) ⊎ ((i == (s.0 - 1)) ≡ false) × (i ≢ (s.0 - 1)) → Had (cond (nat_lt i (s.0 - 1 + 1)) K h) i (slice_index_or watchers.sessions.items i d)
+      by_place : (i : ℕ) (d : KeptGets) → i < length watchers.sessions.items
+          → ((i == (s.0 - 1)) ≡ true) × (i ≡ (s.0 - 1)) ⊎ ((i == (s.0 - 1)) ≡ false) × (i ≢ (s.0 - 1))
+          → Had (cond (nat_lt i (s.0 - 1 + 1)) K h) i (slice_index_or watchers.sessions.items i d)
       by_place i d below (inl here) =
           let n : ℕ = s.0 - 1 in
           let was : Had h i (slice_index_or watchers.sessions.items i d) = rw (ap (nat_lt i) (sym here.1) ∙ not-below i) at (are.answered i d below) in
@@ -176,7 +193,8 @@ module _ (setup : Setup) (h : List Entry) (line : ℕ) (legal : Legal setup (fin
       by_place i d below (inr other) = rw (← same-side (s.0 - 1) i other.1) (are.answered i d below)
 
   -- where it is told nothing anew: what is kept stays, and nothing is posted
-  pub watched-kept : (s : SessionNo) → 0 < s.0 → s.0 ≤ setup.sessions → is_closed s h ≡ false → TellsTheSame setup h K s → (watchers : Watchers) → WatchedUpTo setup (s.0 - 1) K h watchers
+  pub watched-kept : (s : SessionNo) → 0 < s.0 → s.0 ≤ setup.sessions → is_closed s h ≡ false → TellsTheSame setup h K s → (watchers : Watchers)
+      → WatchedUpTo setup (s.0 - 1) K h watchers
       → WatchedUpTo setup s.0 K h watchers × (answers_to (told setup K) (helds_of setup h s) ≡ [])
   watched-kept s some few opened same watchers are =
       let n : ℕ = s.0 - 1 in
@@ -196,7 +214,9 @@ module _ (setup : Setup) (h : List Entry) (line : ℕ) (legal : Legal setup (fin
       rest : (w : Watcher) → hears setup s w ≡ true → (asked setup w h (finish_entry line) ≡ None) × (watching setup w K ≡ watching setup w h)
       rest w heard = (idle-kind setup h (finish_entry line) refl w, rests-told setup h line legal s same w heard)
 
-      by_place : (i : ℕ) (d : KeptGets) → i < length watchers.sessions.items → ((i == (s.0 - 1)) ≡ true) × (i ≡ (s.0 - 1)) ⊎ ((i == (s.0 - 1)) ≡ false) × (i ≢ (s.0 - 1)) → Had (cond (nat_lt i (s.0 - 1 + 1)) K h) i (slice_index_or watchers.sessions.items i d)
+      by_place : (i : ℕ) (d : KeptGets) → i < length watchers.sessions.items
+          → ((i == (s.0 - 1)) ≡ true) × (i ≡ (s.0 - 1)) ⊎ ((i == (s.0 - 1)) ≡ false) × (i ≢ (s.0 - 1))
+          → Had (cond (nat_lt i (s.0 - 1 + 1)) K h) i (slice_index_or watchers.sessions.items i d)
       by_place i d below (inl here) =
           let n : ℕ = s.0 - 1 in
           let was : Had h i (slice_index_or watchers.sessions.items i d) = rw (ap (nat_lt i) (sym here.1) ∙ not-below i) at (are.answered i d below) in
@@ -218,7 +238,15 @@ module _ (setup : Setup) (h : List Entry) (line : ℕ) (legal : Legal setup (fin
           each = λ i d below. told-each i d (omega (arith, below, settles.length_is));
           answered = subst (AllNumbered (UpTo Had h K (n + 1))) (sym settles.sessions_are) (up-next Had h K n old.sessions.items settles.to are.answered total);
           listed = listed-now;
-          few = omega (arith, are.few, fewer, ap (sum_by answers_in) settles.sessions_are, sum_by-set answers_in old.sessions.items n settles.to settles.from place, ap answers_in settles.of_from, settles.total);
+          few = omega (
+            arith,
+            are.few,
+            fewer,
+            ap (sum_by answers_in) settles.sessions_are,
+            sum_by-set answers_in old.sessions.items n settles.to settles.from place,
+            ap answers_in settles.of_from,
+            settles.total,
+          );
         }),
         settles.posted none ∙ ap (λ (l : List Event). before ++ map (post_of (length h) s) l) (events none),
       )
@@ -236,7 +264,8 @@ module _ (setup : Setup) (h : List Entry) (line : ℕ) (legal : Legal setup (fin
       place = omega (arith, some, few, are.sessions)
 
       lists : AreListed setup s old.pairs.items settles.from
-      lists = at-session (λ t one. AreListed setup t old.pairs.items one) old.sessions.items s settles.from are.listed some (omega (arith, few, are.sessions)) settles.of_from
+      lists = at-session (λ t one. AreListed setup t old.pairs.items one) old.sessions.items s settles.from are.listed some (omega (arith, few, are.sessions))
+          settles.of_from
 
       events : (d : PairWatchers) → all_answers (told setup K) settles.from old.pairs.items d ≡ answers_to (told setup K) (helds_of setup h s)
       events d = settled-events setup h line legal n s next old.pairs.items are.count are.each settles.from lists d
@@ -245,23 +274,41 @@ module _ (setup : Setup) (h : List Entry) (line : ℕ) (legal : Legal setup (fin
       total =
           let was : Had h n settles.from = up-here Had h K n old.sessions.items settles.from are.answered place settles.of_from in
           let mine : settles.from.answers ≡ answers setup s h = was ∙ ap (λ (t : SessionNo). answers setup t h) (same-number s some) in
-          let all : settles.to.answers ≡ answers setup s K = omega (arith, settles.total, mine, settles.counted none, ap (length {A = Event}) (events none), answers-more setup h (finish_entry line) s opened) in
+          let all : settles.to.answers ≡ answers setup s K =
+          omega (
+            arith,
+            settles.total,
+            mine,
+            settles.counted none,
+            ap (length {A = Event}) (events none),
+            answers-more setup h (finish_entry line) s opened,
+          ) in
           all ∙ ap (λ (t : SessionNo). answers setup t K) (sym (same-number s some))
 
       told-each : (i : ℕ) (d : PairWatchers) → i < length old.pairs.items
-          → AreAt setup (reached (n + 1) (listener setup (layout_of (pair i))) K h) (reached (n + 1) (viewport_owner setup (pair i)) K h) (pair i) (slice_index_or new.pairs.items i d)
-      told-each i d below = settled-at setup h line legal n s next opened old.pairs.items settles.from lists i d below (slice_index_or new.pairs.items i d) (settles.each (pair i) d below) (are.each i d below)
+          → AreAt setup (reached (n + 1) (listener setup (layout_of (pair i))) K h) (reached (n + 1) (viewport_owner setup (pair i)) K h) (pair i)
+          (slice_index_or new.pairs.items i d)
+      told-each i d below = settled-at setup h line legal n s next opened old.pairs.items settles.from lists i d below (slice_index_or new.pairs.items i d)
+          (settles.each (pair i) d below) (are.each i d below)
 
       listed-now : AllNumbered (λ i. AreListed setup (number i) new.pairs.items) new.sessions.items
       listed-now =
           let views : Fewer view_waits old.pairs.items new.pairs.items =
-          fewer-from view_waits old.pairs.items new.pairs.items settles.length_is (λ i d below silent. settled-views (told setup K) settles.from (pair i) (slice_index_or old.pairs.items i d) (slice_index_or new.pairs.items i d) (settles.each (pair i) d below) silent) in
+          fewer-from view_waits old.pairs.items new.pairs.items settles.length_is
+          (λ i d below silent. settled-views (told setup K) settles.from (pair i) (slice_index_or old.pairs.items i d) (slice_index_or new.pairs.items i d)
+          (settles.each (pair i) d below) silent) in
           let viewports : Fewer viewport_waits old.pairs.items new.pairs.items =
-          fewer-from viewport_waits old.pairs.items new.pairs.items settles.length_is (λ i d below silent. settled-viewports (told setup K) settles.from (pair i) (slice_index_or old.pairs.items i d) (slice_index_or new.pairs.items i d) (settles.each (pair i) d below) silent) in
+          fewer-from viewport_waits old.pairs.items new.pairs.items settles.length_is
+          (λ i d below silent. settled-viewports (told setup K) settles.from (pair i) (slice_index_or old.pairs.items i d)
+          (slice_index_or new.pairs.items i d) (settles.each (pair i) d below) silent) in
           let mine : AreListed setup s new.pairs.items settles.to = record {
-            views = subst (λ (l : List PairNo). IsList (owns_view setup s) (views_of setup s) view_waits new.pairs.items l) (sym settles.views) (list-left (owns_view setup s) (views_of setup s) view_waits old.pairs.items new.pairs.items settles.from.views views lists.views);
-            viewports = subst (λ (l : List PairNo). IsList (owns_viewport setup s) (viewports_of setup s) viewport_waits new.pairs.items l) (sym settles.viewports) (list-left (owns_viewport setup s) (viewports_of setup s) viewport_waits old.pairs.items new.pairs.items settles.from.viewports viewports lists.viewports);
+            views = subst (λ (l : List PairNo). IsList (owns_view setup s) (views_of setup s) view_waits new.pairs.items l) (sym settles.views)
+                (list-left (owns_view setup s) (views_of setup s) view_waits old.pairs.items new.pairs.items settles.from.views views lists.views);
+            viewports = subst (λ (l : List PairNo). IsList (owns_viewport setup s) (viewports_of setup s) viewport_waits new.pairs.items l)
+                (sym settles.viewports) (list-left (owns_viewport setup s) (viewports_of setup s) viewport_waits old.pairs.items new.pairs.items
+                settles.from.viewports viewports lists.viewports);
           } in
           subst (AllNumbered (λ i. AreListed setup (number i) new.pairs.items)) (sym settles.sessions_are)
-          (changed-one (λ i. AreListed setup (number i) old.pairs.items) (λ i. AreListed setup (number i) new.pairs.items) old.sessions.items n settles.to (λ j one other kept. lists-fewer setup (number j) old.pairs.items new.pairs.items one views viewports kept)
+          (changed-one (λ i. AreListed setup (number i) old.pairs.items) (λ i. AreListed setup (number i) new.pairs.items) old.sessions.items n settles.to
+          (λ j one other kept. lists-fewer setup (number j) old.pairs.items new.pairs.items one views viewports kept)
           (subst (λ (t : SessionNo). AreListed setup t new.pairs.items settles.to) (sym (same-number s some)) mine) are.listed)

@@ -1,5 +1,6 @@
 -- A draft's names and serials: what is found after one is added, changed or taken away.
-use Rattle.std.proofs.Common.{ℕ, suc, ◌+◌, ◌-◌, ◌≤◌, ◌≡◌, ◌≢◌, refl, sym, ◌∙◌, ap, Bool, true, false, cond, not, List, [], ◌∷◌, ◌++◌, map, length, Option, Some, None, arith}
+use Rattle.std.proofs.Common.{ℕ, suc, ◌+◌, ◌-◌, ◌≤◌, ◌≡◌, ◌≢◌, refl, sym, ◌∙◌, ap, Bool, true, false, cond, not, List, [], ◌∷◌, ◌++◌, map, length, Option, Some}
+use Rattle.std.proofs.Common.{None, arith}
 use Rattle.std.specs.Prelude.{◌==◌, is_some}
 use Rattle.std.specs.Option.{option_map}
 use Rattle.std.proofs.lemmas.Bool.Decides.{nat_tests}
@@ -9,18 +10,21 @@ use Rattle.flat_graph.proofs.lemmas.NameLemmas.{both-first}
 
 -- ---- names
 
-first-other : (b : Bool) (id : ℕ) (m : Name) (ms : List Name) → b ≡ (m.id == id) → cond b (Some m.serial) (named ms id) ≡ None → (m.id ≢ id) × (named ms id ≡ None)
+first-other : (b : Bool) (id : ℕ) (m : Name) (ms : List Name) → b ≡ (m.id == id) → cond b (Some m.serial) (named ms id) ≡ None
+    → (m.id ≢ id) × (named ms id ≡ None)
 first-other true id m ms e none = absurd (cc)
 first-other false id m ms e none = (grind (arith, nat_tests), none)
 
 not-first : (id : ℕ) (m : Name) (ms : List Name) → named (m ∷ ms) id ≡ None → (m.id ≢ id) × (named ms id ≡ None)
 not-first id m ms none = first-other (m.id == id) id m ms refl none
 
-pub named-append : (names : List Name) (n : Name) (other : ℕ) → named names n.id ≡ None → named (names ++ n ∷ []) other ≡ cond (n.id == other) (Some n.serial) (named names other)
+pub named-append : (names : List Name) (n : Name) (other : ℕ) → named names n.id ≡ None
+    → named (names ++ n ∷ []) other ≡ cond (n.id == other) (Some n.serial) (named names other)
 named-append [] n other none = refl
 named-append (m ∷ ms) n other none =
     let apart = not-first n.id m ms none in
-    rw (named-append ms n other apart.1) (both-first (n.id == other) (m.id == other) n.id m.id other (Some n.serial) (Some m.serial) (named ms other) refl refl (λ same. apart.0 (sym same)))
+    rw (named-append ms n other apart.1) (both-first (n.id == other) (m.id == other) n.id m.id other (Some n.serial) (Some m.serial) (named ms other) refl refl
+    (λ same. apart.0 (sym same)))
 
 pub once-append : (names : List Name) (n : Name) → named names n.id ≡ None → IsOnce names → IsOnce (names ++ n ∷ [])
 once-append [] n none once = (refl, tt)
@@ -92,7 +96,8 @@ module _ {A : Type 0} where
   of_serial-append [] y x serial e = absurd (cc)
   of_serial-append (z ∷ xs) y x serial e = by_test (serial == 1) e (of_serial-append xs y x (serial - 1))
     where
-      by_test : (b : Bool) → cond b (Some z) (of_serial xs (serial - 1)) ≡ Some x → (of_serial xs (serial - 1) ≡ Some x → of_serial (xs ++ y ∷ []) (serial - 1) ≡ Some x)
+      by_test : (b : Bool) → cond b (Some z) (of_serial xs (serial - 1)) ≡ Some x
+          → (of_serial xs (serial - 1) ≡ Some x → of_serial (xs ++ y ∷ []) (serial - 1) ≡ Some x)
           → cond b (Some z) (of_serial (xs ++ y ∷ []) (serial - 1)) ≡ Some x
       by_test true e more = e
       by_test false e more = more e
@@ -104,9 +109,11 @@ module _ {A : Type 0} where
   pub of_serial-last : (xs : List A) (y : A) (serial : ℕ) → serial ≡ length xs + 1 → of_serial (xs ++ y ∷ []) serial ≡ Some y
   of_serial-last [] y serial e = last-test (serial == 1) serial y y None refl (λ same. refl) (λ apart. absurd (apart (omega arith)))
   of_serial-last (z ∷ xs) y serial e =
-      last-test (serial == 1) serial z y (of_serial (xs ++ y ∷ []) (serial - 1)) refl (λ same. absurd (omega arith)) (λ apart. of_serial-last xs y (serial - 1) (omega arith))
+      last-test (serial == 1) serial z y (of_serial (xs ++ y ∷ []) (serial - 1)) refl (λ same. absurd (omega arith))
+      (λ apart. of_serial-last xs y (serial - 1) (omega arith))
 
-  low-test : (b : Bool) (n : ℕ) (xs : List A) (z x : A) → b ≡ (n == 1) → cond b (Some z) (of_serial xs (n - 1)) ≡ Some x → (of_serial xs (n - 1) ≡ Some x → n - 1 ≤ length xs) → n ≤ suc (length xs)
+  low-test : (b : Bool) (n : ℕ) (xs : List A) (z x : A) → b ≡ (n == 1) → cond b (Some z) (of_serial xs (n - 1)) ≡ Some x
+      → (of_serial xs (n - 1) ≡ Some x → n - 1 ≤ length xs) → n ≤ suc (length xs)
   low-test true n xs z x e h more = let same : n ≡ 1 = grind (arith, nat_tests) in omega arith
   low-test false n xs z x e h more = let low : n - 1 ≤ length xs = more h in omega arith
 
@@ -127,7 +134,8 @@ module _ {A : Type 0} where
   changed-same serial f [] x e = absurd (cc)
   changed-same serial f (y ∷ xs) x e = by_test (serial == 1) refl e (changed-same (serial - 1) f xs x)
     where
-      by_test : (b : Bool) → (serial == 1) ≡ b → cond b (Some y) (of_serial xs (serial - 1)) ≡ Some x → (of_serial xs (serial - 1) ≡ Some x → of_serial (changed_at (serial - 1) f xs) (serial - 1) ≡ Some (f x))
+      by_test : (b : Bool) → (serial == 1) ≡ b → cond b (Some y) (of_serial xs (serial - 1)) ≡ Some x
+          → (of_serial xs (serial - 1) ≡ Some x → of_serial (changed_at (serial - 1) f xs) (serial - 1) ≡ Some (f x))
           → of_serial (cond b (f y ∷ xs) (y ∷ changed_at (serial - 1) f xs)) serial ≡ Some (f x)
       by_test true is e more = let same : y ≡ x = cc in rw (is, same) refl
       by_test false is e more = rw is (more e)
@@ -144,14 +152,16 @@ module _ {A : Type 0} where
       at_zero : serial - 1 ≡ other - 1 → other ≢ 1 → other - 1 ≡ 0
       at_zero same not_first = omega (arith, apart)
 
-      by_same : (b : Bool) → ((serial - 1) == (other - 1)) ≡ b → other ≢ 1 → (serial - 1 ≢ other - 1 → of_serial (changed_at (serial - 1) f xs) (other - 1) ≡ of_serial xs (other - 1))
+      by_same : (b : Bool) → ((serial - 1) == (other - 1)) ≡ b → other ≢ 1
+          → (serial - 1 ≢ other - 1 → of_serial (changed_at (serial - 1) f xs) (other - 1) ≡ of_serial xs (other - 1))
           → of_serial (changed_at (serial - 1) f xs) (other - 1) ≡ of_serial xs (other - 1)
       by_same true e not_first more =
           let zero : other - 1 ≡ 0 = at_zero (grind (arith, nat_tests)) not_first in
           rw zero (none-first (changed_at (serial - 1) f xs) ∙ sym (none-first xs))
       by_same false e not_first more = more (grind (arith, nat_tests))
 
-      by_test : (b c : Bool) → (serial == 1) ≡ b → (other == 1) ≡ c → (serial - 1 ≢ other - 1 → of_serial (changed_at (serial - 1) f xs) (other - 1) ≡ of_serial xs (other - 1))
+      by_test : (b c : Bool) → (serial == 1) ≡ b → (other == 1) ≡ c
+          → (serial - 1 ≢ other - 1 → of_serial (changed_at (serial - 1) f xs) (other - 1) ≡ of_serial xs (other - 1))
           → of_serial (cond b (f y ∷ xs) (y ∷ changed_at (serial - 1) f xs)) other ≡ cond c (Some y) (of_serial xs (other - 1))
       by_test true true e e' more = absurd (apart (grind (arith, nat_tests)))
       by_test true false e e' more = rw e' refl

@@ -1,5 +1,6 @@
 -- What is left where nodes are dropped to which nothing leads: it is sound, and stands for the draft.
-use Rattle.std.proofs.Common.{ℕ, zero, suc, ◌≡◌, refl, sym, ◌∙◌, ap, Bool, true, false, cond, List, [], ◌∷◌, map, Option, Some, None, IsSome, slice_index_or, arith}
+use Rattle.std.proofs.Common.{ℕ, zero, suc, ◌≡◌, refl, sym, ◌∙◌, ap, Bool, true, false, cond, List, [], ◌∷◌, map, Option, Some, None, IsSome, slice_index_or}
+use Rattle.std.proofs.Common.{arith}
 use Rattle.std.specs.Option.{option_map}
 use Rattle.std.specs.List.{Contains}
 use Rattle.flat_scene.specs.Draft.{Draft}
@@ -19,8 +20,10 @@ map-same f g [] same = refl
 map-same f g (x ∷ xs) same = rw (same x (0, omega arith, refl), map-same f g xs (λ y has. same y (suc has.0, omega (arith, has.1), has.2))) refl
 
 -- two graphs in which the children of a node have the same serials
-pub transform-same : (old new : GraphState) (node : GraphNode) → ((child : ℕ) → Contains node.children child → serial_at new child ≡ serial_at old child) → as_transform new node ≡ as_transform old node
-transform-same old new node same = ap (λ (children : List ℕ). record (as_transform old node) { children = children }) (map-same (serial_at new) (serial_at old) node.children same)
+pub transform-same : (old new : GraphState) (node : GraphNode) → ((child : ℕ) → Contains node.children child → serial_at new child ≡ serial_at old child)
+    → as_transform new node ≡ as_transform old node
+transform-same old new node same = ap (λ (children : List ℕ). record (as_transform old node) { children = children })
+    (map-same (serial_at new) (serial_at old) node.children same)
 
 -- ---- nodes dropped
 
@@ -59,14 +62,16 @@ module _ (P : ℕ → Type 0) (graph : GraphState) (nodes : List (Option GraphNo
   stands-fewer draft s = record {
     sound = sound-fewer s.sound;
     made = s.made;
-    names = λ id. option_map-same (serial_at (record graph { nodes = nodes })) (serial_at graph) (key_named graph.names id) (λ key e. serial-same key (leaves.names id key e)) ∙ s.names id;
+    names = λ id. option_map-same (serial_at (record graph { nodes = nodes })) (serial_at graph) (key_named graph.names id)
+        (λ key e. serial-same key (leaves.names id key e)) ∙ s.names id;
     count = s.count;
     once = s.once;
     root = option_map-same (serial_at (record graph { nodes = nodes })) (serial_at graph) graph.root (λ key e. serial-same key (leaves.root key e)) ∙ s.root;
     nodes = λ key node e.
         let was = was-there key node e in
         s.nodes key node was.1
-        ∙ ap Some (sym (transform-same graph (record graph { nodes = nodes }) node (λ child has. serial-same child (leaves.children key node was.1 was.0 child has))));
+        ∙ ap Some (sym (transform-same graph (record graph { nodes = nodes }) node
+        (λ child has. serial-same child (leaves.children key node was.1 was.0 child has))));
     apart = λ key other node node' e e'. s.apart key other node node' (was-there key node e).1 (was-there other node' e').1;
     contents = λ key node held e. s.contents key node held (was-there key node e).1;
   }
@@ -74,7 +79,8 @@ module _ (P : ℕ → Type 0) (graph : GraphState) (nodes : List (Option GraphNo
 -- ---- marked nodes
 
 -- where a key is marked, its node is there as before; where not, there is none
-pub node-marked : (marks : List Bool) (nodes : List (Option GraphNode)) (k : ℕ) → slice_index_or (marked_nodes marks nodes) k None ≡ cond (slice_index_or marks k false) (slice_index_or nodes k None) None
+pub node-marked : (marks : List Bool) (nodes : List (Option GraphNode)) (k : ℕ)
+    → slice_index_or (marked_nodes marks nodes) k None ≡ cond (slice_index_or marks k false) (slice_index_or nodes k None) None
 node-marked [] [] k = refl
 node-marked (mark ∷ marks) [] k = by_mark (slice_index_or (mark ∷ marks) k false)
   where

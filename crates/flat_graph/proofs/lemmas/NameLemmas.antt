@@ -1,5 +1,6 @@
 -- Names by rising id: how they are found, added and taken away.
-use Rattle.std.proofs.Common.{ℕ, zero, suc, ◌+◌, ◌<◌, ◌≤◌, ◌≡◌, ◌≢◌, refl, sym, ap, Bool, true, false, cond, not, List, [], ◌∷◌, length, Option, Some, None, IsSome, arith}
+use Rattle.std.proofs.Common.{ℕ, zero, suc, ◌+◌, ◌<◌, ◌≤◌, ◌≡◌, ◌≢◌, refl, sym, ap, Bool, true, false, cond, not, List, [], ◌∷◌, length, Option, Some, None}
+use Rattle.std.proofs.Common.{IsSome, arith}
 use Rattle.std.specs.Prelude.{◌==◌, nat_lt, is_some}
 use Rattle.std.specs.List.{slice_get, slice_index_or, insert, remove}
 use Rattle.std.specs.List.Sorted.{IsPartitionedBy, IsPartitionPoint}
@@ -156,7 +157,8 @@ named-place id (m ∷ ms) zero rising here = by_test (m.id == id) refl
     by_test false e = above-none m.id id ms here rising.0
 named-place id (m ∷ ms) (suc place) rising here = by_test (m.id == id) refl (named-place id ms place rising.1 here.1)
   where
-    by_test : (c : Bool) → (m.id == id) ≡ c → key_named ms id ≡ key_if id (slice_get ms place) → cond c (Some m.key) (key_named ms id) ≡ key_if id (slice_get ms place)
+    by_test : (c : Bool) → (m.id == id) ≡ c → key_named ms id ≡ key_if id (slice_get ms place)
+        → cond c (Some m.key) (key_named ms id) ≡ key_if id (slice_get ms place)
     by_test true e more =
         let less : m.id < id = here.0 in
         let same : m.id ≡ id = grind (arith, nat_tests) in
@@ -181,7 +183,8 @@ place-within id [] place here = omega (arith, here)
 place-within id (m ∷ ms) zero here = omega arith
 place-within id (m ∷ ms) (suc place) here = let next : place ≤ length ms = place-within id ms place here.1 in omega (arith, next)
 
-pub insert-with : (n : Named) (names : List Named) (place : ℕ) → IsPlace n.id names place → key_named names n.id ≡ None → insert names place n ≡ names_with n names
+pub insert-with : (n : Named) (names : List Named) (place : ℕ) → IsPlace n.id names place → key_named names n.id ≡ None
+    → insert names place n ≡ names_with n names
 insert-with n [] zero here none = refl
 insert-with n [] (suc place) here none = absurd (omega (arith, here))
 insert-with n (m ∷ ms) zero here none = by_order (nat_lt n.id m.id) refl (not-first n.id m ms none)
@@ -202,7 +205,8 @@ insert-with n (m ∷ ms) (suc place) here none = by_order (nat_lt n.id m.id) ref
         absurd (omega arith)
     by_order false e more = ap (λ (rest : List Named). m ∷ rest) more
 
-pub remove-but : (id : ℕ) (names : List Named) (place : ℕ) → IsRising names → IsPlace id names place → IsSome (key_named names id) → remove names place ≡ names_but id names
+pub remove-but : (id : ℕ) (names : List Named) (place : ℕ) → IsRising names → IsPlace id names place → IsSome (key_named names id)
+    → remove names place ≡ names_but id names
 remove-but id [] place rising here some = absurd (cc)
 remove-but id (m ∷ ms) zero rising here some = by_test (m.id == id) refl some
   where
@@ -238,7 +242,8 @@ rising-parts id (m ∷ ms) rising = by_places (rising-parts id ms rising.1)
     first : (k : ℕ) (d : Named) → k < length ms → nat_lt (slice_index_or ms k d).id id ≡ true → nat_lt m.id id ≡ true
     first k d within low = let less : m.id < (slice_index_or ms k d).id = below-at m.id ms k d rising.0 within in grind (arith, nat_tests)
 
-    by_places : IsPartitionedBy (λ (name : Named). nat_lt name.id id) ms → (i j : ℕ) (d : Named) → i ≤ j → j < length (m ∷ ms) → nat_lt (slice_index_or (m ∷ ms) j d).id id ≡ true → nat_lt (slice_index_or (m ∷ ms) i d).id id ≡ true
+    by_places : IsPartitionedBy (λ (name : Named). nat_lt name.id id) ms → (i j : ℕ) (d : Named) → i ≤ j → j < length (m ∷ ms)
+        → nat_lt (slice_index_or (m ∷ ms) j d).id id ≡ true → nat_lt (slice_index_or (m ∷ ms) i d).id id ≡ true
     by_places later zero zero d less within low = low
     by_places later zero (suc j) d less within low = first j d (omega arith) low
     by_places later (suc i) zero d less within low = absurd (omega arith)
@@ -249,5 +254,8 @@ pub place-from : (id : ℕ) (names : List Named) (place : ℕ) → place ≤ len
 place-from id [] place within parts = omega arith
 place-from id (m ∷ ms) zero within parts = let high : nat_lt m.id id ≡ false = parts.1 0 m (omega arith) (omega arith) in grind (arith, nat_tests)
 place-from id (m ∷ ms) (suc place) within parts =
-    let low : nat_lt m.id id ≡ true = parts.0 0 m (omega arith) (omega arith) in
-    (grind (arith, nat_tests), place-from id ms place (omega arith) (λ k d a b. parts.0 (suc k) d (omega arith) (omega arith), λ k d a b. parts.1 (suc k) d (omega arith) (omega arith)))
+    let low : nat_lt m.id id ≡ true = parts.0 0 m (omega arith) (omega arith) in (
+      grind (arith, nat_tests),
+      place-from id ms place (omega arith)
+          (λ k d a b. parts.0 (suc k) d (omega arith) (omega arith), λ k d a b. parts.1 (suc k) d (omega arith) (omega arith)),
+    )

@@ -1,5 +1,6 @@
 -- All calls together: each has the draft's reason, and keeps what the graph stands for.
-use Rattle.std.proofs.Common.{ℕ, ◌≡◌, ◌≢◌, ◌⊎◌, inl, inr, refl, sym, ◌∙◌, ap, subst, Bool, true, false, cond, not, List, [], ◌∷◌, ◌++◌, length, Option, Some, None, IsSome}
+use Rattle.std.proofs.Common.{ℕ, ◌≡◌, ◌≢◌, ◌⊎◌, inl, inr, refl, sym, ◌∙◌, ap, subst, Bool, true, false, cond, not, List, [], ◌∷◌, ◌++◌, length, Option, Some}
+use Rattle.std.proofs.Common.{None, IsSome}
 use Rattle.std.specs.Prelude.{◌==◌, is_some}
 use Rattle.std.specs.Option.{option_map}
 use Rattle.std.specs.List.{Contains}
@@ -8,11 +9,17 @@ use Rattle.std.proofs.lemmas.Bool.Decides.{eqb_tells}
 use Rattle.flat_base.specs.declared.ids.TransformId.{TransformId}
 use Rattle.flat_base.specs.declared.ids.ContentId.{ContentId}
 use Rattle.flat_base.specs.declared.errors.Reason.{Reason}
-use Rattle.flat_scene.specs.declared.calls.Call.TheVariants.{CreateView, ReleaseView, CreateTransform, ReleaseTransform, SetTranslation, SetOrientation, SetScale, SetOpacity, SetClipBoundary, AddChild, RemoveChild, ReplaceChildren, SetRootTransform, CreateViewport, SetViewportProperties, ReleaseViewport, CreateImage, SetImageSampleRegion, SetImageDestinationSize, SetImageBlendingFunction, SetImageFlip, SetImageOpacity, ReleaseImage, CreateFilledRect, SetSolidFill, ReleaseFilledRect, SetHitRegions, SetInfiniteHitRegion, SetContent, Clear}
+use Rattle.flat_scene.specs.declared.calls.Call.TheVariants.{CreateView, ReleaseView, CreateTransform, ReleaseTransform, SetTranslation, SetOrientation}
+use Rattle.flat_scene.specs.declared.calls.Call.TheVariants.{SetScale, SetOpacity, SetClipBoundary, AddChild, RemoveChild, ReplaceChildren, SetRootTransform}
+use Rattle.flat_scene.specs.declared.calls.Call.TheVariants.{CreateViewport, SetViewportProperties, ReleaseViewport, CreateImage, SetImageSampleRegion}
+use Rattle.flat_scene.specs.declared.calls.Call.TheVariants.{SetImageDestinationSize, SetImageBlendingFunction, SetImageFlip, SetImageOpacity, ReleaseImage}
+use Rattle.flat_scene.specs.declared.calls.Call.TheVariants.{CreateFilledRect, SetSolidFill, ReleaseFilledRect, SetHitRegions, SetInfiniteHitRegion, SetContent}
+use Rattle.flat_scene.specs.declared.calls.Call.TheVariants.{Clear}
 use Rattle.flat_scene.specs.declared.calls.ViewportProps.{ViewportProps}
 use Rattle.flat_scene.specs.declared.setup.Setup.{Setup}
 use Rattle.flat_scene.specs.declared.trees.Held.{Held}
-use Rattle.flat_scene.specs.Draft.{Draft, named, Transform, Image, Solid, Made, an_image, a_fill, a_viewport, Name, of_serial, changed_at, content_of, transform_of}
+use Rattle.flat_scene.specs.Draft.{Draft, named, Transform, Image, Solid, Made, an_image, a_fill, a_viewport, Name, of_serial, changed_at, content_of}
+use Rattle.flat_scene.specs.Draft.{transform_of}
 use Rattle.flat_scene.specs.Effect as effect
 use Rattle.flat_scene.specs.Effect.{effect, with_transform, changed_if, on_image, on_viewport, on_fill}
 use Rattle.flat_scene.specs.Misuse.{is_viewport}
@@ -37,7 +44,8 @@ no-reason false false r r' rest e = (refl, refl)
 module _ (setup : Setup) (graph : GraphState) (draft : Draft) (s : StandsFor graph draft) where
   -- a change of a node that keeps its serial, its children and its content
   set : (t : TransformId) (change : GraphNode → GraphNode) (f : Transform → Transform)
-      → ((node : GraphNode) → (change node).serial ≡ node.serial) → ((node : GraphNode) → (change node).children ≡ node.children) → ((node : GraphNode) → (change node).content ≡ node.content)
+      → ((node : GraphNode) → (change node).serial ≡ node.serial) → ((node : GraphNode) → (change node).children ≡ node.children)
+      → ((node : GraphNode) → (change node).content ≡ node.content)
       → ((node : GraphNode) → f (as_transform graph node) ≡ as_transform graph (change node))
       → StandsFor (change_named graph t.0 change) (with_transform draft t f)
   set t change f serial children content same =
@@ -57,7 +65,8 @@ module _ (setup : Setup) (graph : GraphState) (draft : Draft) (s : StandsFor gra
       stands-change graph draft p (with_child (key_named graph.names k.0)) _ s
       (λ key node e there. by_child key node there (key_named graph.names k.0) (s.sound.names_kept k.0) (s.names k.0))
     where
-      by_child : (key : ℕ) (node : GraphNode) → node_at graph key ≡ Some node → (x : Option ℕ) → ((c : ℕ) → x ≡ Some c → IsKept graph.nodes c) → option_map (serial_at graph) x ≡ transform_of draft k
+      by_child : (key : ℕ) (node : GraphNode) → node_at graph key ≡ Some node → (x : Option ℕ) → ((c : ℕ) → x ≡ Some c → IsKept graph.nodes c)
+          → option_map (serial_at graph) x ≡ transform_of draft k
           → Changes graph draft node (with_child x node) (effect.with_child (transform_of draft k))
       by_child key node there x kept same = record {
         serial = serial x;
@@ -70,7 +79,8 @@ module _ (setup : Setup) (graph : GraphState) (draft : Draft) (s : StandsFor gra
           serial None = refl
           serial (Some c) = refl
 
-          children : (y : Option ℕ) → ((c : ℕ) → y ≡ Some c → IsKept graph.nodes c) → (child : ℕ) → Contains (with_child y node).children child → IsKept graph.nodes child
+          children : (y : Option ℕ) → ((c : ℕ) → y ≡ Some c → IsKept graph.nodes c) → (child : ℕ) → Contains (with_child y node).children child
+              → IsKept graph.nodes child
           children None kept' child has = s.sound.children_kept key node there child has
           children (Some c) kept' child has = kept-push graph.nodes node.children c (s.sound.children_kept key node there) (kept' c refl) child has
 
@@ -83,13 +93,15 @@ module _ (setup : Setup) (graph : GraphState) (draft : Draft) (s : StandsFor gra
       stands-change graph draft p (without_child (key_named graph.names k.0)) _ s
       (λ key node e there. by_child key node there (key_named graph.names k.0) (s.sound.names_kept k.0) (s.names k.0))
     where
-      by_child : (key : ℕ) (node : GraphNode) → node_at graph key ≡ Some node → (x : Option ℕ) → ((c : ℕ) → x ≡ Some c → IsKept graph.nodes c) → option_map (serial_at graph) x ≡ transform_of draft k
+      by_child : (key : ℕ) (node : GraphNode) → node_at graph key ≡ Some node → (x : Option ℕ) → ((c : ℕ) → x ≡ Some c → IsKept graph.nodes c)
+          → option_map (serial_at graph) x ≡ transform_of draft k
           → Changes graph draft node (without_child x node) (effect.without_child (transform_of draft k))
       by_child key node there x kept same = record {
         serial = serial x;
         children = children x;
         contents = λ held e. s.contents key node held there (content x held e);
-        same = ap (λ (y : Option ℕ). effect.without_child y (as_transform graph node)) (sym same) ∙ as-without_child graph draft s node (s.sound.children_kept key node there) x kept;
+        same = ap (λ (y : Option ℕ). effect.without_child y (as_transform graph node)) (sym same)
+            ∙ as-without_child graph draft s node (s.sound.children_kept key node there) x kept;
       }
         where
           serial : (y : Option ℕ) → (without_child y node).serial ≡ node.serial
@@ -104,7 +116,8 @@ module _ (setup : Setup) (graph : GraphState) (draft : Draft) (s : StandsFor gra
           content None held e = e
           content (Some c) held e = e
 
-  with-children : (p : TransformId) (ks : List TransformId) → StandsFor (change_named graph p.0 (with_children (keys_named graph.names ks))) (effect draft (ReplaceChildren p ks))
+  with-children : (p : TransformId) (ks : List TransformId)
+      → StandsFor (change_named graph p.0 (with_children (keys_named graph.names ks))) (effect draft (ReplaceChildren p ks))
   with-children p ks =
       stands-change graph draft p (with_children (keys_named graph.names ks)) _ s
       (λ key node e there. record {
@@ -142,14 +155,35 @@ graph_calls_stand setup graph draft s = record {
     stands = with-children setup graph draft s p ks;
   };
   set_root = λ t. record { reason = rw (none-same graph draft s t) refl; stands = stands-rooted graph draft s t };
-  set_translation = λ t x y. record { reason = rw (none-same graph draft s t) refl; stands = set setup graph draft s t _ _ (λ node. refl) (λ node. refl) (λ node. refl) (λ node. refl) };
-  set_orientation = λ t o. record { reason = rw (none-same graph draft s t) refl; stands = set setup graph draft s t _ _ (λ node. refl) (λ node. refl) (λ node. refl) (λ node. refl) };
-  set_scale = λ t x y. record { reason = rw (none-same graph draft s t) refl; stands = set setup graph draft s t _ _ (λ node. refl) (λ node. refl) (λ node. refl) (λ node. refl) };
-  set_opacity = λ t v. record { reason = rw (none-same graph draft s t) refl; stands = set setup graph draft s t _ _ (λ node. refl) (λ node. refl) (λ node. refl) (λ node. refl) };
-  set_clip = λ t clip. record { reason = rw (none-same graph draft s t) refl; stands = set setup graph draft s t _ _ (λ node. refl) (λ node. refl) (λ node. refl) (λ node. refl) };
-  set_hits = λ t regions. record { reason = rw (none-same graph draft s t) refl; stands = set setup graph draft s t _ _ (λ node. refl) (λ node. refl) (λ node. refl) (λ node. refl) };
+  set_translation = λ t x y. record {
+    reason = rw (none-same graph draft s t) refl;
+    stands = set setup graph draft s t _ _ (λ node. refl) (λ node. refl) (λ node. refl) (λ node. refl);
+  };
+  set_orientation = λ t o. record {
+    reason = rw (none-same graph draft s t) refl;
+    stands = set setup graph draft s t _ _ (λ node. refl) (λ node. refl) (λ node. refl) (λ node. refl);
+  };
+  set_scale = λ t x y. record {
+    reason = rw (none-same graph draft s t) refl;
+    stands = set setup graph draft s t _ _ (λ node. refl) (λ node. refl) (λ node. refl) (λ node. refl);
+  };
+  set_opacity = λ t v. record {
+    reason = rw (none-same graph draft s t) refl;
+    stands = set setup graph draft s t _ _ (λ node. refl) (λ node. refl) (λ node. refl) (λ node. refl);
+  };
+  set_clip = λ t clip. record {
+    reason = rw (none-same graph draft s t) refl;
+    stands = set setup graph draft s t _ _ (λ node. refl) (λ node. refl) (λ node. refl) (λ node. refl);
+  };
+  set_hits = λ t regions. record {
+    reason = rw (none-same graph draft s t) refl;
+    stands = set setup graph draft s t _ _ (λ node. refl) (λ node. refl) (λ node. refl) (λ node. refl);
+  };
   set_infinite = λ t i regions one. rw one
-      (record { reason = rw (none-same graph draft s t) refl; stands = set setup graph draft s t _ _ (λ node. refl) (λ node. refl) (λ node. refl) (λ node. refl) });
+      (record {
+        reason = rw (none-same graph draft s t) refl;
+        stands = set setup graph draft s t _ _ (λ node. refl) (λ node. refl) (λ node. refl) (λ node. refl);
+      });
   set_content = λ t c held given. record { reason = rw (none-same graph draft s t) refl; stands = giving setup graph draft s t c held given };
   drop_content = stands-dropped graph draft s;
   clear = stands-emptied graph draft s;
@@ -163,7 +197,8 @@ abbrev KeepsHeld : List Made → List Made → Type 0
 KeepsHeld contents contents' = (held : Held) → IsHeld contents held → IsHeld contents' held
 
 -- a draft with the same transforms, in which what is held stays
-stands-other : (graph : GraphState) (draft draft' : Draft) → StandsFor graph draft → draft'.transforms ≡ draft.transforms → draft'.transform_names ≡ draft.transform_names → draft'.root ≡ draft.root
+stands-other : (graph : GraphState) (draft draft' : Draft) → StandsFor graph draft → draft'.transforms ≡ draft.transforms
+    → draft'.transform_names ≡ draft.transform_names → draft'.root ≡ draft.root
     → KeepsHeld draft.contents draft'.contents → StandsFor graph draft'
 stands-other graph draft draft' s transforms names root keeps = record {
   sound = s.sound;
@@ -177,7 +212,9 @@ stands-other graph draft draft' s transforms names root keeps = record {
   contents = λ key node held e h. keeps held (s.contents key node held e h);
 }
 
-by-made : (contents contents' : List Made) (held : Held) → ((made : Made) → of_serial contents held.serial ≡ Some made → (made' : Made) × (of_serial contents' held.serial ≡ Some made') × (is_viewport (Some made') ≡ is_viewport (Some made)))
+by-made : (contents contents' : List Made) (held : Held)
+    → ((made : Made) → of_serial contents held.serial ≡ Some made
+    → (made' : Made) × (of_serial contents' held.serial ≡ Some made') × (is_viewport (Some made') ≡ is_viewport (Some made)))
     → IsHeld contents held → IsHeld contents' held
 by-made contents contents' held keeps is = by_made (of_serial contents held.serial) refl is.made is.sort
   where
@@ -190,11 +227,14 @@ by-made contents contents' held keeps is = by_made (of_serial contents held.seri
 held-append : (contents : List Made) (made : Made) → KeepsHeld contents (contents ++ made ∷ [])
 held-append contents made held = by-made contents (contents ++ made ∷ []) held (λ it e. (it, of_serial-append contents made it held.serial e, refl))
 
-held-changed : (x : Option ℕ) (f : Made → Made) (contents : List Made) → ((made : Made) → is_viewport (Some (f made)) ≡ is_viewport (Some made)) → KeepsHeld contents (changed_if x f contents)
+held-changed : (x : Option ℕ) (f : Made → Made) (contents : List Made) → ((made : Made) → is_viewport (Some (f made)) ≡ is_viewport (Some made))
+    → KeepsHeld contents (changed_if x f contents)
 held-changed None f contents sort held = λ is. is
-held-changed (Some serial) f contents sort held = by-made contents (changed_at serial f contents) held (λ made e. by_serial made e (eqb_tells serial held.serial))
+held-changed (Some serial) f contents sort held = by-made contents (changed_at serial f contents) held
+    (λ made e. by_serial made e (eqb_tells serial held.serial))
   where
-    by_serial : (made : Made) → of_serial contents held.serial ≡ Some made → ((◌≡◌ (serial == held.serial) true) × (serial ≡ held.serial)) ⊎ ((◌≡◌ (serial == held.serial) false) × (serial ≢ held.serial))
+    by_serial : (made : Made) → of_serial contents held.serial ≡ Some made
+        → ((◌≡◌ (serial == held.serial) true) × (serial ≡ held.serial)) ⊎ ((◌≡◌ (serial == held.serial) false) × (serial ≢ held.serial))
         → (made' : Made) × (of_serial (changed_at serial f contents) held.serial ≡ Some made') × (is_viewport (Some made') ≡ is_viewport (Some made))
     by_serial made e (inl same) =
         (f made, ap (λ (n : ℕ). of_serial (changed_at n f contents) held.serial) same.1 ∙ changed-same held.serial f contents made e, sort made)
@@ -230,17 +270,24 @@ other_calls_stand graph draft (RemoveChild p k) other s = absurd (cc)
 other_calls_stand graph draft (ReplaceChildren p ks) other s = absurd (cc)
 other_calls_stand graph draft (SetRootTransform t) other s = absurd (cc)
 other_calls_stand graph draft (CreateViewport c pair w h inset) other s = stands-other graph draft _ s refl refl refl (held-append draft.contents _)
-other_calls_stand graph draft (SetViewportProperties c w h inset) other s = stands-other graph draft _ s refl refl refl (held-changed (content_of draft c) _ draft.contents (viewport-sort _))
+other_calls_stand graph draft (SetViewportProperties c w h inset) other s =
+    stands-other graph draft _ s refl refl refl (held-changed (content_of draft c) _ draft.contents (viewport-sort _))
 other_calls_stand graph draft (ReleaseViewport c) other s = absurd (cc)
 other_calls_stand graph draft (CreateImage c buffers i w h) other s = stands-other graph draft _ s refl refl refl (held-append draft.contents _)
-other_calls_stand graph draft (SetImageSampleRegion c rect) other s = stands-other graph draft _ s refl refl refl (held-changed (content_of draft c) _ draft.contents (image-sort _))
-other_calls_stand graph draft (SetImageDestinationSize c w h) other s = stands-other graph draft _ s refl refl refl (held-changed (content_of draft c) _ draft.contents (image-sort _))
-other_calls_stand graph draft (SetImageBlendingFunction c m) other s = stands-other graph draft _ s refl refl refl (held-changed (content_of draft c) _ draft.contents (image-sort _))
-other_calls_stand graph draft (SetImageFlip c f) other s = stands-other graph draft _ s refl refl refl (held-changed (content_of draft c) _ draft.contents (image-sort _))
-other_calls_stand graph draft (SetImageOpacity c v) other s = stands-other graph draft _ s refl refl refl (held-changed (content_of draft c) _ draft.contents (image-sort _))
+other_calls_stand graph draft (SetImageSampleRegion c rect) other s =
+    stands-other graph draft _ s refl refl refl (held-changed (content_of draft c) _ draft.contents (image-sort _))
+other_calls_stand graph draft (SetImageDestinationSize c w h) other s =
+    stands-other graph draft _ s refl refl refl (held-changed (content_of draft c) _ draft.contents (image-sort _))
+other_calls_stand graph draft (SetImageBlendingFunction c m) other s =
+    stands-other graph draft _ s refl refl refl (held-changed (content_of draft c) _ draft.contents (image-sort _))
+other_calls_stand graph draft (SetImageFlip c f) other s =
+    stands-other graph draft _ s refl refl refl (held-changed (content_of draft c) _ draft.contents (image-sort _))
+other_calls_stand graph draft (SetImageOpacity c v) other s =
+    stands-other graph draft _ s refl refl refl (held-changed (content_of draft c) _ draft.contents (image-sort _))
 other_calls_stand graph draft (ReleaseImage c) other s = stands-other graph draft _ s refl refl refl (λ held is. is)
 other_calls_stand graph draft (CreateFilledRect c) other s = stands-other graph draft _ s refl refl refl (held-append draft.contents _)
-other_calls_stand graph draft (SetSolidFill c r g b a w h) other s = stands-other graph draft _ s refl refl refl (held-changed (content_of draft c) _ draft.contents (fill-sort _))
+other_calls_stand graph draft (SetSolidFill c r g b a w h) other s =
+    stands-other graph draft _ s refl refl refl (held-changed (content_of draft c) _ draft.contents (fill-sort _))
 other_calls_stand graph draft (ReleaseFilledRect c) other s = stands-other graph draft _ s refl refl refl (λ held is. is)
 other_calls_stand graph draft (SetHitRegions t regions) other s = absurd (cc)
 other_calls_stand graph draft (SetInfiniteHitRegion t i) other s = absurd (cc)

@@ -51,7 +51,8 @@ shut-stays s h e shut = by_owner (is_session s e.actor)
     by_owner true = or_right (closes e.reply) _ shut
     by_owner false = shut
 
-pub shut-presents : (setup : Setup) (s : SessionNo) (h : List Entry) (e : Entry) → Legal setup (h ▹ e) → is_session s e.actor ≡ true → is_closed s h ≡ true → presents s (h ▹ e) ≡ presents s h
+pub shut-presents : (setup : Setup) (s : SessionNo) (h : List Entry) (e : Entry) → Legal setup (h ▹ e) → is_session s e.actor ≡ true → is_closed s h ≡ true
+    → presents s (h ▹ e) ≡ presents s h
 shut-presents setup s h e legal mine shut =
     let lasts : goes_on h e.kind (Session s) ≡ true = ap (goes_on h e.kind) (sym (same-session s e.actor mine)) ∙ legal.1.may.lasts in
     let ends : is_end e.kind ≡ true = an-end _ (is_end e.kind) (is_closed s h) lasts shut in
@@ -70,7 +71,8 @@ module _ (setup : Setup) (h : List Entry) (e : Entry) (legal : Legal setup (h �
             opened = λ o. let wrong : true ≡ false = sym (shut-stays s h e (shut s mine)) ∙ o in cc;
           }
 
-  pub idle-serial : (p : PairNo) → (uses_viewport p e.kind && is_done e.reply) ≡ false → (v : SessionNo) → viewport_owner setup p ≡ Some (Session v) → (kept : ℕ) → IsSerialKept p v h kept → IsSerialKept p v (h ▹ e) kept
+  pub idle-serial : (p : PairNo) → (uses_viewport p e.kind && is_done e.reply) ≡ false → (v : SessionNo) → viewport_owner setup p ≡ Some (Session v)
+      → (kept : ℕ) → IsSerialKept p v h kept → IsSerialKept p v (h ▹ e) kept
   idle-serial p no_use v owner kept old = record { serial = old.serial; is = old.is; tells = by_actor (is_session v e.actor) refl }
     where
       by_actor : (b : Bool) → is_session v e.actor ≡ b → IsUseSerial p v (h ▹ e) old.serial
@@ -79,7 +81,8 @@ module _ (setup : Setup) (h : List Entry) (e : Entry) (legal : Legal setup (h �
           let same : length (viewport_uses p (h ▹ e)) ≡ length (viewport_uses p h) = rw no_use refl in
           let P : List Published → ℕ → Type 0 = λ ps u. (k : ℕ) → k ≤ length ps → Has p u old.serial (made_at ps k) in
           record {
-            tells = subst (λ (u : ℕ). P (presents v (h ▹ e)) u) (sym same) (subst (λ (ps : List Published). P ps (length (viewport_uses p h))) (sym (shut-presents setup v h e legal mine (shut v mine))) old.tells.tells);
+            tells = subst (λ (u : ℕ). P (presents v (h ▹ e)) u) (sym same)
+                (subst (λ (ps : List Published). P ps (length (viewport_uses p h))) (sym (shut-presents setup v h e legal mine (shut v mine))) old.tells.tells);
             opened = λ o. let wrong : true ≡ false = sym (shut-stays v h e (shut v mine)) ∙ o in cc;
           }
 
@@ -90,9 +93,12 @@ module _ (setup : Setup) (h : List Entry) (e : Entry) (legal : Legal setup (h �
       → ((v : SessionNo) → viewport_owner setup p ≡ Some (Session v) → new.pending ≡ props_pending setup p (length (viewport_uses p h)) v (h ▹ e))
       → IsPairKept setup h p state → IsPairKept setup (h ▹ e) p new
   pair-still p no_use state new ended cleared serial given seen pending kept = record {
-    ended = λ w owner. subst (IsStamp (happens setup (ends_view p)) w (h ▹ e)) (sym ended) (idle-stamp (happens setup (ends_view p)) (happening-lasts setup (ends_view p)) w state.ended (kept.ended w owner));
-    cleared = λ v owner. subst (IsStamp (happens setup (clears_viewport p)) v (h ▹ e)) (sym cleared) (idle-stamp (happens setup (clears_viewport p)) (happening-lasts setup (clears_viewport p)) v state.cleared (kept.cleared v owner));
-    serial = λ v owner some. subst (IsSerialKept p v (h ▹ e)) (sym serial) (idle-serial p no_use v owner state.serial (kept.serial v owner (subst (λ (us : List Entry). 0 < length us) same some)));
+    ended = λ w owner. subst (IsStamp (happens setup (ends_view p)) w (h ▹ e)) (sym ended)
+        (idle-stamp (happens setup (ends_view p)) (happening-lasts setup (ends_view p)) w state.ended (kept.ended w owner));
+    cleared = λ v owner. subst (IsStamp (happens setup (clears_viewport p)) v (h ▹ e)) (sym cleared)
+        (idle-stamp (happens setup (clears_viewport p)) (happening-lasts setup (clears_viewport p)) v state.cleared (kept.cleared v owner));
+    serial = λ v owner some. subst (IsSerialKept p v (h ▹ e)) (sym serial)
+        (idle-serial p no_use v owner state.serial (kept.serial v owner (subst (λ (us : List Entry). 0 < length us) same some)));
     unused = λ none. serial ∙ kept.unused (ap (length {A = Entry}) (sym same) ∙ none);
     given = given ∙ kept.given ∙ ap (props_given setup) (sym same);
     seen = λ v owner. seen v owner ∙ ap (λ (us : List Entry). props_seen setup p (length us) v (h ▹ e)) (sym same);
@@ -103,7 +109,8 @@ module _ (setup : Setup) (h : List Entry) (e : Entry) (legal : Legal setup (h �
       same = rw no_use refl
 
   -- an entry of no frame
-  pub pair-idle : (p : PairNo) → (uses_viewport p e.kind && is_done e.reply) ≡ false → is_begin e.kind ≡ false → is_finish e.kind ≡ false → (state : PairState) → IsPairKept setup h p state → IsPairKept setup (h ▹ e) p state
+  pub pair-idle : (p : PairNo) → (uses_viewport p e.kind && is_done e.reply) ≡ false → is_begin e.kind ≡ false → is_finish e.kind ≡ false → (state : PairState)
+      → IsPairKept setup h p state → IsPairKept setup (h ▹ e) p state
   pair-idle p no_use no_begin no_finish state kept =
       pair-still p no_use state state refl refl refl refl (λ v owner. kept.seen v owner ∙ sym (rw no_finish refl))
       (λ v owner. kept.pending v owner ∙ sym (pending-step setup p (length (viewport_uses p h)) v h e no_begin no_finish)) kept

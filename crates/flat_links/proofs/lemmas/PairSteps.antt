@@ -57,7 +57,8 @@ no-finish setup s h e legal mine = not-finish e.kind (session-may setup s h e le
 
 any-first : (xs : List Call) → list_any is_link xs ≡ false → AreTame xs
 any-first [] none = refl
-any-first (x ∷ xs) none = by_length (length xs == 0) (any-first xs (or_parts (is_link x) (list_any is_link xs) none).1) (or_parts (is_link x) (list_any is_link xs) none).0
+any-first (x ∷ xs) none = by_length (length xs == 0) (any-first xs (or_parts (is_link x) (list_any is_link xs) none).1)
+    (or_parts (is_link x) (list_any is_link xs) none).0
   where
     by_length : (b : Bool) → AreTame xs → is_link x ≡ false → list_any is_link (cond b [] (x ∷ all_but_last xs)) ≡ false
     by_length true rest this = refl
@@ -82,7 +83,8 @@ owner-owns setup v p owner = let same : (v.0 == v.0) ≡ true = grind (arith, na
 
 -- ---- stamps
 
-module _ (setup : Setup) (s : SessionNo) (h : List Entry) (e : Entry) (carries : List Call) (account : Account) (live : List Live) (entry : IsOwnEntry setup h e s carries account live) (p : PairNo) where
+module _ (setup : Setup) (s : SessionNo) (h : List Entry) (e : Entry) (carries : List Call) (account : Account) (live : List Live)
+    (entry : IsOwnEntry setup h e s carries account live) (p : PairNo) where
   all-owned : list_all (owns_in_call setup s) (calls s h) && list_all (owns_in_call setup s) e.calls ≡ true
   all-owned = sym (list_all-append (owns_in_call setup s) (calls s h) e.calls) ∙ all-calls-owned setup h e entry.legal s entry.mine
 
@@ -93,7 +95,8 @@ module _ (setup : Setup) (s : SessionNo) (h : List Entry) (e : Entry) (carries :
   owned-now = and-right (list_all (owns_in_call setup s) (calls s h)) _ all-owned
 
   -- its calls end no view and clear no viewport of a pair whose end another session owns
-  pub ends-elsewhere : (view : Option PairNo) → view ≡ view_after None (calls s h) → (w : SessionNo) → view_owner setup p ≡ Some w → is_session w e.actor ≡ false → ends_of p view carries ≡ 0
+  pub ends-elsewhere : (view : Option PairNo) → view ≡ view_after None (calls s h) → (w : SessionNo) → view_owner setup p ≡ Some w
+      → is_session w e.actor ≡ false → ends_of p view carries ≡ 0
   ends-elsewhere view is w owner other =
       let foreign : owns_view setup s p ≡ false = rw owner (another s w e.actor entry.mine other) in
       let before = foreign-view setup s p foreign None (calls s h) refl owned-before in
@@ -113,43 +116,55 @@ module _ (setup : Setup) (s : SessionNo) (h : List Entry) (e : Entry) (carries :
       let elsewhere : list_any (λ (l : Live). l.pair.0 == p.0) live ≡ false = ap (list_any (λ (l : Live). l.pair.0 == p.0)) entry.living ∙ before.after in
       counts ∙ ap (nat_lt 0) ((foreign-live setup s p foreign live e.calls elsewhere owned-now).clears)
 
-  pub ended-own : (view : Option PairNo) → view ≡ view_after None (calls s h) → (w : SessionNo) → view_owner setup p ≡ Some w → (stamp : Option ℕ) → IsStamp (happens setup (ends_view p)) w h stamp
+  pub ended-own : (view : Option PairNo) → view ≡ view_after None (calls s h) → (w : SessionNo) → view_owner setup p ≡ Some w → (stamp : Option ℕ)
+      → IsStamp (happens setup (ends_view p)) w h stamp
       → IsStamp (happens setup (ends_view p)) w (h ▹ e) (stamp_then stamp (nat_lt 0 (ends_of p view carries)) account.presents)
   ended-own view is w owner stamp old = by_actor (is_session w e.actor) refl
     where
       next : SessionNo → ℕ → ℕ → Type 0
       next t n k = IsStamp (happens setup (ends_view p)) t (h ▹ e) (stamp_then stamp (nat_lt 0 n) k)
 
-      by_actor : (b : Bool) → is_session w e.actor ≡ b → IsStamp (happens setup (ends_view p)) w (h ▹ e) (stamp_then stamp (nat_lt 0 (ends_of p view carries)) account.presents)
+      by_actor : (b : Bool) → is_session w e.actor ≡ b → IsStamp (happens setup (ends_view p)) w (h ▹ e)
+          (stamp_then stamp (nat_lt 0 (ends_of p view carries)) account.presents)
       by_actor true theirs =
           let same : w ≡ s = one-session s w e.actor entry.mine theirs in
           let was : IsStamp (happens setup (ends_view p)) s h stamp = subst (λ (t : SessionNo). IsStamp (happens setup (ends_view p)) t h stamp) same old in
           let now = view-stamp setup s h e entry.legal entry.mine entry.opened p view is stamp was in
-          let F : List Call → ℕ → SessionNo → Type 0 = λ cs k t. IsStamp (happens setup (ends_view p)) t (h ▹ e) (stamp_then stamp (nat_lt 0 (ends_of p view cs)) k) in
-          subst (λ (t : SessionNo). F carries account.presents t) (sym same) (subst (λ (k : ℕ). F carries k s) (sym entry.counted) (subst (λ (cs : List Call). F cs (length (presents s h)) s) entry.carried now))
+          let F : List Call → ℕ → SessionNo → Type 0 = λ cs k t. IsStamp (happens setup (ends_view p)) t (h ▹ e)
+          (stamp_then stamp (nat_lt 0 (ends_of p view cs)) k) in
+          subst (λ (t : SessionNo). F carries account.presents t) (sym same)
+          (subst (λ (k : ℕ). F carries k s) (sym entry.counted) (subst (λ (cs : List Call). F cs (length (presents s h)) s) entry.carried now))
       by_actor false other =
           let none : ends_of p view carries ≡ 0 = ends-elsewhere view is w owner other in
-          let stays : stamp_then stamp (nat_lt 0 (ends_of p view carries)) account.presents ≡ stamp = ap (λ (n : ℕ). stamp_then stamp (nat_lt 0 n) account.presents) none ∙ stamp-none stamp account.presents in
-          subst (IsStamp (happens setup (ends_view p)) w (h ▹ e)) (sym stays) (other-stamp (happens setup (ends_view p)) (happening-lasts setup (ends_view p)) w h e stamp other old)
+          let stays : stamp_then stamp (nat_lt 0 (ends_of p view carries)) account.presents ≡ stamp =
+          ap (λ (n : ℕ). stamp_then stamp (nat_lt 0 n) account.presents) none ∙ stamp-none stamp account.presents in
+          subst (IsStamp (happens setup (ends_view p)) w (h ▹ e)) (sym stays)
+          (other-stamp (happens setup (ends_view p)) (happening-lasts setup (ends_view p)) w h e stamp other old)
 
   pub cleared-own : (v : SessionNo) → viewport_owner setup p ≡ Some (Session v) → (stamp : Option ℕ) → IsStamp (happens setup (clears_viewport p)) v h stamp
       → IsStamp (happens setup (clears_viewport p)) v (h ▹ e) (stamp_then stamp (clears_pair p live carries) account.presents)
   cleared-own v owner stamp old = by_actor (is_session v e.actor) refl
     where
-      by_actor : (b : Bool) → is_session v e.actor ≡ b → IsStamp (happens setup (clears_viewport p)) v (h ▹ e) (stamp_then stamp (clears_pair p live carries) account.presents)
+      by_actor : (b : Bool) → is_session v e.actor ≡ b → IsStamp (happens setup (clears_viewport p)) v (h ▹ e)
+          (stamp_then stamp (clears_pair p live carries) account.presents)
       by_actor true theirs =
           let same : v ≡ s = one-session s v e.actor entry.mine theirs in
-          let was : IsStamp (happens setup (clears_viewport p)) s h stamp = subst (λ (t : SessionNo). IsStamp (happens setup (clears_viewport p)) t h stamp) same old in
+          let was : IsStamp (happens setup (clears_viewport p)) s h stamp =
+          subst (λ (t : SessionNo). IsStamp (happens setup (clears_viewport p)) t h stamp) same old in
           let now = clear-stamp setup s h e entry.legal entry.mine entry.opened p live entry.living stamp was in
           let F : Bool → ℕ → SessionNo → Type 0 = λ b k t. IsStamp (happens setup (clears_viewport p)) t (h ▹ e) (stamp_then stamp b k) in
-          subst (λ (t : SessionNo). F (clears_pair p live carries) account.presents t) (sym same) (subst (λ (k : ℕ). F (clears_pair p live carries) k s) (sym entry.counted) (subst (λ (b : Bool). F b (length (presents s h)) s) (sym counts) now))
+          subst (λ (t : SessionNo). F (clears_pair p live carries) account.presents t) (sym same)
+          (subst (λ (k : ℕ). F (clears_pair p live carries) k s) (sym entry.counted) (subst (λ (b : Bool). F b (length (presents s h)) s) (sym counts) now))
       by_actor false other =
           let none : clears_pair p live carries ≡ false = clears-elsewhere v owner other in
-          let stays : stamp_then stamp (clears_pair p live carries) account.presents ≡ stamp = ap (λ b. stamp_then stamp b account.presents) none ∙ stamp-none stamp account.presents in
-          subst (IsStamp (happens setup (clears_viewport p)) v (h ▹ e)) (sym stays) (other-stamp (happens setup (clears_viewport p)) (happening-lasts setup (clears_viewport p)) v h e stamp other old)
+          let stays : stamp_then stamp (clears_pair p live carries) account.presents ≡ stamp =
+          ap (λ b. stamp_then stamp b account.presents) none ∙ stamp-none stamp account.presents in
+          subst (IsStamp (happens setup (clears_viewport p)) v (h ▹ e)) (sym stays)
+          (other-stamp (happens setup (clears_viewport p)) (happening-lasts setup (clears_viewport p)) v h e stamp other old)
 
   -- the serial of the last use, where the entry is none
-  pub serial-kept : (uses_viewport p e.kind && is_done e.reply) ≡ false → (v : SessionNo) → viewport_owner setup p ≡ Some (Session v) → (kept : ℕ) → IsSerialKept p v h kept → IsSerialKept p v (h ▹ e) kept
+  pub serial-kept : (uses_viewport p e.kind && is_done e.reply) ≡ false → (v : SessionNo) → viewport_owner setup p ≡ Some (Session v) → (kept : ℕ)
+      → IsSerialKept p v h kept → IsSerialKept p v (h ▹ e) kept
   serial-kept no_use v owner kept old = record { serial = old.serial; is = old.is; tells = by_actor (is_session v e.actor) refl (closes e.reply) refl }
     where
       same : length (viewport_uses p (h ▹ e)) ≡ length (viewport_uses p h)
@@ -163,31 +178,38 @@ module _ (setup : Setup) (s : SessionNo) (h : List Entry) (e : Entry) (carries :
           serial-own setup v p (owner-owns setup v p owner) h e entry.legal theirs closing opened same old.serial old.tells
 
 -- an entry of no frame leaves what is pending as it is
-pub pending-step : (setup : Setup) (p : PairNo) (n : ℕ) (v : SessionNo) (h : List Entry) (e : Entry) → is_begin e.kind ≡ false → is_finish e.kind ≡ false → props_pending setup p n v (h ▹ e) ≡ props_pending setup p n v h
+pub pending-step : (setup : Setup) (p : PairNo) (n : ℕ) (v : SessionNo) (h : List Entry) (e : Entry) → is_begin e.kind ≡ false → is_finish e.kind ≡ false
+    → props_pending setup p n v (h ▹ e) ≡ props_pending setup p n v h
 pending-step setup p n v h e no_begin no_finish = rw (no_begin, no_finish) refl
 
 -- its own entry that doesn't use the pair's viewport end
-pub pair-own : (setup : Setup) (s : SessionNo) (h : List Entry) (e : Entry) (carries : List Call) (account : Account) (live : List Live) → IsOwnEntry setup h e s carries account live
-    → (view : Option PairNo) → view ≡ view_after None (calls s h) → (i : ℕ) → (uses_viewport (pair i) e.kind && is_done e.reply) ≡ false → (state : PairState) → IsPairKept setup h (pair i) state
+pub pair-own : (setup : Setup) (s : SessionNo) (h : List Entry) (e : Entry) (carries : List Call) (account : Account) (live : List Live)
+    → IsOwnEntry setup h e s carries account live
+    → (view : Option PairNo) → view ≡ view_after None (calls s h) → (i : ℕ) → (uses_viewport (pair i) e.kind && is_done e.reply) ≡ false → (state : PairState)
+    → IsPairKept setup h (pair i) state
     → IsPairKept setup (h ▹ e) (pair i) (cleared_if (clears_pair (pair i) live carries) account.presents (ended_by i view carries account.presents state))
 pair-own setup s h e carries account live entry view is i no_use state kept = record {
   ended = λ w owner. ended-own setup s h e carries account live entry (pair i) view is w owner state.ended (kept.ended w owner);
   cleared = λ v owner. cleared-own setup s h e carries account live entry (pair i) v owner state.cleared (kept.cleared v owner);
-  serial = λ v owner some. serial-kept setup s h e carries account live entry (pair i) no_use v owner state.serial (kept.serial v owner (subst (λ (us : List Entry). 0 < length us) same some));
+  serial = λ v owner some. serial-kept setup s h e carries account live entry (pair i) no_use v owner state.serial
+      (kept.serial v owner (subst (λ (us : List Entry). 0 < length us) same some));
   unused = λ none. kept.unused (ap (length {A = Entry}) (sym same) ∙ none);
   given = kept.given ∙ ap (props_given setup) (sym same);
   seen = λ v owner. kept.seen v owner ∙ seen-same v;
   pending = λ v owner.
       kept.pending v owner
-      ∙ sym (pending-step setup (pair i) (length (viewport_uses (pair i) h)) v h e (no-begin setup s h e entry.legal entry.mine) (no-finish setup s h e entry.legal entry.mine))
+      ∙ sym (pending-step setup (pair i) (length (viewport_uses (pair i) h)) v h e (no-begin setup s h e entry.legal entry.mine)
+      (no-finish setup s h e entry.legal entry.mine))
       ∙ ap (λ (us : List Entry). props_pending setup (pair i) (length us) v (h ▹ e)) (sym same);
 }
   where
     same : viewport_uses (pair i) (h ▹ e) ≡ viewport_uses (pair i) h
     same = rw no_use refl
 
-    seen-same : (v : SessionNo) → props_seen setup (pair i) (length (viewport_uses (pair i) h)) v h ≡ props_seen setup (pair i) (length (viewport_uses (pair i) (h ▹ e))) v (h ▹ e)
+    seen-same : (v : SessionNo) → props_seen setup (pair i) (length (viewport_uses (pair i) h)) v h
+        ≡ props_seen setup (pair i) (length (viewport_uses (pair i) (h ▹ e))) v (h ▹ e)
     seen-same v =
         let quiet : is_finish e.kind ≡ false = no-finish setup s h e entry.legal entry.mine in
-        let step : props_seen setup (pair i) (length (viewport_uses (pair i) h)) v (h ▹ e) ≡ props_seen setup (pair i) (length (viewport_uses (pair i) h)) v h = rw quiet refl in
+        let step : props_seen setup (pair i) (length (viewport_uses (pair i) h)) v (h ▹ e) ≡ props_seen setup (pair i) (length (viewport_uses (pair i) h)) v h =
+        rw quiet refl in
         sym (ap (λ (us : List Entry). props_seen setup (pair i) (length us) v (h ▹ e)) same ∙ step)

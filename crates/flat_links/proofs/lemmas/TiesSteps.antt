@@ -1,5 +1,6 @@
 -- What an entry does to what is kept of all sessions and pairs.
-use Rattle.std.proofs.Common.{◌≡◌, ◌≢◌, ◌∙◌, sym, subst, ℕ, ◌-◌, ◌<◌, ◌≤◌, Bool, true, false, List, ◌++◌, length, refl, arith, ap, None, Some, slice_index_or, slice_set}
+use Rattle.std.proofs.Common.{◌≡◌, ◌≢◌, ◌∙◌, sym, subst, ℕ, ◌-◌, ◌<◌, ◌≤◌, Bool, true, false, List, ◌++◌, length, refl, arith, ap, None, Some, slice_index_or}
+use Rattle.std.proofs.Common.{slice_set}
 use Rattle.std.specs.Prelude.{Option, cond, ◌==◌}
 use Rattle.std.proofs.lemmas.List.{get_or-map, length-map, length-set}
 use Rattle.flat_base.specs.declared.ids.PairNo.{PairNo}
@@ -37,8 +38,10 @@ use Rattle.flat_facts.proofs.lemmas.ViewsLeft.{view-left}
 use Rattle.flat_links.proofs.EndedViews.{ended-is}
 use Rattle.std.proofs.Common.{length-append}
 
-module _ (setup : Setup) (s : SessionNo) (h : List Entry) (e : Entry) (carries : List Call) (account : Account) (live : List Live) (entry : IsOwnEntry setup h e s carries account live) (some : 0 < s.0)
-    (contents : ℕ) (old new : List Following) (few : s.0 ≤ length old) (pairs after : List PairState) (notes : NotesCalls s carries account live contents old new pairs after) (tied : AreTied setup h old pairs) where
+module _ (setup : Setup) (s : SessionNo) (h : List Entry) (e : Entry) (carries : List Call) (account : Account) (live : List Live)
+    (entry : IsOwnEntry setup h e s carries account live) (some : 0 < s.0)
+    (contents : ℕ) (old new : List Following) (few : s.0 ≤ length old) (pairs after : List PairState)
+    (notes : NotesCalls s carries account live contents old new pairs after) (tied : AreTied setup h old pairs) where
   was-followed : IsFollowed setup h s notes.was
   was-followed = at-session (IsFollowed setup h) old s notes.was tied.each_session some few notes.at
 
@@ -47,7 +50,8 @@ module _ (setup : Setup) (s : SessionNo) (h : List Entry) (e : Entry) (carries :
   view = if_unended account.view (is_ended pairs)
 
   view-is : view ≡ view_after None (calls s h)
-  view-is = ap (λ (v : Option PairNo). if_unended v (is_ended pairs)) entry.viewed ∙ sym (view-left setup s h entry.legal.0 entry.opened (is_ended pairs) (λ p owned. ended-is setup s h pairs tied entry.opened p owned))
+  view-is = ap (λ (v : Option PairNo). if_unended v (is_ended pairs)) entry.viewed
+      ∙ sym (view-left setup s h entry.legal.0 entry.opened (is_ended pairs) (λ p owned. ended-is setup s h pairs tied entry.opened p owned))
 
   -- it lost no end after its last present
   early : is_within notes.was.losing (Some account.presents) ≡ true
@@ -59,29 +63,37 @@ module _ (setup : Setup) (s : SessionNo) (h : List Entry) (e : Entry) (carries :
       get_or-map (λ (f : Following). f.losing) old (s.0 - 1) notes.was None below ∙ ap (λ (f : Following). f.losing) (sym notes.at)
 
   now-losings : losings new ≡ slice_set (losings old) (s.0 - 1) (losing_then carries account.presents (losing_of (losings old) s))
-  now-losings = ap losings notes.session ∙ losing-set old (s.0 - 1) (followed_by carries account.presents contents notes.was) ∙ ap (λ (o : Option ℕ). slice_set (losings old) (s.0 - 1) (losing_then carries account.presents o)) (sym was-losing)
+  now-losings = ap losings notes.session ∙ losing-set old (s.0 - 1) (followed_by carries account.presents contents notes.was)
+      ∙ ap (λ (o : Option ℕ). slice_set (losings old) (s.0 - 1) (losing_then carries account.presents o)) (sym was-losing)
 
   -- each pair after its calls
   bound-noted : (i : ℕ) (state : PairState) → IsBound setup (losings old) (pair i) state
       → IsBound setup (losings new) (pair i) (cleared_if (clears_pair (pair i) live carries) account.presents (ended_by i view carries account.presents state))
   bound-noted i state was =
-      let below : s.0 - 1 < length (losings old) = (let count : length (losings old) ≡ length old = length-map old (λ (f : Following). f.losing) in omega (arith, some, few, count)) in
+      let below : s.0 - 1 < length (losings old) = (let count : length (losings old) ≡ length old = length-map old (λ (f : Following). f.losing) in
+      omega (arith, some, few, count)) in
       rw now-losings
       (bound-own setup s h e carries account live entry (losings old) below (rw was-losing early) view view-is i state was)
 
   followed : AllNumbered (λ i. IsFollowed setup (h ▹ e) (number i)) new
   followed =
       let now : IsFollowed setup (h ▹ e) s (followed_by carries account.presents contents notes.was) =
-      followed-own setup s h e entry.mine (no-begin setup s h e entry.legal entry.mine) (no-finish setup s h e entry.legal entry.mine) carries entry.carried notes.was (followed_by carries account.presents contents notes.was) notes.contents_are (ap (λ (n : ℕ). is_within (losing_then carries account.presents notes.was.losing) (Some n)) (sym entry.counted) ∙ (losing-next carries account.presents notes.was.losing early).1) refl refl was-followed in
+      followed-own setup s h e entry.mine (no-begin setup s h e entry.legal entry.mine) (no-finish setup s h e entry.legal entry.mine) carries entry.carried
+      notes.was (followed_by carries account.presents contents notes.was) notes.contents_are
+      (ap (λ (n : ℕ). is_within (losing_then carries account.presents notes.was.losing) (Some n)) (sym entry.counted)
+      ∙ (losing-next carries account.presents notes.was.losing early).1) refl refl was-followed in
       let place : number (s.0 - 1) ≡ s = ap (λ (n : ℕ). let r : SessionNo = record { 0 = n } in r) (omega (arith, some)) in
-      let here : IsFollowed setup (h ▹ e) (number (s.0 - 1)) (followed_by carries account.presents contents notes.was) = subst (λ (t : SessionNo). IsFollowed setup (h ▹ e) t (followed_by carries account.presents contents notes.was)) (sym place) now in
+      let here : IsFollowed setup (h ▹ e) (number (s.0 - 1)) (followed_by carries account.presents contents notes.was) =
+      subst (λ (t : SessionNo). IsFollowed setup (h ▹ e) t (followed_by carries account.presents contents notes.was)) (sym place) now in
       subst (AllNumbered (λ i. IsFollowed setup (h ▹ e) (number i))) (sym notes.session)
-      (changed-one (λ i. IsFollowed setup h (number i)) (λ i. IsFollowed setup (h ▹ e) (number i)) old (s.0 - 1) (followed_by carries account.presents contents notes.was) (λ j x other kept. elsewhere j x other kept) here tied.each_session)
+      (changed-one (λ i. IsFollowed setup h (number i)) (λ i. IsFollowed setup (h ▹ e) (number i)) old (s.0 - 1)
+      (followed_by carries account.presents contents notes.was) (λ j x other kept. elsewhere j x other kept) here tied.each_session)
     where
       elsewhere : (j : ℕ) (x : Following) → j ≢ s.0 - 1 → IsFollowed setup h (number j) x → IsFollowed setup (h ▹ e) (number j) x
       elsewhere j x other kept =
           let theirs : is_session (number j) e.actor ≡ false = ap (is_session (number j)) (same-session s e.actor entry.mine) ∙ not-session s j some other in
-          followed-idle setup (number j) h e (λ mine. let wrong : true ≡ false = sym mine ∙ theirs in cc) (no-begin setup s h e entry.legal entry.mine) (no-finish setup s h e entry.legal entry.mine) x kept
+          followed-idle setup (number j) h e (λ mine. let wrong : true ≡ false = sym mine ∙ theirs in cc) (no-begin setup s h e entry.legal entry.mine)
+          (no-finish setup s h e entry.legal entry.mine) x kept
 
   session-count : length new ≡ setup.sessions
   session-count = ap (length {A = Following}) notes.session ∙ length-set old (s.0 - 1) (followed_by carries account.presents contents notes.was) ∙ tied.sessions
@@ -102,7 +114,8 @@ module _ (setup : Setup) (s : SessionNo) (h : List Entry) (e : Entry) (carries :
   }
 
   -- a use of a viewport end
-  pub tied-used : (p : PairNo) (props : ViewportProps) → IsUse e p props → (last : List PairState) → UsesPair p contents props after last → AreTied setup (h ▹ e) new last
+  pub tied-used : (p : PairNo) (props : ViewportProps) → IsUse e p props → (last : List PairState) → UsesPair p contents props after last
+      → AreTied setup (h ▹ e) new last
   tied-used p props used last uses = record {
     sessions = session-count;
     count = uses.count ∙ notes.count ∙ tied.count;
@@ -112,31 +125,38 @@ module _ (setup : Setup) (s : SessionNo) (h : List Entry) (e : Entry) (carries :
         let within : i < length pairs = omega (arith, inside, notes.count) in
         let state : PairState = slice_index_or pairs i d in
         let noted : PairState = cleared_if (clears_pair (pair i) live carries) account.presents (ended_by i view carries account.presents state) in
-        let is : slice_index_or last i d ≡ cond (p.0 == i) (used_by contents props noted) noted = uses.each i d inside ∙ ap (λ (x : PairState). cond (p.0 == i) (used_by contents props x) x) (notes.each i d within) in
+        let is : slice_index_or last i d ≡ cond (p.0 == i) (used_by contents props noted) noted =
+        uses.each i d inside ∙ ap (λ (x : PairState). cond (p.0 == i) (used_by contents props x) x) (notes.each i d within) in
         subst (IsPairKept setup (h ▹ e) (pair i)) (sym is)
         (pair-used setup s h e carries account live entry p props used contents contents-now view view-is i state (tied.each_pair i d within));
     bound = λ i d below.
         let inside : i < length after = omega (arith, below, uses.count) in
         let within : i < length pairs = omega (arith, inside, notes.count) in
-        let noted : IsBound setup (losings new) (pair i) (slice_index_or after i d) = subst (IsBound setup (losings new) (pair i)) (sym (notes.each i d within)) (bound-noted i (slice_index_or pairs i d) (tied.bound i d within)) in
+        let noted : IsBound setup (losings new) (pair i) (slice_index_or after i d) =
+        subst (IsBound setup (losings new) (pair i)) (sym (notes.each i d within)) (bound-noted i (slice_index_or pairs i d) (tied.bound i d within)) in
         subst (IsBound setup (losings new) (pair i)) (sym (uses.each i d inside)) (used-bound (p.0 == i) (losings new) i (slice_index_or after i d) noted);
   }
     where
-      used-bound : (b : Bool) (then : List (Option ℕ)) (i : ℕ) (state : PairState) → IsBound setup then (pair i) state → IsBound setup then (pair i) (cond b (used_by contents props state) state)
+      used-bound : (b : Bool) (then : List (Option ℕ)) (i : ℕ) (state : PairState) → IsBound setup then (pair i) state
+          → IsBound setup then (pair i) (cond b (used_by contents props state) state)
       used-bound true then i state was = bound-same setup then then i state (used_by contents props state) refl refl refl was
       used-bound false then i state was = was
 
       contents-now : contents ≡ capped (length (contents_made (calls s h ++ carries)))
       contents-now =
           notes.contents_are (length (contents_made (calls s h))) (was-followed.contents entry.opened)
-          ∙ ap capped (sym (ap (length {A = Option PairNo}) (contents-append (calls s h) carries) ∙ length-append (contents_made (calls s h)) (contents_made carries)))
+          ∙ ap capped (sym (ap (length {A = Option PairNo}) (contents-append (calls s h) carries)
+          ∙ length-append (contents_made (calls s h)) (contents_made carries)))
 
 -- an entry that is none of a session that was open, of no frame
-pub tied-idle : (setup : Setup) (h : List Entry) (e : Entry) → IsIdle setup h e → (followings : List Following) (pairs : List PairState) → AreTied setup h followings pairs → AreTied setup (h ▹ e) followings pairs
+pub tied-idle : (setup : Setup) (h : List Entry) (e : Entry) → IsIdle setup h e → (followings : List Following) (pairs : List PairState)
+    → AreTied setup h followings pairs → AreTied setup (h ▹ e) followings pairs
 tied-idle setup h e idle followings pairs tied = record {
   sessions = tied.sessions;
   count = tied.count;
-  each_session = λ i d below. followed-idle setup (number i) h e (idle.shut (number i)) idle.no_begin idle.no_finish (slice_index_or followings i d) (tied.each_session i d below);
-  each_pair = λ i d below. pair-idle setup h e idle.legal idle.shut (pair i) (idle.no_use (pair i)) idle.no_begin idle.no_finish (slice_index_or pairs i d) (tied.each_pair i d below);
+  each_session = λ i d below. followed-idle setup (number i) h e (idle.shut (number i)) idle.no_begin idle.no_finish (slice_index_or followings i d)
+      (tied.each_session i d below);
+  each_pair = λ i d below. pair-idle setup h e idle.legal idle.shut (pair i) (idle.no_use (pair i)) idle.no_begin idle.no_finish (slice_index_or pairs i d)
+      (tied.each_pair i d below);
   bound = tied.bound;
 }

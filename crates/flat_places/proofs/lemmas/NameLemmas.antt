@@ -12,7 +12,8 @@ le_test a b h = grind (arith, nat_tests)
 four : (a b c d r : Bool) → a ≡ true → b ≡ true → c ≡ true → r ≡ d → not r ≡ (a && b && c && not d)
 four a b c d r x y z w = rw (x, y, z, w) refl
 
-pub is_name_when : (word : List ℕ) (r : Bool) → is_ascii_alphabetic (slice_index word 0) ≡ true → list_all is_name_byte word ≡ true → length word ≤ 16 → r ≡ is_reserved word → not r ≡ is_name word
+pub is_name_when : (word : List ℕ) (r : Bool) → is_ascii_alphabetic (slice_index word 0) ≡ true → list_all is_name_byte word ≡ true → length word ≤ 16
+    → r ≡ is_reserved word → not r ≡ is_name word
 is_name_when word r first rest short is = four _ (list_all is_name_byte word) _ (is_reserved word) r first rest (le_test _ _ short) is
 
 four_true : (a b c d : Bool) → (a && b && c && d) ≡ true → (b ≡ true) × (c ≡ true)

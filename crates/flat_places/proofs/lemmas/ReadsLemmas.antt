@@ -1,6 +1,7 @@
 -- Forms, as the code reads them place by place.
 use Rattle.std.proofs.lemmas.List.Splits.{length-slice_split}
-use Rattle.std.proofs.Common.{is_some, IfOk, ◌++◌, ◌<◌, length, append_assoc, append-nil, ◌≡◌, ℕ, Bool, true, false, List, [], ◌∷◌, Option, Some, None, Result, Ok, Err, refl, sym, ◌∙◌, ap, arith, cond, nat_le, nat_lt, ◌≤◌}
+use Rattle.std.proofs.Common.{is_some, IfOk, ◌++◌, ◌<◌, length, append_assoc, append-nil, ◌≡◌, ℕ, Bool, true, false, List, [], ◌∷◌, Option, Some, None, Result}
+use Rattle.std.proofs.Common.{Ok, Err, refl, sym, ◌∙◌, ap, arith, cond, nat_le, nat_lt, ◌≤◌}
 use Rattle.std.proofs.lemmas.Bool.Decides.{nat_tests}
 use Rattle.std.specs.List.{slice_split, onto_first}
 use Rattle.std.specs.Borrow.{Bor}
@@ -10,7 +11,8 @@ use Rattle.flat_places.specs.declared.kinds.FaultKind.{FaultKind}
 use Rattle.flat_places.specs.declared.kinds.FaultKind.TheVariants.{WrongCount}
 use Rattle.flat_places.specs.declared.places.Places.{Places}
 use Rattle.flat_places.specs.Kinds.{number, lower_kind}
-use Rattle.flat_places.specs.Forms.{place, each, optional, one_or_more, Word, Reading, Form, both, mapped, nothing, whole, give, passes, unless_kind, ◌<$>◌, ◌<*>◌}
+use Rattle.flat_places.specs.Forms.{place, each, optional, one_or_more, Word, Reading, Form, both, mapped, nothing, whole, give, passes, unless_kind, ◌<$>◌}
+use Rattle.flat_places.specs.Forms.{◌<*>◌}
 use Rattle.flat_base.specs.declared.limits.TheConstants.{RATIO_SINCE}
 use Rattle.flat_places.specs.Places.{region, regions, transform, transforms, ratio, first_ratio}
 use Rattle.flat_places.specs.Reads.{Reads, sofar, left, lower, giving, finished}
@@ -39,13 +41,17 @@ lower_right j k test = ap (λ b. cond b j k) test
 lowest : (i j k : FaultKind) → lower_kind (lower_kind i j) k ≡ lower_kind i (lower_kind j k)
 lowest i j k = by_tests (nat_le (number i) (number j)) (nat_le (number j) (number k)) (nat_le (number i) (number k)) refl refl refl
   where
-    by_tests : (a b c : Bool) → nat_le (number i) (number j) ≡ a → nat_le (number j) (number k) ≡ b → nat_le (number i) (number k) ≡ c → lower_kind (lower_kind i j) k ≡ lower_kind i (lower_kind j k)
-    by_tests true true true p q r = ap (λ m. lower_kind m k) (lower_left i j p) ∙ lower_left i k r ∙ sym (ap (lower_kind i) (lower_left j k q) ∙ lower_left i j p)
+    by_tests : (a b c : Bool) → nat_le (number i) (number j) ≡ a → nat_le (number j) (number k) ≡ b → nat_le (number i) (number k) ≡ c
+        → lower_kind (lower_kind i j) k ≡ lower_kind i (lower_kind j k)
+    by_tests true true true p q r = ap (λ m. lower_kind m k) (lower_left i j p) ∙ lower_left i k r
+        ∙ sym (ap (lower_kind i) (lower_left j k q) ∙ lower_left i j p)
     by_tests true true false p q r = absurd (grind (arith, nat_tests))
     by_tests true false c p q r = ap (λ m. lower_kind m k) (lower_left i j p) ∙ sym (ap (lower_kind i) (lower_right j k q))
-    by_tests false true c p q r = ap (λ m. lower_kind m k) (lower_right i j p) ∙ lower_left j k q ∙ sym (ap (lower_kind i) (lower_left j k q) ∙ lower_right i j p)
+    by_tests false true c p q r = ap (λ m. lower_kind m k) (lower_right i j p) ∙ lower_left j k q
+        ∙ sym (ap (lower_kind i) (lower_left j k q) ∙ lower_right i j p)
     by_tests false false true p q r = absurd (grind (arith, nat_tests))
-    by_tests false false false p q r = ap (λ m. lower_kind m k) (lower_right i j p) ∙ lower_right j k q ∙ sym (ap (lower_kind i) (lower_right j k q) ∙ lower_right i k r)
+    by_tests false false false p q r = ap (λ m. lower_kind m k) (lower_right i j p) ∙ lower_right j k q
+        ∙ sym (ap (lower_kind i) (lower_right j k q) ∙ lower_right i k r)
 
 -- readings
 
@@ -53,11 +59,13 @@ ends : {A : Type 0} (v : A) (s : Reading (Unit {0})) → giving v s ≡ both (λ
 ends v (Ok u) = refl
 ends v (Err k) = refl
 
-goes_on : {A : Type 0} (v : A) (s : Reading (Unit {0})) (k : FaultKind) (n : Reading (Unit {0})) → n ≡ Err WrongCount → lower {A = Unit {0}} s (Err WrongCount) ≡ Err k → both (λ w _. w) (giving v s) n ≡ Err k
+goes_on : {A : Type 0} (v : A) (s : Reading (Unit {0})) (k : FaultKind) (n : Reading (Unit {0})) → n ≡ Err WrongCount
+    → lower {A = Unit {0}} s (Err WrongCount) ≡ Err k → both (λ w _. w) (giving v s) n ≡ Err k
 goes_on v (Ok u) k n e low = rw e (ap (mapped (λ _. v)) low)
 goes_on v (Err j) k n e low = rw e (ap (mapped (λ _. v)) low)
 
-pub goes_on_at : {A : Type 0} (v : A) (p : Places) (text : Bor (List ℕ)) (k : FaultKind) → p.words ≡ Some text → lower {A = Unit {0}} (sofar p) (Err WrongCount) ≡ Err k → finished v p ≡ Err k
+pub goes_on_at : {A : Type 0} (v : A) (p : Places) (text : Bor (List ℕ)) (k : FaultKind) → p.words ≡ Some text
+    → lower {A = Unit {0}} (sofar p) (Err WrongCount) ≡ Err k → finished v p ≡ Err k
 goes_on_at v p text k is low = goes_on v (sofar p) k (nothing (left p)) (ap (λ w. nothing (pieces_left is_space w)) is ∙ nothing_split is_space text.now) low
 
 pub ends_at : {A : Type 0} (v : A) (p : Places) → left p ≡ [] → giving v (sofar p) ≡ finished v p
@@ -102,7 +110,8 @@ then_words f x p q r first second = second ∙ ap (λ w. (x w).1) first
 pub then : {A B : Type 0} {f : Form (A → B)} {x : Form A} {p q r : Places} {g : A → B} {v : A} → Reads f p q g → Reads x q r v → Reads (f <*> x) p r (g v)
 then {f = f} {x = x} {p = p} {q = q} {r = r} {g = g} {v = v} first second = record {
   words = then_words f x (left p) (left q) (left r) first.words second.words;
-  outcome = after (λ h w. h w) (sofar p) (sofar q) (sofar r) (f (left p)).0 (x (f (left p)).1).0 g v first.outcome (ap (λ w. lower (sofar q) (x w).0) (sym first.words) ∙ second.outcome);
+  outcome = after (λ h w. h w) (sofar p) (sofar q) (sofar r) (f (left p)).0 (x (f (left p)).1).0 g v first.outcome
+      (ap (λ w. lower (sofar q) (x w).0) (sym first.words) ∙ second.outcome);
 }
 
 pub begin : {A B : Type 0} (h : A → B) {x : Form A} {p q : Places} {v : A} → Reads x p q v → Reads (h <$> x) p q (h v)
@@ -113,7 +122,8 @@ begin h {x = x} {p = p} {q = q} {v = v} first = record {
 
 -- a whole form, from its first word
 
-whole_both : {A : Type 0} (v : A) (t : Reading (Unit {0})) (r : Reading A) (n : Reading (Unit {0})) → r ≡ giving v t → both (λ w _. w) (giving v t) n ≡ both (λ w _. w) r n
+whole_both : {A : Type 0} (v : A) (t : Reading (Unit {0})) (r : Reading A) (n : Reading (Unit {0})) → r ≡ giving v t
+    → both (λ w _. w) (giving v t) n ≡ both (λ w _. w) r n
 whole_both v t r n is = ap (λ x. both (λ w _. w) x n) (sym is)
 
 lower_ok : {A : Type 0} (r : Reading A) → lower (Ok (tt {0})) r ≡ r
@@ -125,34 +135,42 @@ all {form = form} {p = p} {q = q} {v = v} fresh read =
     let first : (form (left p)).0 ≡ giving v (sofar q) = sym (lower_ok _) ∙ ap (λ s. lower s (form (left p)).0) (sym fresh) ∙ read.outcome in
     whole_both v (sofar q) (form (left p)).0 (nothing (left q)) first ∙ ap (λ w. both (λ a _. a) (form (left p)).0 (nothing w)) read.words
 
-pub read_whole : {A : Type 0} (form : Form A) {p q : Places} {v : A} {words : List Word} {r : Reading A} → left p ≡ words → sofar p ≡ Ok (tt {0}) → Reads form p q v → r ≡ finished v q → r ≡ whole form words
+pub read_whole : {A : Type 0} (form : Form A) {p q : Places} {v : A} {words : List Word} {r : Reading A} → left p ≡ words → sofar p ≡ Ok (tt {0})
+    → Reads form p q v → r ≡ finished v q → r ≡ whole form words
 read_whole form words fresh read is = is ∙ all fresh read ∙ ap (whole form) words
 
 -- the same behind kinds that were found before
 
-pub read_after : {A : Type 0} (form : Form A) {p q : Places} {v : A} {words : List Word} {r : Reading A} → left p ≡ words → Reads form p q v → r ≡ finished v q → r ≡ lower (sofar p) (whole form words)
+pub read_after : {A : Type 0} (form : Form A) {p q : Places} {v : A} {words : List Word} {r : Reading A} → left p ≡ words → Reads form p q v → r ≡ finished v q
+    → r ≡ lower (sofar p) (whole form words)
 read_after form {p = p} {q = q} {v = v} {words = words} {r = r} at read is =
     let first : r ≡ both (λ w _. w) (giving v (sofar q)) (nothing (left q)) = is in
     let second : both (λ w _. w) (giving v (sofar q)) (nothing (left q)) ≡ both (λ w _. w) (lower (sofar p) (form (left p)).0) (nothing (left q)) =
     ap (λ x. both (λ w _. w) x (nothing (left q))) (sym read.outcome) in
-    let third : both (λ w _. w) (lower (sofar p) (form (left p)).0) (nothing (left q)) ≡ lower (sofar p) (both (λ w _. w) (form (left p)).0 (nothing (left q))) =
+    let third : both (λ w _. w) (lower (sofar p) (form (left p)).0) (nothing (left q))
+    ≡ lower (sofar p) (both (λ w _. w) (form (left p)).0 (nothing (left q))) =
     sym (lower_both (λ w _. w) (sofar p) (form (left p)).0 (nothing (left q))) in
     first ∙ second ∙ third ∙ ap (λ w. lower (sofar p) (both (λ a _. a) (form (left p)).0 (nothing w))) read.words ∙ ap (λ w. lower (sofar p) (whole form w)) at
 
 pub read_unless : {A : Type 0} (form : Form A) (k : FaultKind) (test : Bool) (o : Places) {p q : Places} {v : A} {words : List Word} {r : Reading A}
-    → left o ≡ words → sofar o ≡ Ok (tt {0}) → p.words ≡ o.words → sofar p ≡ lower (sofar o) (passes k test) → Reads form p q v → r ≡ finished v q → r ≡ unless_kind k test (whole form words)
+    → left o ≡ words → sofar o ≡ Ok (tt {0}) → p.words ≡ o.words → sofar p ≡ lower (sofar o) (passes k test) → Reads form p q v → r ≡ finished v q
+    → r ≡ unless_kind k test (whole form words)
 read_unless form k test o {p = p} {words = words} at fresh same low read is =
     let here : left p ≡ words = ap (pieces_left is_space) same ∙ at in
     let kinds : sofar p ≡ passes k test = low ∙ ap (λ s. lower s (passes k test)) fresh ∙ lower_ok (passes k test) in
     read_after form here read is ∙ ap (λ s. lower s (whole form words)) kinds
 
-pub read_unless_2 : {A : Type 0} (form : Form A) (j k : FaultKind) (first second : Bool) (n o : Places) {p q : Places} {v : A} {words : List Word} {r : Reading A}
-    → left n ≡ words → sofar n ≡ Ok (tt {0}) → o.words ≡ n.words → sofar o ≡ lower (sofar n) (passes j first) → p.words ≡ o.words → sofar p ≡ lower (sofar o) (passes k second)
+pub read_unless_2 : {A : Type 0} (form : Form A) (j k : FaultKind) (first second : Bool) (n o : Places) {p q : Places} {v : A} {words : List Word}
+    {r : Reading A}
+    → left n ≡ words → sofar n ≡ Ok (tt {0}) → o.words ≡ n.words → sofar o ≡ lower (sofar n) (passes j first) → p.words ≡ o.words
+    → sofar p ≡ lower (sofar o) (passes k second)
     → Reads form p q v → r ≡ finished v q → r ≡ unless_kind j first (unless_kind k second (whole form words))
 read_unless_2 form j k first second n o {p = p} {words = words} at fresh same low same2 low2 read is =
     let here : left p ≡ words = ap (pieces_left is_space) (same2 ∙ same) ∙ at in
-    let kinds : sofar p ≡ lower (passes j first) (passes k second) = low2 ∙ ap (λ s. lower s (passes k second)) (low ∙ ap (λ s. lower s (passes j first)) fresh ∙ lower_ok (passes j first)) in
-    read_after form here read is ∙ ap (λ s. lower s (whole form words)) kinds ∙ sym (lower_both (λ _ x. x) (passes j first) (passes k second) (whole form words))
+    let kinds : sofar p ≡ lower (passes j first) (passes k second) =
+    low2 ∙ ap (λ s. lower s (passes k second)) (low ∙ ap (λ s. lower s (passes j first)) fresh ∙ lower_ok (passes j first)) in
+    read_after form here read is ∙ ap (λ s. lower s (whole form words)) kinds
+    ∙ sym (lower_both (λ _ x. x) (passes j first) (passes k second) (whole form words))
 
 both_mapped : {A B : Type 0} (h : A → B) (v : A) (s n : Reading (Unit {0})) → mapped h (both (λ w _. w) (giving v s) n) ≡ both (λ w _. w) (giving (h v) s) n
 both_mapped h v (Ok u) (Ok w) = refl
@@ -197,7 +215,8 @@ one_more {A = A} rest form found v s t xs ys step here read =
     ∙ ap (lower t) (mapped_same (λ r. (found ++ v ∷ []) ++ r) (h v) behind (λ r. append_assoc found (v ∷ []) r)) ∙ sym whole_line
     ∙ ap (λ r. lower s (mapped (λ x. found ++ x) r)) (sym step)
 
-pub each_step : {A : Type 0} (test : Word → Reading A) (xs : List Word) → 0 < length xs → each test xs ≡ both (λ a r. a ∷ r) (place test xs).0 (each test (place test xs).1)
+pub each_step : {A : Type 0} (test : Word → Reading A) (xs : List Word) → 0 < length xs
+    → each test xs ≡ both (λ a r. a ∷ r) (place test xs).0 (each test (place test xs).1)
 each_step test [] some = absurd (omega arith)
 each_step test (w ∷ ws) some = refl
 
@@ -253,7 +272,8 @@ all_read rest p q v ends none read =
     let gone = none_left q.words none in
     record {
       words = gone;
-      outcome = sym read ∙ ap (λ ws. lower (sofar q) (mapped (λ r. v ++ r) (rest ws))) gone ∙ ap (λ x. lower (sofar q) (mapped (λ r. v ++ r) x)) ends ∙ no_more v (sofar q);
+      outcome = sym read ∙ ap (λ ws. lower (sofar q) (mapped (λ r. v ++ r) (rest ws))) gone ∙ ap (λ x. lower (sofar q) (mapped (λ r. v ++ r) x)) ends
+          ∙ no_more v (sofar q);
     }
 
 -- a form that may be left out
@@ -263,7 +283,10 @@ optional_some form [] some = absurd (omega arith)
 optional_some form (w ∷ ws) some = refl
 
 same_form : {A : Type 0} (f g : Form A) {p q : Places} {v : A} → f (left p) ≡ g (left p) → Reads g p q v → Reads f p q v
-same_form f g {p = p} {q = q} {v = v} same read = record { words = read.words ∙ ap (λ r. r.1) (sym same); outcome = ap (λ r. lower (sofar p) r.0) same ∙ read.outcome }
+same_form f g {p = p} {q = q} {v = v} same read = record {
+  words = read.words ∙ ap (λ r. r.1) (sym same);
+  outcome = ap (λ r. lower (sofar p) r.0) same ∙ read.outcome;
+}
 
 pub read_optional : {A : Type 0} (form : Form A) {p q : Places} {v : A} → 0 < length (left p) → Reads form p q v → Reads (optional form) p q (Some v)
 read_optional form {p = p} some read = same_form (optional form) (Some <$> form) (optional_some form (left p) some) (begin Some read)
@@ -272,8 +295,10 @@ one_or_more_some : {A : Type 0} (test : Word → Reading A) (xs : List Word) →
 one_or_more_some test [] some = absurd (omega arith)
 one_or_more_some test (w ∷ ws) some = refl
 
-pub read_one_or_more : {A : Type 0} (test : Word → Reading A) {p q : Places} {v : List A} → 0 < length (left p) → Reads (λ ws. (each test ws, [])) p q v → Reads (λ ws. (one_or_more test ws, [])) p q v
-read_one_or_more test {p = p} some read = same_form (λ ws. (one_or_more test ws, [])) (λ ws. (each test ws, [])) (ap (λ r. (r, [])) (one_or_more_some test (left p) some)) read
+pub read_one_or_more : {A : Type 0} (test : Word → Reading A) {p q : Places} {v : List A} → 0 < length (left p) → Reads (λ ws. (each test ws, [])) p q v
+    → Reads (λ ws. (one_or_more test ws, [])) p q v
+read_one_or_more test {p = p} some read = same_form (λ ws. (one_or_more test ws, [])) (λ ws. (each test ws, []))
+    (ap (λ r. (r, [])) (one_or_more_some test (left p) some)) read
 
 pub if_ok : {A E : Type 0} (P Q : A → Type 0) (r : Result A E) → ((v : A) → P v → Q v) → IfOk r P → IfOk r Q
 if_ok P Q (Ok v) weaker holds = weaker v holds

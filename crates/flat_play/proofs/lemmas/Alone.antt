@@ -13,7 +13,8 @@ use Rattle.flat_play.specs.Playing.{is_alone}
 use Rattle.flat_play.proofs.lemmas.Growing.{is_quiet}
 use Rattle.flat_play.proofs.lemmas.DisplaySteps.{may_dpr, may_signal_fence, may_wait_for}
 
-pub may_alone : (m : Machine) (text : DisplayLine) → is_alone text ≡ true → HasShare m Display → is_played_display m.setup text ≡ true → MayCall m Display [] (entry_of_display text)
+pub may_alone : (m : Machine) (text : DisplayLine) → is_alone text ≡ true → HasShare m Display → is_played_display m.setup text ≡ true
+    → MayCall m Display [] (entry_of_display text)
 may_alone m (display.Begin time) alone share played = absurd (cc)
 may_alone m display.Done alone share played = absurd (cc)
 may_alone m (display.Signal f) alone share played = may_signal_fence m f share played
@@ -37,7 +38,8 @@ ends_none (display.Wait c) alone = refl
 ends_none (display.Hit x y) alone = absurd (cc)
 ends_none (display.Dpr ratio) alone = refl
 
-pub keeps_alone : (text : DisplayLine) → is_alone text ≡ true → (o : Bool) (t : ℕ) (follows : Bool → ℕ → Bool) → keeps_frames o t (body.Display text) follows ≡ follows o t
+pub keeps_alone : (text : DisplayLine) → is_alone text ≡ true → (o : Bool) (t : ℕ) (follows : Bool → ℕ → Bool)
+    → keeps_frames o t (body.Display text) follows ≡ follows o t
 keeps_alone (display.Begin time) alone o t follows = absurd (cc)
 keeps_alone display.Done alone o t follows = absurd (cc)
 keeps_alone (display.Signal f) alone o t follows = refl

@@ -23,13 +23,16 @@ use Rattle.flat_play.proofs.lemmas.Places.{all_to, rises}
 use Rattle.flat_play.proofs.lemmas.Readers.{session_rise}
 
 -- a session's lines before a place and those behind it are all of its lines
-pub parts-of-lines : (s : SessionNo) (place : ℕ) (lines : List ScriptLine) → session_lines s (take place lines) ++ session_lines s (drop place lines) ≡ session_lines s lines
+pub parts-of-lines : (s : SessionNo) (place : ℕ) (lines : List ScriptLine)
+    → session_lines s (take place lines) ++ session_lines s (drop place lines) ≡ session_lines s lines
 parts-of-lines s place lines =
     let line : ScriptLine → List (ℕ × Line) = λ next. session_line (is_session s next.actor) next.number next.body in
     sym (flat_map-append line (take place lines) (drop place lines)) ∙ ap (session_lines s) (take-append-drop place lines)
 
 -- what has read the lines before a place follows all lines so far
-pub follows-so-far : (script : Script) → is_playable script ≡ true → (s : SessionNo) (place : ℕ) (mine : List Entry) (reads : (count : ℕ) (later : List (ℕ × Line)) → Rise 0 (session_lines s (take place script.lines) ++ later) → Follows script.setup count (session_lines s (take place script.lines) ++ later) mine)
+pub follows-so-far : (script : Script) → is_playable script ≡ true
+    → (s : SessionNo) (place : ℕ) (mine : List Entry) (reads : (count : ℕ) (later : List (ℕ × Line))
+    → Rise 0 (session_lines s (take place script.lines) ++ later) → Follows script.setup count (session_lines s (take place script.lines) ++ later) mine)
     → Follows script.setup script.count (session_lines s script.lines) mine
 follows-so-far script playable s place mine reads =
     let whole = parts-of-lines s place script.lines in
@@ -50,7 +53,8 @@ none-begun script = record {
 }
 
 module _ (script : Script) (playable : is_playable script ≡ true) where
-  reader-follows : (play : Play) (place : ℕ) → PlayStands script place play → (k : ℕ) → k < script.setup.sessions → Follows script.setup script.count (session_lines (record { 0 = k + 1 }) script.lines) (own (record { 0 = k + 1 }) play.board.history)
+  reader-follows : (play : Play) (place : ℕ) → PlayStands script place play → (k : ℕ) → k < script.setup.sessions
+      → Follows script.setup script.count (session_lines (record { 0 = k + 1 }) script.lines) (own (record { 0 = k + 1 }) play.board.history)
   reader-follows play place stands k below =
       let within : k < length play.readers.items = (let many = stands.readers.count in omega (arith, many)) in
       let mine = stands.readers.each k (get_or play.readers.items k (some-reader play.readers.items within)) within in
@@ -61,14 +65,16 @@ module _ (script : Script) (playable : is_playable script ≡ true) where
       some-reader (reader ∷ later) within = reader
 
   -- what is played up to a place begins the script
-  pub play-begins : (place : ℕ) (play : Play) → PlayStands script place play → Legal play.board.setup play.board.history → AreBegun script (finished script.setup play.board.history)
+  pub play-begins : (place : ℕ) (play : Play) → PlayStands script place play → Legal play.board.setup play.board.history
+      → AreBegun script (finished script.setup play.board.history)
   play-begins place play stands legal =
       let L : Setup → Type 0 = λ setup. Legal setup play.board.history in
       record {
         history = play.board.history;
         begins = record {
           legal = subst L stands.setup legal;
-          sessions = all_to (λ s. Follows script.setup script.count (session_lines s script.lines) (own s play.board.history)) script.setup.sessions (reader-follows play place stands);
+          sessions = all_to (λ s. Follows script.setup script.count (session_lines s script.lines) (own s play.board.history)) script.setup.sessions
+              (reader-follows play place stands);
           display = stands.display.follows;
         };
         are = refl;

@@ -1,5 +1,6 @@
 -- What the display reads and shows, after one more line of the script.
-use Rattle.std.proofs.Common.{◌≡◌, ℕ, ℤ, suc, ◌+◌, Bool, true, false, cond, ◌&&◌, not, nat_lt, nat_le, List, [], ◌∷◌, ◌++◌, filter, take, drop, refl, sym, ap, ◌∙◌, subst, arith, append-nil}
+use Rattle.std.proofs.Common.{◌≡◌, ℕ, ℤ, suc, ◌+◌, Bool, true, false, cond, ◌&&◌, not, nat_lt, nat_le, List, [], ◌∷◌, ◌++◌, filter, take, drop, refl, sym, ap}
+use Rattle.std.proofs.Common.{◌∙◌, subst, arith, append-nil}
 use Rattle.std.proofs.lemmas.Grind.{common_steps}
 use Rattle.flat_base.specs.declared.ids.Actor.TheVariants.{Display}
 use Rattle.flat_base.specs.declared.ids.FenceNo.{FenceNo}
@@ -80,7 +81,8 @@ display_numbered next = by_body next.body
 
 module _ (script : Script) (place : ℕ) (x : ScriptLine) (at : At script place x) where
   -- a line of a probe, which makes no entry
-  pub display_probe : (asked : ProbeLine) → x.body ≡ body.Probe asked → (history : List Entry) → DisplayStands script place history → DisplayStands script (place + 1) history
+  pub display_probe : (asked : ProbeLine) → x.body ≡ body.Probe asked → (history : List Entry) → DisplayStands script place history
+      → DisplayStands script (place + 1) history
   display_probe asked is history stands = record {
     follows = stands.follows;
     left = stands.left ∙ ap display_lines at.left ∙ ap (λ b. display_line x.number b ++ display_lines (drop (place + 1) script.lines)) is;
@@ -89,7 +91,8 @@ module _ (script : Script) (place : ℕ) (x : ScriptLine) (at : At script place 
   }
 
   -- a line of a session
-  pub display_session : (text : Line) → x.body ≡ body.Session text → (old new : List Entry) → QuietStep old new → DisplayStands script place old → DisplayStands script (place + 1) new
+  pub display_session : (text : Line) → x.body ≡ body.Session text → (old new : List Entry) → QuietStep old new → DisplayStands script place old
+      → DisplayStands script (place + 1) new
   display_session text is old new step stands = by_step step
     where
       left : display_lines (drop place script.lines) ≡ display_lines (drop (place + 1) script.lines)
@@ -112,14 +115,17 @@ module _ (script : Script) (place : ℕ) (x : ScriptLine) (at : At script place 
           subst P (sym now) (record {
             follows = subst F (sym mine) stands.follows;
             left = ap (λ es. unread_lines es (display_lines script.lines)) mine ∙ stands.left ∙ left;
-            closing = ap (λ o. frames_close o (begin_time (old ▹ e)) (drop (place + 1) script.lines)) is_open ∙ ap (λ t. frames_close (is_frame_open old) t (drop (place + 1) script.lines)) time ∙ close;
+            closing = ap (λ o. frames_close o (begin_time (old ▹ e)) (drop (place + 1) script.lines)) is_open
+                ∙ ap (λ t. frames_close (is_frame_open old) t (drop (place + 1) script.lines)) time ∙ close;
           })
 
   -- what is left is this line of the display, and what comes after
-  next_is : (text : DisplayLine) → x.body ≡ body.Display text → display_lines (drop place script.lines) ≡ (x.number, text) ∷ display_lines (drop (place + 1) script.lines)
+  next_is : (text : DisplayLine) → x.body ≡ body.Display text
+      → display_lines (drop place script.lines) ≡ (x.number, text) ∷ display_lines (drop (place + 1) script.lines)
   next_is text is = ap display_lines at.left ∙ ap (λ b. display_line x.number b ++ display_lines (drop (place + 1) script.lines)) is
 
-  later_is : (entries : List Entry) (e : Entry) → e.line ≡ x.number → unread_lines (entries ▹ e) (display_lines script.lines) ≡ display_lines (drop (place + 1) script.lines)
+  later_is : (entries : List Entry) (e : Entry) → e.line ≡ x.number
+      → unread_lines (entries ▹ e) (display_lines script.lines) ≡ display_lines (drop (place + 1) script.lines)
   later_is entries e line =
       ap (λ n. filter (λ one. nat_lt n one.0) (display_lines script.lines)) line
       ∙ ap (λ ls. filter (λ one. nat_lt x.number one.0) (display_lines ls)) at.split
@@ -131,14 +137,17 @@ module _ (script : Script) (place : ℕ) (x : ScriptLine) (at : At script place 
       ∙ ap (λ b. keeps_frames (is_frame_open old) (begin_time old) b (λ o t. frames_close o t (drop (place + 1) script.lines))) is) ∙ stands.closing
 
   -- a begin
-  pub begin_time_ok : (time : ℕ) → x.body ≡ body.Display (display.Begin time) → (old : List Entry) → DisplayStands script place old → (not (is_frame_open old) && nat_le (begin_time old) time) ≡ true
+  pub begin_time_ok : (time : ℕ) → x.body ≡ body.Display (display.Begin time) → (old : List Entry) → DisplayStands script place old
+      → (not (is_frame_open old) && nat_le (begin_time old) time) ≡ true
   begin_time_ok time is old stands = and-left _ _ (closing (display.Begin time) is old stands)
 
-  pub display_begin : (time : ℕ) → x.body ≡ body.Display (display.Begin time) → (old : List Entry) → DisplayStands script place old → DisplayStands script (place + 1) (old ▹ entry_of Display x.number [] (Begin time) Done)
+  pub display_begin : (time : ℕ) → x.body ≡ body.Display (display.Begin time) → (old : List Entry) → DisplayStands script place old
+      → DisplayStands script (place + 1) (old ▹ entry_of Display x.number [] (Begin time) Done)
   display_begin time is old stands =
       let e : Entry = entry_of Display x.number [] (Begin time) Done in
       record {
-        follows = display_more (display_lines script.lines) (by_display old) e x.number (display.Begin time) (display_lines (drop (place + 1) script.lines)) stands.follows
+        follows = display_more (display_lines script.lines) (by_display old) e x.number (display.Begin time) (display_lines (drop (place + 1) script.lines))
+            stands.follows
             (stands.left ∙ next_is (display.Begin time) is) (record { line = refl; carried = refl; kind = refl });
         left = later_is (by_display old) e refl;
         closing = and-right _ _ (closing (display.Begin time) is old stands);
@@ -148,18 +157,21 @@ module _ (script : Script) (place : ℕ) (x : ScriptLine) (at : At script place 
   pub done_ok : x.body ≡ body.Display display.Done → (old : List Entry) → DisplayStands script place old → is_frame_open old ≡ true
   done_ok is old stands = and-left _ _ (closing display.Done is old stands)
 
-  pub display_done : x.body ≡ body.Display display.Done → (old : List Entry) → DisplayStands script place old → DisplayStands script (place + 1) (old ▹ entry_of Display x.number [] Finish Done)
+  pub display_done : x.body ≡ body.Display display.Done → (old : List Entry) → DisplayStands script place old
+      → DisplayStands script (place + 1) (old ▹ entry_of Display x.number [] Finish Done)
   display_done is old stands =
       let e : Entry = entry_of Display x.number [] Finish Done in
       record {
-        follows = display_more (display_lines script.lines) (by_display old) e x.number display.Done (display_lines (drop (place + 1) script.lines)) stands.follows
+        follows = display_more (display_lines script.lines) (by_display old) e x.number display.Done (display_lines (drop (place + 1) script.lines))
+            stands.follows
             (stands.left ∙ next_is display.Done is) (record { line = refl; carried = refl; kind = refl });
         left = later_is (by_display old) e refl;
         closing = and-right _ _ (closing display.Done is old stands);
       }
 
   -- a line that begins no frame and ends none
-  pub display_beside : (text : DisplayLine) (kind : Kind) (reply : Reply) → x.body ≡ body.Display text → entry_of_display text ≡ kind → is_begin kind ≡ false → is_finish kind ≡ false
+  pub display_beside : (text : DisplayLine) (kind : Kind) (reply : Reply) → x.body ≡ body.Display text → entry_of_display text ≡ kind → is_begin kind ≡ false
+      → is_finish kind ≡ false
       → ((o : Bool) (t : ℕ) (follows : Bool → ℕ → Bool) → keeps_frames o t (body.Display text) follows ≡ follows o t)
       → (old : List Entry) → DisplayStands script place old → DisplayStands script (place + 1) (old ▹ entry_of Display x.number [] kind reply)
   display_beside text kind reply is makes no_begin no_finish keeps old stands =
@@ -168,7 +180,8 @@ module _ (script : Script) (place : ℕ) (x : ScriptLine) (at : At script place 
       let is_open : is_frame_open (old ▹ e) ≡ is_frame_open old = rw (no_begin, no_finish) refl in
       let time : begin_time (old ▹ e) ≡ begin_time old = rw no_begin refl in
       record {
-        follows = display_more (display_lines script.lines) (by_display old) e x.number text (display_lines rest) stands.follows (stands.left ∙ next_is text is) (record { line = refl; carried = refl; kind = sym makes });
+        follows = display_more (display_lines script.lines) (by_display old) e x.number text (display_lines rest) stands.follows (stands.left ∙ next_is text is)
+            (record { line = refl; carried = refl; kind = sym makes });
         left = later_is (by_display old) e refl;
         closing = ap (λ o. frames_close o (begin_time (old ▹ e)) rest) is_open ∙ ap (λ t. frames_close (is_frame_open old) t rest) time
             ∙ sym (keeps (is_frame_open old) (begin_time old) (λ o t. frames_close o t rest)) ∙ closing text is old stands;
@@ -176,41 +189,99 @@ module _ (script : Script) (place : ℕ) (x : ScriptLine) (at : At script place 
 
   -- ---- room
 
-  pub display_share : (m : Machine) → m.shares ≡ lines_by 0 script.lines ∷ rest_shares script → x.actor ≡ Display → IsSpent script place m.history → HasShare m Display
+  pub display_share : (m : Machine) → m.shares ≡ lines_by 0 script.lines ∷ rest_shares script → x.actor ≡ Display → IsSpent script place m.history
+      → HasShare m Display
   display_share m shares actor spent =
       let s = spent.spent 0 in
-      let l : lines_by 0 (drop place script.lines) ≡ lines_by 0 (drop (place + 1) script.lines) + 1 = ap (lines_by 0) at.left ∙ ap (λ a. lines_by 0 ((record x { actor = a }) ∷ drop (place + 1) script.lines)) actor ∙ grind (arith, common_steps) in
+      let l : lines_by 0 (drop place script.lines) ≡ lines_by 0 (drop (place + 1) script.lines) + 1 =
+      ap (lines_by 0) at.left ∙ ap (λ a. lines_by 0 ((record x { actor = a }) ∷ drop (place + 1) script.lines)) actor ∙ grind (arith, common_steps) in
       rw shares (omega arith)
 
 -- a begin may be entered, and a done
-pub may_begin : (m : Machine) (time : ℕ) → HasShare m Display → (not (is_frame_open m.history) && nat_le (begin_time m.history) time) ≡ true → MayCall m Display [] (Begin time)
+pub may_begin : (m : Machine) (time : ℕ) → HasShare m Display → (not (is_frame_open m.history) && nat_le (begin_time m.history) time) ≡ true
+    → MayCall m Display [] (Begin time)
 may_begin m time share times = record {
-  may = record { acts = refl; lasts = refl; times = times; drafted = refl; calls = refl; links = refl; owned = refl; named = refl; tree = refl; watcher = refl };
+  may = record {
+    acts = refl;
+    lasts = refl;
+    times = times;
+    drafted = refl;
+    calls = refl;
+    links = refl;
+    owned = refl;
+    named = refl;
+    tree = refl;
+    watcher = refl;
+  };
   share = share;
 }
 
 pub may_finish : (m : Machine) → HasShare m Display → is_frame_open m.history ≡ true → MayCall m Display [] Finish
 may_finish m share times = record {
-  may = record { acts = refl; lasts = refl; times = times; drafted = refl; calls = refl; links = refl; owned = refl; named = refl; tree = refl; watcher = refl };
+  may = record {
+    acts = refl;
+    lasts = refl;
+    times = times;
+    drafted = refl;
+    calls = refl;
+    links = refl;
+    owned = refl;
+    named = refl;
+    tree = refl;
+    watcher = refl;
+  };
   share = share;
 }
 
 pub may_signal_fence : (m : Machine) (f : FenceNo) → HasShare m Display → display_owns m.setup f ≡ true → MayCall m Display [] (Signal f)
 may_signal_fence m f share named = record {
-  may = record { acts = refl; lasts = refl; times = refl; drafted = refl; calls = refl; links = refl; owned = refl; named = named; tree = refl; watcher = refl };
+  may = record {
+    acts = refl;
+    lasts = refl;
+    times = refl;
+    drafted = refl;
+    calls = refl;
+    links = refl;
+    owned = refl;
+    named = named;
+    tree = refl;
+    watcher = refl;
+  };
   share = share;
 }
 
 -- so may a pixel ratio that a display may have
 pub may_dpr : (m : Machine) (to : ℕ) → HasShare m Display → is_ratio to ≡ true → MayCall m Display [] (Dpr to)
 may_dpr m to share named = record {
-  may = record { acts = refl; lasts = refl; times = refl; drafted = refl; calls = refl; links = refl; owned = refl; named = named; tree = refl; watcher = refl };
+  may = record {
+    acts = refl;
+    lasts = refl;
+    times = refl;
+    drafted = refl;
+    calls = refl;
+    links = refl;
+    owned = refl;
+    named = named;
+    tree = refl;
+    watcher = refl;
+  };
   share = share;
 }
 
 waits_for : (m : Machine) (c : Cond) → HasShare m Display → display_may (Wait c) ≡ true → names_declared m.setup (Wait c) ≡ true → MayCall m Display [] (Wait c)
 waits_for m c share acts named = record {
-  may = record { acts = acts; lasts = refl; times = refl; drafted = refl; calls = refl; links = refl; owned = refl; named = named; tree = refl; watcher = refl };
+  may = record {
+    acts = acts;
+    lasts = refl;
+    times = refl;
+    drafted = refl;
+    calls = refl;
+    links = refl;
+    owned = refl;
+    named = named;
+    tree = refl;
+    watcher = refl;
+  };
   share = share;
 }
 
@@ -226,7 +297,8 @@ may_wait_for m (asks.Answers n) share played = absurd (cc)
 
 -- an entry that ends no frame leaves the finished ones
 pub finished-beside : (setup : Setup) (old : List Entry) (e : Entry) → is_finish e.kind ≡ false → finished setup (old ▹ e) ≡ finished setup old
-finished-beside setup old e no_finish = ap (λ b. finished setup old ++ cond b (frame_at setup (suc (frames old)) (to_begin old) ∷ []) []) no_finish ∙ append-nil (finished setup old)
+finished-beside setup old e no_finish = ap (λ b. finished setup old ++ cond b (frame_at setup (suc (frames old)) (to_begin old) ∷ []) []) no_finish
+    ∙ append-nil (finished setup old)
 
 -- so does what a session enters
 pub finished-session : (setup : Setup) (old new : List Entry) → QuietStep old new → finished setup new ≡ finished setup old
@@ -246,7 +318,8 @@ module _ (setup : Setup) (old : List Entry) (shown : Shown) (at : ℕ) (views : 
 
   pub frames_session : (new : List Entry) → QuietStep old new → FramesStand setup new shown at views
   frames_session new (same now) = let P : List Entry → Type 0 = λ h. FramesStand setup h shown at views in subst P (sym now) stands
-  frames_session new (more e other quiet now) = let P : List Entry → Type 0 = λ h. FramesStand setup h shown at views in subst P (sym now) (frames_beside e (quiet_begin e.kind quiet))
+  frames_session new (more e other quiet now) = let P : List Entry → Type 0 =
+      λ h. FramesStand setup h shown at views in subst P (sym now) (frames_beside e (quiet_begin e.kind quiet))
 
   pub frames_begin : (n time : ℕ) (new_shown : Shown) (new_at : ℕ) (new_views : SessionSet)
       → new_shown ≡ shown_states setup (old ▹ entry_of Display n [] (Begin time) Done)
@@ -266,7 +339,8 @@ module _ (setup : Setup) (old : List Entry) (shown : Shown) (at : ℕ) (views : 
 
 module _ (setup : Setup) (old : List Entry) (last : LastFrame) (answers : List HitAnswer) (stands : AnswersStand setup old last answers) where
   -- an entry that ends no frame and asks for no point
-  pub answers_beside : (e : Entry) → is_finish e.kind ≡ false → answer_to e (frames old) (hits_at setup (to_finished old)) e.kind ≡ [] → AnswersStand setup (old ▹ e) last answers
+  pub answers_beside : (e : Entry) → is_finish e.kind ≡ false → answer_to e (frames old) (hits_at setup (to_finished old)) e.kind ≡ []
+      → AnswersStand setup (old ▹ e) last answers
   answers_beside e no_finish none =
       let ended : to_finished (old ▹ e) ≡ to_finished old = rw no_finish refl in
       let as_many : frames (old ▹ e) ≡ frames old = rw no_finish refl in
@@ -285,7 +359,8 @@ module _ (setup : Setup) (old : List Entry) (last : LastFrame) (answers : List H
       subst P (sym now) (answers_beside e (quiet_finish e.kind quiet) (quiet_answers e (frames old) (hits_at setup (to_finished old)) e.kind quiet))
 
   -- the end of a frame
-  pub answers_done : (n : ℕ) (then : LastFrame) → then.frame.0 ≡ suc (frames old) → IsLast setup then → then.reuse ≡ shown_states setup (to_begin old) → then.ratio ≡ ratio setup (to_begin old)
+  pub answers_done : (n : ℕ) (then : LastFrame) → then.frame.0 ≡ suc (frames old) → IsLast setup then → then.reuse ≡ shown_states setup (to_begin old)
+      → then.ratio ≡ ratio setup (to_begin old)
       → AnswersStand setup (old ▹ entry_of Display n [] Finish Done) then answers
   answers_done n then number is showing scaling = record {
     number = number;
@@ -307,9 +382,11 @@ module _ (setup : Setup) (old : List Entry) (last : LastFrame) (answers : List H
 
   -- a point
   pub answers_point : (n : ℕ) (x y : ℤ) (then : LastFrame) (all : List HitAnswer) → StaysLast setup last then
-      → all ≡ answers ++ (record { actor = Display; line = n; frame = last.frame; hits = hit_list (at_ratio last.ratio setup) last.reuse x y }) ∷ [] → AnswersStand setup (old ▹ entry_of Display n [] (Hit x y) Done) then all
+      → all ≡ answers ++ (record { actor = Display; line = n; frame = last.frame; hits = hit_list (at_ratio last.ratio setup) last.reuse x y }) ∷ []
+      → AnswersStand setup (old ▹ entry_of Display n [] (Hit x y) Done) then all
   answers_point n x y then all stays is =
-      let hits : hit_list (at_ratio last.ratio setup) last.reuse x y ≡ hits_at setup (to_finished old) x y = λ i. hit_list (at_ratio (stands.scaling i) setup) (stands.showing i) x y in
+      let hits : hit_list (at_ratio last.ratio setup) last.reuse x y ≡ hits_at setup (to_finished old) x y =
+      λ i. hit_list (at_ratio (stands.scaling i) setup) (stands.showing i) x y in
       let one : FrameNo → List point.Hit → List HitAnswer = λ f hs. (record { actor = Display; line = n; frame = f; hits = hs }) ∷ [] in
       let number : last.frame ≡ record { 0 = frames old } = ap (λ (k : ℕ). let f : FrameNo = record { 0 = k } in f) stands.number in
       record {
@@ -318,7 +395,8 @@ module _ (setup : Setup) (old : List Entry) (last : LastFrame) (answers : List H
         showing = stays.reuse ∙ stands.showing;
         scaling = stays.ratio ∙ stands.scaling;
         answering = is ∙ ap (λ (given : List HitAnswer). given ++ one last.frame (hit_list (at_ratio last.ratio setup) last.reuse x y)) stands.answering
-            ∙ ap (λ (f : FrameNo). answers_of setup old ++ one f (hit_list (at_ratio last.ratio setup) last.reuse x y)) number ∙ ap (λ (hs : List point.Hit). answers_of setup old ++ one (record { 0 = frames old }) hs) hits;
+            ∙ ap (λ (f : FrameNo). answers_of setup old ++ one f (hit_list (at_ratio last.ratio setup) last.reuse x y)) number
+            ∙ ap (λ (hs : List point.Hit). answers_of setup old ++ one (record { 0 = frames old }) hs) hits;
       }
 
 pub may_hit : (m : Machine) (x y : ℤ) → HasShare m Display → MayCall m Display [] (Hit x y)

@@ -29,8 +29,10 @@ use Rattle.flat_play.specs.Playing.{HasPlayed}
 -- ---- all finished frames of a legal history
 
 -- a test that the frame of each begin passes
-module _ (setup : Setup) (test : FrameOut → Bool) (passes : (n : ℕ) (before : List Entry) → Legal setup before → test (frame_at setup n (to_begin before)) ≡ true) where
-  one-frame : (finish : Bool) (n : ℕ) (before : List Entry) → Legal setup before → list_all test (cond finish (frame_at setup n (to_begin before) ∷ []) []) ≡ true
+module _ (setup : Setup) (test : FrameOut → Bool) (passes : (n : ℕ) (before : List Entry) → Legal setup before
+    → test (frame_at setup n (to_begin before)) ≡ true) where
+  one-frame : (finish : Bool) (n : ℕ) (before : List Entry) → Legal setup before
+      → list_all test (cond finish (frame_at setup n (to_begin before) ∷ []) []) ≡ true
   one-frame true n before legal = and-true (passes n before legal) refl
   one-frame false n before legal = refl
 
@@ -44,9 +46,12 @@ within : (views states sessions : ℕ) → views ≤ states → states ≡ sessi
 within views states sessions below each = grind (arith, nat_tests)
 
 -- the views are a tree
-pub trees-finished : ViewsAreATree → BegunStatesFit → (setup : Setup) (history : List Entry) → Legal setup history → IsTrue (list_all (λ out. is_tree out.tree.nodes) (finished setup history))
+pub trees-finished : ViewsAreATree → BegunStatesFit → (setup : Setup) (history : List Entry) → Legal setup history
+    → IsTrue (list_all (λ out. is_tree out.tree.nodes) (finished setup history))
 trees-finished tree begun setup history legal =
-    all-finished setup (λ (out : FrameOut). is_tree out.tree.nodes) (λ n before before_legal. tree (setup_at setup (to_begin before)) (shown_states setup (to_begin before)) (fits-at (ratio setup (to_begin before)) setup (shown_states setup (to_begin before)) (begun setup before before_legal))) history legal
+    all-finished setup (λ (out : FrameOut). is_tree out.tree.nodes)
+    (λ n before before_legal. tree (setup_at setup (to_begin before)) (shown_states setup (to_begin before))
+    (fits-at (ratio setup (to_begin before)) setup (shown_states setup (to_begin before)) (begun setup before before_legal))) history legal
 
 -- and no more than there are sessions
 pub few-finished : ViewsAreFew → BegunStatesFit → EachSessionHasOneState → (setup : Setup) (history : List Entry) → Legal setup history
@@ -56,17 +61,20 @@ few-finished few begun each setup history legal =
     (λ n before before_legal.
     let shown : Shown = shown_states setup (to_begin before) in
     let there : Setup = setup_at setup (to_begin before) in
-    within (length (view_nodes there shown)) (length shown) setup.sessions (few there shown (fits-at (ratio setup (to_begin before)) setup shown (begun setup before before_legal))) (each setup (to_begin before)))
+    within (length (view_nodes there shown)) (length shown) setup.sessions
+    (few there shown (fits-at (ratio setup (to_begin before)) setup shown (begun setup before before_legal))) (each setup (to_begin before)))
     history legal
 
 -- ---- the frames of a script that was played
 
-module _ (script : Script) (board : Machine) (kept : Kept) (answers : List HitAnswer) (played : HasPlayed script board kept answers) (legal : Legal board.setup board.history) where
+module _ (script : Script) (board : Machine) (kept : Kept) (answers : List HitAnswer) (played : HasPlayed script board kept answers)
+    (legal : Legal board.setup board.history) where
   legal_here : Legal script.setup board.history
   legal_here = let L : Setup → Type 0 = λ setup. Legal setup board.history in subst L played.setup legal
 
   pub trees-played : ViewsAreATree → BegunStatesFit → IsTrue (list_all (λ out. is_tree out.tree.nodes) (finished script.setup board.history))
   trees-played tree begun = trees-finished tree begun script.setup board.history legal_here
 
-  pub few-played : ViewsAreFew → BegunStatesFit → EachSessionHasOneState → IsTrue (list_all (λ out. nat_le (length out.tree.nodes) script.setup.sessions) (finished script.setup board.history))
+  pub few-played : ViewsAreFew → BegunStatesFit → EachSessionHasOneState
+      → IsTrue (list_all (λ out. nat_le (length out.tree.nodes) script.setup.sessions) (finished script.setup board.history))
   few-played few begun each = few-finished few begun each script.setup board.history legal_here

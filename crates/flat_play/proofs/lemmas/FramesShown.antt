@@ -40,8 +40,10 @@ pub all-finished : (history : List Entry) → is_frame_open history ≡ false �
 all-finished [] shut = refl
 all-finished (before ▹ entry) shut = by_kind (all-finished before) (is_begin entry.kind) refl (is_finish entry.kind) refl
   where
-    by_kind : (is_frame_open before ≡ false → to_finished before ≡ to_begin before) → (b : Bool) → is_begin entry.kind ≡ b → (f : Bool) → is_finish entry.kind ≡ f → to_finished (before ▹ entry) ≡ to_begin (before ▹ entry)
-    by_kind earlier true begins f is = absurd (let wrong : true ≡ false = sym (ap (λ b. b || (not (is_finish entry.kind) && is_frame_open before)) begins) ∙ shut in cc)
+    by_kind : (is_frame_open before ≡ false → to_finished before ≡ to_begin before) → (b : Bool) → is_begin entry.kind ≡ b → (f : Bool)
+        → is_finish entry.kind ≡ f → to_finished (before ▹ entry) ≡ to_begin (before ▹ entry)
+    by_kind earlier true begins f is = absurd (let wrong : true ≡ false = sym (ap (λ b. b || (not (is_finish entry.kind) && is_frame_open before)) begins)
+        ∙ shut in cc)
     by_kind earlier false begins true ends = rw (begins, ends) refl
     by_kind earlier false begins false ends =
         let rests : is_frame_open before ≡ false = sym (λ i. begins i || (not (ends i) && is_frame_open before)) ∙ shut in
@@ -49,7 +51,8 @@ all-finished (before ▹ entry) shut = by_kind (all-finished before) (is_begin e
 
 -- ---- the display alone finishes frames
 
-one_of_display : (setup : Setup) (before : List Entry) (entry : Entry) → may_act setup entry.kind entry.actor ≡ true → frames before ≤ made 0 before → frames (before ▹ entry) ≤ made 0 (before ▹ entry)
+one_of_display : (setup : Setup) (before : List Entry) (entry : Entry) → may_act setup entry.kind entry.actor ≡ true → frames before ≤ made 0 before
+    → frames (before ▹ entry) ≤ made 0 (before ▹ entry)
 one_of_display setup before entry acts few = by_actor entry.actor refl (is_finish entry.kind) refl
   where
     grown : made 0 (before ▹ entry) ≡ made 0 before + cond (seat_number entry.actor == 0) 1 0
@@ -60,7 +63,8 @@ one_of_display setup before entry acts few = by_actor entry.actor refl (is_finis
     frames_grow false is = rw is (omega arith)
 
     by_actor : (actor : Actor) → entry.actor ≡ actor → (b : Bool) → is_finish entry.kind ≡ b → frames (before ▹ entry) ≤ made 0 (before ▹ entry)
-    by_actor Display is true finish = let seat : ◌≡◌ {A = ℕ} (cond (seat_number entry.actor == 0) 1 0) 1 = ap (λ (a : Actor). cond (seat_number a == 0) 1 0) is in let f = frames_grow true finish in omega (arith, grown, seat, f)
+    by_actor Display is true finish = let seat : ◌≡◌ {A = ℕ} (cond (seat_number entry.actor == 0) 1 0) 1 =
+        ap (λ (a : Actor). cond (seat_number a == 0) 1 0) is in let f = frames_grow true finish in omega (arith, grown, seat, f)
     by_actor _ is false finish = let f = frames_grow false finish in omega (arith, grown, f)
     by_actor (Session s) is true finish =
         let may = and-left (session_may entry.kind) (is_declared setup s) (sym (ap (may_act setup entry.kind) is) ∙ acts) in

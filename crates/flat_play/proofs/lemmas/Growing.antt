@@ -18,4 +18,5 @@ is_quiet _ = true
 -- A board stays, or has one entry more of an actor and a line.
 pub data Grows (old new : Machine) (who : Actor) (number : ℕ) : Type 0 where
   stays : new ≡ old → Grows old new who number
-  grows : (carries : List Call) (kind : Kind) (reply : Reply) → is_quiet kind ≡ true → new ≡ entered old who number carries kind reply → Grows old new who number
+  grows : (carries : List Call) (kind : Kind) (reply : Reply) → is_quiet kind ≡ true → new ≡ entered old who number carries kind reply
+      → Grows old new who number

@@ -40,6 +40,7 @@ joined-again setup last new is number shows scales joined = record {
   is = record {
     count = ap length shows ∙ is.count;
     fits = subst (FitsSetup setup) (sym shows) is.fits;
-    joined = subst (λ (r : ℕ). IsJoined (at_ratio r setup) new.reuse new.joined) (sym scales) (subst (λ (shown : Shown). IsJoined (at_ratio last.ratio setup) shown new.joined) (sym shows) joined);
+    joined = subst (λ (r : ℕ). IsJoined (at_ratio r setup) new.reuse new.joined) (sym scales)
+        (subst (λ (shown : Shown). IsJoined (at_ratio last.ratio setup) shown new.joined) (sym shows) joined);
   };
 }

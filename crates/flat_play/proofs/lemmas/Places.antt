@@ -1,5 +1,6 @@
 -- A line of a script at its place.
-use Rattle.std.proofs.Common.{◌≡◌, ℕ, ◌+◌, ◌<◌, true, false, nat_le, List, [], ◌∷◌, ◌++◌, length, take, drop, get_or, zero, suc, refl, sym, ap, ◌∙◌, subst, arith, add-one, Some, slice_get}
+use Rattle.std.proofs.Common.{◌≡◌, ℕ, ◌+◌, ◌<◌, true, false, nat_le, List, [], ◌∷◌, ◌++◌, length, take, drop, get_or, zero, suc, refl, sym, ap, ◌∙◌, subst}
+use Rattle.std.proofs.Common.{arith, add-one, Some, slice_get}
 use Rattle.std.specs.List.{list_all, AllByRecursion}
 use Rattle.std.proofs.Math.Seq.{drop-cons}
 use Rattle.std.proofs.lemmas.Bool.{eq-eqb}
@@ -34,7 +35,8 @@ module _ {A : Type 0} (xs : List A) (i : ℕ) (x : A) (at : slice_get xs i ≡ S
   item_is = let e : Some (get_or xs i x) ≡ Some x = sym (slice_get-get_or xs i x within) ∙ at in cc
 
   pub drop_at : drop i xs ≡ x ∷ drop (i + 1) xs
-  drop_at = let inside : i < length xs = within in drop-cons xs i x inside ∙ ap (λ n. get_or xs i x ∷ drop n xs) (sym (add-one i)) ∙ ap (λ y. y ∷ drop (i + 1) xs) item_is
+  drop_at = let inside : i < length xs = within in drop-cons xs i x inside ∙ ap (λ n. get_or xs i x ∷ drop n xs) (sym (add-one i))
+      ∙ ap (λ y. y ∷ drop (i + 1) xs) item_is
 
   pub take_at : take (i + 1) xs ≡ take i xs ++ x ∷ []
   take_at = take_more xs i x within ∙ ap (λ y. take i xs ++ y ∷ []) item_is
@@ -102,7 +104,8 @@ here script s place number text playable at =
     all-at (λ (one : ScriptLine). is_played script.setup one.actor one.body) (take place all) next (drop (place + 1) all)
     (ap (list_all (λ (one : ScriptLine). is_played script.setup one.actor one.body)) (sym split) ∙ played_all script playable) in
     record {
-      taken = ap (session_lines s) (take_at all place next at) ∙ flat_map-append (λ (one : ScriptLine). session_line (is_session s one.actor) one.number one.body) (take place all) (next ∷ [])
+      taken = ap (session_lines s) (take_at all place next at)
+          ∙ flat_map-append (λ (one : ScriptLine). session_line (is_session s one.actor) one.number one.body) (take place all) (next ∷ [])
           ∙ ap (λ t. session_lines s (take place all) ++ (t ++ [])) (own_line s number text);
       last = ap (last_number 0) (take_at all place next at) ∙ last_more 0 (take place all) next;
       above = last_below 0 (take place all) next (drop (place + 1) all) rise;

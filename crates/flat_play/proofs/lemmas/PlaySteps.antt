@@ -1,5 +1,6 @@
 -- The whole run after one more line of the script.
-use Rattle.std.proofs.Common.{◌≡◌, ◌≢◌, ℕ, ℤ, zero, suc, ◌+◌, ◌-◌, ◌<◌, ◌≤◌, Bool, true, false, not, ◌==◌, nat_lt, nat_le, List, [], ◌∷◌, ◌++◌, length, map, get_or, set, refl, sym, ap, ◌∙◌, subst, arith, append-nil, None, get_or-set_other, get_or-set_same}
+use Rattle.std.proofs.Common.{◌≡◌, ◌≢◌, ℕ, ℤ, zero, suc, ◌+◌, ◌-◌, ◌<◌, ◌≤◌, Bool, true, false, not, ◌==◌, nat_lt, nat_le, List, [], ◌∷◌, ◌++◌, length, map}
+use Rattle.std.proofs.Common.{get_or, set, refl, sym, ap, ◌∙◌, subst, arith, append-nil, None, get_or-set_other, get_or-set_same}
 use Rattle.std.proofs.lemmas.List.{length-set, map-append, get_or_append_left}
 use Rattle.std.proofs.Math.Seq.{get_or-append_seam}
 use Rattle.std.proofs.lemmas.Bool.{eq-eqb, eqb-true}
@@ -43,10 +44,13 @@ use Rattle.flat_play.specs.Last.{IsLast, StaysLast}
 use Rattle.flat_report.specs.declared.report.HitAnswer.{HitAnswer}
 use Rattle.flat_session.specs.declared.reader.Reader.{Reader}
 use Rattle.flat_playable.specs.Playable.{is_played, keeps_frames}
-use Rattle.flat_play.specs.Playing.{IsSpent, lines_by, shares_of, ReaderStands, ReadersStand, DisplayStands, FramesStand, PlayStands, BeginsFrame, FinishesFrame, EntersBeside, AsksPoint, AnswersStand, HasViews, session_text, display_text}
+use Rattle.flat_play.specs.Playing.{IsSpent, lines_by, shares_of, ReaderStands, ReadersStand, DisplayStands, FramesStand, PlayStands, BeginsFrame}
+use Rattle.flat_play.specs.Playing.{FinishesFrame, EntersBeside, AsksPoint, AnswersStand, HasViews, session_text, display_text}
 use Rattle.flat_play.proofs.lemmas.Growing.{Grows, grows, stays, is_quiet}
 use Rattle.flat_play.proofs.lemmas.FramesShown.{all-finished}
-use Rattle.flat_play.proofs.lemmas.DisplaySteps.{QuietStep, begin_time_ok, quiet_begin, quiet_finish, quiet_end, quiet_answers, answers_session, answers_beside, answers_done, answers_point, answers_stay, display_session, display_probe, display_begin, display_done, display_beside, finished-beside, finished-session, frames_session, frames_beside, frames_begin, frames_done}
+use Rattle.flat_play.proofs.lemmas.DisplaySteps.{QuietStep, begin_time_ok, quiet_begin, quiet_finish, quiet_end, quiet_answers, answers_session, answers_beside}
+use Rattle.flat_play.proofs.lemmas.DisplaySteps.{answers_done, answers_point, answers_stay, display_session, display_probe, display_begin, display_done}
+use Rattle.flat_play.proofs.lemmas.DisplaySteps.{display_beside, finished-beside, finished-session, frames_session, frames_beside, frames_begin, frames_done}
 use Rattle.flat_play.proofs.lemmas.DisplaySteps as quiet
 use Rattle.flat_rules.proofs.lemmas.ShownList.{length-listed}
 use Rattle.flat_play.proofs.lemmas.Steps.{At, Step, same, more, order_more, spent_more, reader_other}
@@ -54,7 +58,8 @@ use Rattle.flat_base.proofs.lemmas.Tests.{and-left, and-right}
 
 -- the same is kept of the same frames
 pub keeps_same : (script : Script) (old new : Kept) (was now : List FrameOut) → new ≡ old → now ≡ was → Keeps script old was → Keeps script new now
-keeps_same script old new was now kept_is frames_are keeps = let P : List FrameOut → Type 0 = Keeps script old in let Q : Kept → Type 0 = λ k. Keeps script k now in subst Q (sym kept_is) (subst P (sym frames_are) keeps)
+keeps_same script old new was now kept_is frames_are keeps = let P : List FrameOut → Type 0 = Keeps script old in let Q : Kept → Type 0 =
+    λ k. Keeps script k now in subst Q (sym kept_is) (subst P (sym frames_are) keeps)
 
 shut : (is_open : Bool) → not is_open ≡ true → is_open ≡ false
 shut true is = absurd (let wrong : false ≡ true = is in cc)
@@ -65,11 +70,13 @@ shut false is = refl
 abbrev share_of : Script → SessionNo → ℕ
 share_of script s = lines_by s.0 script.lines + 1
 
-last_share : (script : Script) (n k : ℕ) (b : Bool) → nat_lt k n ≡ b → k < suc n → (k < n → get_or (map (share_of script) (sessions_to n)) k 0 ≡ lines_by (suc k) script.lines + 1)
+last_share : (script : Script) (n k : ℕ) (b : Bool) → nat_lt k n ≡ b → k < suc n
+    → (k < n → get_or (map (share_of script) (sessions_to n)) k 0 ≡ lines_by (suc k) script.lines + 1)
     → get_or (map (share_of script) (sessions_to n) ++ (lines_by (suc n) script.lines + 1) ∷ []) k 0 ≡ lines_by (suc k) script.lines + 1
 last_share script n k true is below earlier =
     let less : k < n = grind (arith, nat_tests) in
-    let inside : k < length (map (share_of script) (sessions_to n)) = let count : length (map (share_of script) (sessions_to n)) ≡ n = length-listed (share_of script) n in omega arith in
+    let inside : k < length (map (share_of script) (sessions_to n)) = let count : length (map (share_of script) (sessions_to n)) ≡ n =
+    length-listed (share_of script) n in omega arith in
     get_or_append_left (map (share_of script) (sessions_to n)) ((lines_by (suc n) script.lines + 1) ∷ []) 0 k inside ∙ earlier less
 last_share script n k false is below earlier =
     let same : k ≡ n = grind (arith, nat_tests) in
@@ -90,14 +97,18 @@ pub share_is : (script : Script) (n : ℕ) → 0 < n → n ≤ script.setup.sess
 share_is script zero above below = absurd (omega arith)
 share_is script (suc k) above below = share_at script script.setup.sessions k (omega arith)
 
-pub has_room : (script : Script) (m : Machine) (n : ℕ) → 0 < n → n ≤ script.setup.sessions → m.shares ≡ shares_of script → made n m.history ≤ lines_by n script.lines → made n m.history < get_or m.shares n 0
+pub has_room : (script : Script) (m : Machine) (n : ℕ) → 0 < n → n ≤ script.setup.sessions → m.shares ≡ shares_of script
+    → made n m.history ≤ lines_by n script.lines → made n m.history < get_or m.shares n 0
 has_room script m n above below shares few =
     let share : get_or m.shares n 0 ≡ lines_by n script.lines + 1 = ap (λ xs. get_or xs n 0) shares ∙ share_is script n above below in
     omega (arith, few, share)
 
 pub below_declared : (setup : Setup) (s : SessionNo) → is_declared setup s ≡ true → (0 < s.0) × (s.0 ≤ setup.sessions)
-below_declared setup s declared =
-    (let a : nat_lt 0 s.0 ≡ true = and-left _ _ declared in grind (arith, nat_tests), let b : nat_le s.0 setup.sessions ≡ true = and-right (nat_lt 0 s.0) _ declared in grind (arith, nat_tests))
+below_declared setup s declared = (
+  let a : nat_lt 0 s.0 ≡ true = and-left _ _ declared in
+      grind (arith, nat_tests),
+  let b : nat_le s.0 setup.sessions ≡ true = and-right (nat_lt 0 s.0) _ declared in grind (arith, nat_tests),
+)
 
 -- what a board that grows keeps
 record Grown (x : ScriptLine) (old new : Machine) : Type 0 where
@@ -123,60 +134,74 @@ grown_is x s old new actor (grows carries kind reply calm is) =
     }
 
 -- what a session's line leaves of the finished frames
-pub session_finishes : (setup : Setup) (x : ScriptLine) (s : SessionNo) (old new : Machine) → x.actor ≡ Session s → Grows old new (Session s) x.number → finished setup new.history ≡ finished setup old.history
+pub session_finishes : (setup : Setup) (x : ScriptLine) (s : SessionNo) (old new : Machine) → x.actor ≡ Session s → Grows old new (Session s) x.number
+    → finished setup new.history ≡ finished setup old.history
 session_finishes setup x s old new actor grown = finished-session setup old.history new.history (grown_is x s old new actor grown).calm
 
 -- what an entry of the display leaves of them, where it ends no frame
-pub display_finishes : (setup : Setup) (old new : Machine) (n : ℕ) (kind : Kind) (reply : Reply) → is_finish kind ≡ false → new ≡ entered old Display n [] kind reply → finished setup new.history ≡ finished setup old.history
-display_finishes setup old new n kind reply no_finish board = ap (λ (m : Machine). finished setup m.history) board ∙ finished-beside setup old.history (entry_of Display n [] kind reply) no_finish
+pub display_finishes : (setup : Setup) (old new : Machine) (n : ℕ) (kind : Kind) (reply : Reply) → is_finish kind ≡ false
+    → new ≡ entered old Display n [] kind reply → finished setup new.history ≡ finished setup old.history
+display_finishes setup old new n kind reply no_finish board =
+    ap (λ (m : Machine). finished setup m.history) board ∙ finished-beside setup old.history (entry_of Display n [] kind reply) no_finish
 
 pub not_same : (n m : ℕ) → n ≢ m → (n == m) ≡ false
 not_same n m other = grind (arith, nat_tests)
 
 module _ (script : Script) (place : ℕ) (x : ScriptLine) (at : At script place x) where
-  pub session_share : (m : Machine) (s : SessionNo) → m.shares ≡ shares_of script → is_declared script.setup s ≡ true → IsSpent script place m.history → HasShare m (Session s)
+  pub session_share : (m : Machine) (s : SessionNo) → m.shares ≡ shares_of script → is_declared script.setup s ≡ true → IsSpent script place m.history
+      → HasShare m (Session s)
   session_share m s shares declared spent =
       let within = below_declared script.setup s declared in
       let few : made s.0 m.history ≤ lines_by s.0 script.lines = let now = spent.spent s.0 in omega arith in
       has_room script m s.0 within.0 within.1 shares few
 
   -- all readers, where one has played the line
-  readers_more : (s : SessionNo) (old new : List Entry) (readers : List Reader) (reader : Reader) → x.actor ≡ Session s → 0 < s.0 → s.0 ≤ length readers → Step x old new
-      → ReadersStand script place old readers → ReaderStands script s (place + 1) new reader → ReadersStand script (place + 1) new (set readers (s.0 - 1) reader)
+  readers_more : (s : SessionNo) (old new : List Entry) (readers : List Reader) (reader : Reader) → x.actor ≡ Session s → 0 < s.0 → s.0 ≤ length readers
+      → Step x old new
+      → ReadersStand script place old readers → ReaderStands script s (place + 1) new reader
+      → ReadersStand script (place + 1) new (set readers (s.0 - 1) reader)
   readers_more s old new readers reader actor above below step stand mine = record {
     count = length-set readers (s.0 - 1) reader ∙ stand.count;
     each = λ k d inside. by_place k d (omega (arith, length-set readers (s.0 - 1) reader)) (k + 1 == s.0) refl;
   }
     where
-      by_place : (k : ℕ) (d : Reader) → k < length readers → (b : Bool) → (k + 1 == s.0) ≡ b → ReaderStands script (record { 0 = k + 1 }) (place + 1) new (get_or (set readers (s.0 - 1) reader) k d)
+      by_place : (k : ℕ) (d : Reader) → k < length readers → (b : Bool) → (k + 1 == s.0) ≡ b
+          → ReaderStands script (record { 0 = k + 1 }) (place + 1) new (get_or (set readers (s.0 - 1) reader) k d)
       by_place k d inside true is =
           let here : k + 1 ≡ s.0 = eqb-true (k + 1) s.0 is in
           let index : k ≡ s.0 - 1 = omega arith in
           let P : ℕ → Type 0 = λ n. ReaderStands script (record { 0 = n }) (place + 1) new reader in
           let Q : Reader → Type 0 = λ p. ReaderStands script (record { 0 = k + 1 }) (place + 1) new p in
           let within : s.0 - 1 < length readers = omega arith in
-          let found : get_or (set readers (s.0 - 1) reader) k d ≡ reader = ap (λ n. get_or (set readers (s.0 - 1) reader) n d) index ∙ rw get_or-set_same refl in
+          let found : get_or (set readers (s.0 - 1) reader) k d ≡ reader =
+          ap (λ n. get_or (set readers (s.0 - 1) reader) n d) index ∙ rw get_or-set_same refl in
           subst Q (sym found) (subst P (sym here) mine)
       by_place k d inside false is =
-          let other : k ≢ s.0 - 1 = (λ same. let yes : (k + 1 == s.0) ≡ true = eq-eqb (k + 1) s.0 (omega arith) in let both : true ≡ false = sym yes ∙ is in cc) in
-          let differ : s.0 ≢ k + 1 = (λ same. let yes : (k + 1 == s.0) ≡ true = eq-eqb (k + 1) s.0 (sym same) in let both : true ≡ false = sym yes ∙ is in cc) in
+          let other : k ≢ s.0 - 1 = (λ same. let yes : (k + 1 == s.0) ≡ true = eq-eqb (k + 1) s.0 (omega arith) in let both : true ≡ false = sym yes ∙ is in
+          cc) in
+          let differ : s.0 ≢ k + 1 = (λ same. let yes : (k + 1 == s.0) ≡ true = eq-eqb (k + 1) s.0 (sym same) in let both : true ≡ false = sym yes ∙ is in
+          cc) in
           let apart : is_session (record { 0 = k + 1 }) x.actor ≡ false = ap (is_session (record { 0 = k + 1 })) actor ∙ not_same s.0 (k + 1) differ in
           rw get_or-set_other (reader_other script place x at (record { 0 = k + 1 }) apart old new (get_or readers k d) step (stand.each k d inside))
 
   -- a line of no session
-  readers_beside : (readers : List Reader) (old new : List Entry) → ((s : SessionNo) → is_session s x.actor ≡ false) → Step x old new → ReadersStand script place old readers → ReadersStand script (place + 1) new readers
+  readers_beside : (readers : List Reader) (old new : List Entry) → ((s : SessionNo) → is_session s x.actor ≡ false) → Step x old new
+      → ReadersStand script place old readers → ReadersStand script (place + 1) new readers
   readers_beside readers old new other step stand = record {
     count = stand.count;
-    each = λ k d inside. reader_other script place x at (record { 0 = k + 1 }) (other (record { 0 = k + 1 })) old new (get_or readers k d) step (stand.each k d inside);
+    each = λ k d inside. reader_other script place x at (record { 0 = k + 1 }) (other (record { 0 = k + 1 })) old new (get_or readers k d) step
+        (stand.each k d inside);
   }
 
-  display_readers : (old_readers readers : List Reader) (old new : List Entry) → x.actor ≡ Display → Step x old new → readers ≡ old_readers → ReadersStand script place old old_readers → ReadersStand script (place + 1) new readers
+  display_readers : (old_readers readers : List Reader) (old new : List Entry) → x.actor ≡ Display → Step x old new → readers ≡ old_readers
+      → ReadersStand script place old old_readers → ReadersStand script (place + 1) new readers
   display_readers old_readers readers old new actor step is stand =
       let P : List Reader → Type 0 = ReadersStand script (place + 1) new in
       subst P (sym is) (readers_beside old_readers old new (λ s. ap (is_session s) actor) step stand)
 
   -- a line of a probe, which leaves the run as it is
-  pub probe_more : (play : Play) (p : ℕ) (asked : ProbeLine) → x.actor ≡ Probe p → x.body ≡ body.Probe asked → PlayStands script place play → PlayStands script (place + 1) play
+  pub probe_more : (play : Play) (p : ℕ) (asked : ProbeLine) → x.actor ≡ Probe p → x.body ≡ body.Probe asked → PlayStands script place play
+      → PlayStands script (place + 1) play
   probe_more play p asked actor is stands =
       let h : List Entry = play.board.history in
       record {
@@ -194,9 +219,12 @@ module _ (script : Script) (place : ℕ) (x : ScriptLine) (at : At script place 
       }
 
   -- a line of a session, which its reader has played
-  pub session_more : (old new : Play) (s : SessionNo) (text : Line) (reader : Reader) → x.actor ≡ Session s → x.body ≡ body.Session text → is_declared script.setup s ≡ true → PlayStands script place old
-      → new.readers.items ≡ set old.readers.items (s.0 - 1) reader → ReaderStands script s (place + 1) new.board.history reader → Grows old.board new.board (Session s) x.number
-      → new.shown ≡ old.shown → new.ratio ≡ old.ratio → new.with_view ≡ old.with_view → new.kept ≡ old.kept → new.last ≡ old.last → new.answers ≡ old.answers → new.changed ≡ old.changed → PlayStands script (place + 1) new
+  pub session_more : (old new : Play) (s : SessionNo) (text : Line) (reader : Reader) → x.actor ≡ Session s → x.body ≡ body.Session text
+      → is_declared script.setup s ≡ true → PlayStands script place old
+      → new.readers.items ≡ set old.readers.items (s.0 - 1) reader → ReaderStands script s (place + 1) new.board.history reader
+      → Grows old.board new.board (Session s) x.number
+      → new.shown ≡ old.shown → new.ratio ≡ old.ratio → new.with_view ≡ old.with_view → new.kept ≡ old.kept → new.last ≡ old.last → new.answers ≡ old.answers
+      → new.changed ≡ old.changed → PlayStands script (place + 1) new
   session_more old new s text reader actor is declared stands readers_is mine grown shown_is ratio_is views_is kept_is last_is answers_are changed_is =
       let g : Grown x old.board new.board = grown_is x s old.board new.board actor grown in
       let within = below_declared script.setup s declared in
@@ -206,19 +234,23 @@ module _ (script : Script) (place : ℕ) (x : ScriptLine) (at : At script place 
       record {
         setup = g.setup ∙ stands.setup;
         shares = g.shares ∙ stands.shares;
-        readers = subst P (sym readers_is) (readers_more s old.board.history new.board.history old.readers.items reader actor within.0 inside g.step stands.readers mine);
+        readers = subst P (sym readers_is) (readers_more s old.board.history new.board.history old.readers.items reader actor within.0 inside g.step
+            stands.readers mine);
         display = display_session script place x at text is old.board.history new.board.history g.calm stands.display;
         order = order_more script place x at old.board.history new.board.history g.step stands.order;
         spent = spent_more script place x at old.board.history new.board.history g.step stands.spent;
         views = subst V (sym views_is) stands.views;
-        shows = rw (shown_is, ratio_is, views_is) (frames_session script.setup old.board.history old.shown old.ratio old.with_view stands.shows new.board.history g.calm);
-        keeps = keeps_same script old.kept new.kept (finished script.setup old.board.history) (finished script.setup new.board.history) kept_is (finished-session script.setup old.board.history new.board.history g.calm) stands.keeps;
+        shows = rw (shown_is, ratio_is, views_is) (frames_session script.setup old.board.history old.shown old.ratio old.with_view stands.shows
+            new.board.history g.calm);
+        keeps = keeps_same script old.kept new.kept (finished script.setup old.board.history) (finished script.setup new.board.history) kept_is
+            (finished-session script.setup old.board.history new.board.history g.calm) stands.keeps;
         same = rw (changed_is, last_is, shown_is) stands.same;
         answers = rw (last_is, answers_are) (answers_session script.setup old.board.history old.last old.answers stands.answers new.board.history g.calm);
       }
 
   -- a line that begins a frame
-  pub begin_more : (old new : Play) (time : ℕ) → x.actor ≡ Display → x.body ≡ body.Display (display.Begin time) → PlayStands script place old → BeginsFrame old new x.number time → PlayStands script (place + 1) new
+  pub begin_more : (old new : Play) (time : ℕ) → x.actor ≡ Display → x.body ≡ body.Display (display.Begin time) → PlayStands script place old
+      → BeginsFrame old new x.number time → PlayStands script (place + 1) new
   begin_more old new time actor is stands begins =
       let e : Entry = entry_of Display x.number [] (Begin time) Done in
       let h : List Entry = old.board.history in
@@ -226,7 +258,8 @@ module _ (script : Script) (place : ℕ) (x : ScriptLine) (at : At script place 
       let setup : new.board.setup ≡ script.setup = ap (λ (m : Machine). m.setup) begins.board ∙ stands.setup in
       let step : Step x h new.board.history = more e (sym actor) refl refl grown in
       let D : List Entry → Type 0 = DisplayStands script (place + 1) in
-      let shown : new.shown ≡ shown_states script.setup (h ▹ e) = begins.shown ∙ ap (λ st. shown_states st new.board.history) setup ∙ ap (shown_states script.setup) grown in
+      let shown : new.shown ≡ shown_states script.setup (h ▹ e) =
+      begins.shown ∙ ap (λ st. shown_states st new.board.history) setup ∙ ap (shown_states script.setup) grown in
       let scaled : new.ratio ≡ ratio script.setup (h ▹ e) = begins.scaling ∙ ap (λ st. ratio st new.board.history) setup ∙ ap (ratio script.setup) grown in
       let W : Setup → Type 0 = λ st. HasViews st new.with_view in
       let V : Setup → List Entry → Type 0 = λ st es. (s : SessionNo) → is_declared st s ≡ true → is_member new.with_view s.0 ≡ has_view st es s in
@@ -234,7 +267,8 @@ module _ (script : Script) (place : ℕ) (x : ScriptLine) (at : At script place 
       let V2 : List Entry → Type 0 = V script.setup in
       let F : List Entry → Type 0 = λ es. FramesStand script.setup es new.shown new.ratio new.with_view in
       let S : Shown → Type 0 = λ was. AreSame new.changed was new.shown in
-      let ended : to_finished h ≡ to_begin h = all-finished h (shut (is_frame_open h) (and-left (not (is_frame_open h)) _ (begin_time_ok script place x at time is h stands.display))) in
+      let ended : to_finished h ≡ to_begin h = all-finished h
+      (shut (is_frame_open h) (and-left (not (is_frame_open h)) _ (begin_time_ok script place x at time is h stands.display))) in
       record {
         setup = setup;
         shares = ap (λ (m : Machine). m.shares) begins.board ∙ stands.shares;
@@ -244,14 +278,17 @@ module _ (script : Script) (place : ℕ) (x : ScriptLine) (at : At script place 
         spent = spent_more script place x at h new.board.history step stands.spent;
         views = subst W setup begins.views;
         shows = subst F (sym grown)
-            (frames_begin script.setup h old.shown old.ratio old.with_view stands.shows x.number time new.shown new.ratio new.with_view shown scaled (subst V2 grown (subst V1 setup begins.viewing)));
-        keeps = keeps_same script old.kept new.kept (finished script.setup h) (finished script.setup new.board.history) begins.kept (ap (finished script.setup) grown ∙ append-nil (finished script.setup h)) stands.keeps;
+            (frames_begin script.setup h old.shown old.ratio old.with_view stands.shows x.number time new.shown new.ratio new.with_view shown scaled
+            (subst V2 grown (subst V1 setup begins.viewing)));
+        keeps = keeps_same script old.kept new.kept (finished script.setup h) (finished script.setup new.board.history) begins.kept
+            (ap (finished script.setup) grown ∙ append-nil (finished script.setup h)) stands.keeps;
         same = rw begins.last (subst S (sym (stands.answers.showing ∙ ap (shown_states script.setup) ended ∙ sym stands.shows.showing)) begins.changed);
         answers = rw (grown, begins.last, begins.answers) (answers_beside script.setup h old.last old.answers stands.answers e refl refl);
       }
 
   -- a line that ends one
-  pub finish_more : (old new : Play) → x.actor ≡ Display → x.body ≡ body.Display display.Done → PlayStands script place old → FinishesFrame script old new x.number → PlayStands script (place + 1) new
+  pub finish_more : (old new : Play) → x.actor ≡ Display → x.body ≡ body.Display display.Done → PlayStands script place old
+      → FinishesFrame script old new x.number → PlayStands script (place + 1) new
   finish_more old new actor is stands finishes =
       let e : Entry = entry_of Display x.number [] Finish Done in
       let h : List Entry = old.board.history in
@@ -274,18 +311,22 @@ module _ (script : Script) (place : ℕ) (x : ScriptLine) (at : At script place 
         views = subst V (sym finishes.with_view) stands.views;
         shows = subst F (sym grown) (rw (finishes.shown, finishes.ratio, finishes.with_view)
             (frames_done script.setup h old.shown old.ratio old.with_view stands.shows x.number));
-        keeps = keeps_same script new.kept new.kept (finished script.setup h ++ frame_at script.setup (frames new.board.history) (to_begin h) ∷ []) (finished script.setup new.board.history) refl all (finishes.kept.more (finished script.setup h) stands.keeps);
+        keeps = keeps_same script new.kept new.kept (finished script.setup h ++ frame_at script.setup (frames new.board.history) (to_begin h) ∷ [])
+            (finished script.setup new.board.history) refl all (finishes.kept.more (finished script.setup h) stands.keeps);
         same = λ s within none. ap (λ (states : Shown). state_of states s) (finishes.showing ∙ sym finishes.shown);
         answers = rw (grown, finishes.answers) (answers_done script.setup h old.last old.answers stands.answers x.number new.last (finishes.shows ∙ number)
             (subst L stands.setup finishes.is_last) (finishes.showing ∙ stands.shows.showing) (finishes.scaling ∙ stands.shows.scaling));
       }
 
   -- any of these, by what becomes of the answers
-  entered_more : (old new : Play) (text : DisplayLine) (kind : Kind) (reply : Reply) → x.actor ≡ Display → x.body ≡ body.Display text → entry_of_display text ≡ kind → is_begin kind ≡ false → is_finish kind ≡ false → is_end kind ≡ false
+  entered_more : (old new : Play) (text : DisplayLine) (kind : Kind) (reply : Reply) → x.actor ≡ Display → x.body ≡ body.Display text
+      → entry_of_display text ≡ kind → is_begin kind ≡ false → is_finish kind ≡ false → is_end kind ≡ false
       → ((o : Bool) (t : ℕ) (follows : Bool → ℕ → Bool) → keeps_frames o t (body.Display text) follows ≡ follows o t)
-      → PlayStands script place old → new.board ≡ entered old.board Display x.number [] kind reply → new.shown ≡ old.shown → new.ratio ≡ old.ratio → new.changed ≡ old.changed → new.with_view ≡ old.with_view → new.readers ≡ old.readers → new.kept ≡ old.kept → new.last.reuse ≡ old.last.reuse
+      → PlayStands script place old → new.board ≡ entered old.board Display x.number [] kind reply → new.shown ≡ old.shown → new.ratio ≡ old.ratio
+      → new.changed ≡ old.changed → new.with_view ≡ old.with_view → new.readers ≡ old.readers → new.kept ≡ old.kept → new.last.reuse ≡ old.last.reuse
       → AnswersStand script.setup (old.board.history ▹ entry_of Display x.number [] kind reply) new.last new.answers → PlayStands script (place + 1) new
-  entered_more old new text kind reply actor is makes no_begin no_finish no_end keeps stands board shown_is ratio_is changed_is views_is readers_are kept_is reuse_is answers =
+  entered_more old new text kind reply actor is makes no_begin no_finish no_end keeps stands board shown_is ratio_is changed_is views_is readers_are kept_is
+      reuse_is answers =
       let e : Entry = entry_of Display x.number [] kind reply in
       let h : List Entry = old.board.history in
       let grown : new.board.history ≡ (h ▹ e) = ap (λ (m : Machine). m.history) board in
@@ -301,33 +342,46 @@ module _ (script : Script) (place : ℕ) (x : ScriptLine) (at : At script place 
         order = order_more script place x at h new.board.history step stands.order;
         spent = spent_more script place x at h new.board.history step stands.spent;
         views = subst V (sym views_is) stands.views;
-        shows = subst F (sym grown) (rw (shown_is, ratio_is, views_is) (frames_beside script.setup h old.shown old.ratio old.with_view stands.shows e no_begin));
-        keeps = keeps_same script old.kept new.kept (finished script.setup h) (finished script.setup new.board.history) kept_is (ap (finished script.setup) grown ∙ finished-beside script.setup h e no_finish) stands.keeps;
+        shows = subst F (sym grown) (rw (shown_is, ratio_is, views_is)
+            (frames_beside script.setup h old.shown old.ratio old.with_view stands.shows e no_begin));
+        keeps = keeps_same script old.kept new.kept (finished script.setup h) (finished script.setup new.board.history) kept_is
+            (ap (finished script.setup) grown ∙ finished-beside script.setup h e no_finish) stands.keeps;
         same = rw (changed_is, reuse_is, shown_is) stands.same;
         answers = rw grown answers;
       }
 
   -- a line of the display that begins no frame and ends none
-  pub beside_more : (old new : Play) (text : DisplayLine) (kind : Kind) (reply : Reply) → x.actor ≡ Display → x.body ≡ body.Display text → entry_of_display text ≡ kind → is_quiet kind ≡ true
+  pub beside_more : (old new : Play) (text : DisplayLine) (kind : Kind) (reply : Reply) → x.actor ≡ Display → x.body ≡ body.Display text
+      → entry_of_display text ≡ kind → is_quiet kind ≡ true
       → ((o : Bool) (t : ℕ) (follows : Bool → ℕ → Bool) → keeps_frames o t (body.Display text) follows ≡ follows o t)
       → PlayStands script place old → EntersBeside old new x.number kind reply → PlayStands script (place + 1) new
   beside_more old new text kind reply actor is makes calm keeps stands enters =
       let e : Entry = entry_of Display x.number [] kind reply in
       let h : List Entry = old.board.history in
-      entered_more old new text kind reply actor is makes (quiet_begin kind calm) (quiet_finish kind calm) (quiet_end kind calm) keeps stands enters.board enters.shown enters.ratio enters.changed enters.with_view enters.readers enters.kept (ap (λ (l : LastFrame). l.reuse) enters.last)
-      (rw (enters.last, enters.answers) (answers_beside script.setup h old.last old.answers stands.answers e (quiet_finish kind calm) (quiet_answers e (frames h) (hits_at script.setup (to_finished h)) kind calm)))
+      entered_more old new text kind reply actor is makes (quiet_begin kind calm) (quiet_finish kind calm) (quiet_end kind calm) keeps stands enters.board
+      enters.shown enters.ratio enters.changed enters.with_view enters.readers enters.kept (ap (λ (l : LastFrame). l.reuse) enters.last)
+      (rw (enters.last, enters.answers) (answers_beside script.setup h old.last old.answers stands.answers e (quiet_finish kind calm)
+      (quiet_answers e (frames h) (hits_at script.setup (to_finished h)) kind calm)))
 
   -- a line that asks for a point
-  pub point_more : (old new : Play) (px py : ℤ) → x.actor ≡ Display → x.body ≡ body.Display (display.Hit px py) → PlayStands script place old → AsksPoint old new x.number px py → PlayStands script (place + 1) new
+  pub point_more : (old new : Play) (px py : ℤ) → x.actor ≡ Display → x.body ≡ body.Display (display.Hit px py) → PlayStands script place old
+      → AsksPoint old new x.number px py → PlayStands script (place + 1) new
   point_more old new px py actor is stands asks =
       let L : Setup → Type 0 = λ st. StaysLast st old.last new.last in
-      let given : Setup → List HitAnswer = λ st. (record { actor = Display; line = x.number; frame = old.last.frame; hits = hit_list (at_ratio old.last.ratio st) old.last.reuse px py }) ∷ [] in
-      entered_more old new (display.Hit px py) (Hit px py) Done actor is refl refl refl refl (λ o t follows. refl) stands asks.board asks.shown asks.ratio asks.changed asks.with_view asks.readers asks.kept asks.last.reuse
+      let given : Setup → List HitAnswer = λ st. (record {
+        actor = Display;
+        line = x.number;
+        frame = old.last.frame;
+        hits = hit_list (at_ratio old.last.ratio st) old.last.reuse px py;
+      }) ∷ [] in
+      entered_more old new (display.Hit px py) (Hit px py) Done actor is refl refl refl refl (λ o t follows. refl) stands asks.board asks.shown asks.ratio
+      asks.changed asks.with_view asks.readers asks.kept asks.last.reuse
       (answers_point script.setup old.board.history old.last old.answers stands.answers x.number px py new.last new.answers
       (subst L stands.setup asks.last) (asks.answers ∙ ap (λ st. old.answers ++ given st) stands.setup))
 
 -- what is joined of the last frame plays no part
-pub play_stays : (script : Script) (place : ℕ) (play : Play) (last : LastFrame) → StaysLast script.setup play.last last → PlayStands script place play → PlayStands script place (record play { last = last })
+pub play_stays : (script : Script) (place : ℕ) (play : Play) (last : LastFrame) → StaysLast script.setup play.last last → PlayStands script place play
+    → PlayStands script place (record play { last = last })
 play_stays script place play last kept stands = record {
   setup = stands.setup;
   shares = stands.shares;
@@ -343,7 +397,8 @@ play_stays script place play last kept stands = record {
 }
 
 -- the reader of a session
-pub own_reader : (script : Script) (place : ℕ) (history : List Entry) (readers : List Reader) (s : SessionNo) → is_declared script.setup s ≡ true → ReadersStand script place history readers
+pub own_reader : (script : Script) (place : ℕ) (history : List Entry) (readers : List Reader) (s : SessionNo) → is_declared script.setup s ≡ true
+    → ReadersStand script place history readers
     → (reader : Reader) → reader ≡ get_or readers (s.0 - 1) reader → ReaderStands script s place history reader
 own_reader script place history readers s declared stand reader is =
     let within = below_declared script.setup s declared in
@@ -369,6 +424,10 @@ pub record IsAsked (setup : Setup) (p : ℕ) (text : Body) : Type 0 where
   pub below : p < setup.probes
 
 pub is_asked : (setup : Setup) (p : ℕ) (text : Body) → is_played setup (Probe p) text ≡ true → IsAsked setup p text
-is_asked setup p (body.Probe asked) played = record { asked = asked; is = refl; below = let less : nat_lt p setup.probes ≡ true = played in grind (arith, nat_tests) }
+is_asked setup p (body.Probe asked) played = record {
+  asked = asked;
+  is = refl;
+  below = let less : nat_lt p setup.probes ≡ true = played in grind (arith, nat_tests);
+}
 is_asked setup p (body.Session text) played = absurd (let wrong : false ≡ true = played in cc)
 is_asked setup p (body.Display text) played = absurd (let wrong : false ≡ true = played in cc)

@@ -44,7 +44,8 @@ rise_one false n number _ later less rise = rise_weaker n number later (omega ar
 
 pub session_rise : (s : SessionNo) (n : ℕ) (lines : List ScriptLine) → rise_from n lines ≡ true → Rise n (session_lines s lines)
 session_rise s n [] rise = tt
-session_rise s n (next ∷ later) rise = rise_one (is_session s next.actor) n next.number next.body (session_lines s later) (rise_first n next later rise) (session_rise s next.number later (rise_later n next later rise))
+session_rise s n (next ∷ later) rise = rise_one (is_session s next.actor) n next.number next.body (session_lines s later) (rise_first n next later rise)
+    (session_rise s next.number later (rise_later n next later rise))
 
 -- ---- what a line makes begins no frame and ends none, ends no session and asks for no point
 
@@ -78,20 +79,27 @@ record Came (number : ℕ) (old new : Machine) (before after : Reader) : Type 0 
   few : after.refused ≤ before.refused + 1
   grown : Grows old new (Session before.session) number
 
-came_made : (number : ℕ) (text : Line) (reply : Reply) (old new : Machine) (before after : Reader) (made : Option Kind) → makes_quiet made ≡ true → Makes number text reply old new before after made → Came number old new before after
+came_made : (number : ℕ) (text : Line) (reply : Reply) (old new : Machine) (before after : Reader) (made : Option Kind) → makes_quiet made ≡ true
+    → Makes number text reply old new before after made → Came number old new before after
 came_made number text reply old new before after None calm makes =
     let same : after.refused ≡ before.refused = ap (λ (r : Reader). r.refused) makes.2 in
     record { session = ap (λ (r : Reader). r.session) makes.2; few = omega arith; grown = stays makes.1 }
 came_made number text reply old new before after (Some kind) calm makes =
     let same : after.refused ≡ before.refused = ap (λ (r : Reader). r.refused) makes.rest in
-    record { session = ap (λ (r : Reader). r.session) makes.rest; few = omega arith; grown = grows (before.pending ++ calls_of_line text) kind reply calm makes.entry }
+    record {
+      session = ap (λ (r : Reader). r.session) makes.rest;
+      few = omega arith;
+      grown = grows (before.pending ++ calls_of_line text) kind reply calm makes.entry;
+    }
 
-came : (number : ℕ) (text : Line) (reply : Reply) (old new : Machine) (before after : Reader) (closed : Bool) → Reads number text reply old new before after closed → Came number old new before after
+came : (number : ℕ) (text : Line) (reply : Reply) (old new : Machine) (before after : Reader) (closed : Bool)
+    → Reads number text reply old new before after closed → Came number old new before after
 came number text reply old new before after true reads =
     let more : after.refused ≡ before.refused + 1 = ap (λ (r : Reader). r.refused) reads.2 in
     record { session = ap (λ (r : Reader). r.session) reads.2; few = omega arith; grown = stays reads.1 }
 came number text reply old new before after false reads =
-    came_made number text reply old new before after (made_by_line old before text) (quiet_line old.setup (draft_so_far old.setup (own before.session old.history) before.pending) text) reads
+    came_made number text reply old new before after (made_by_line old before text)
+    (quiet_line old.setup (draft_so_far old.setup (own before.session old.history) before.pending) text) reads
 
 -- ---- a reader and a board
 
@@ -123,7 +131,8 @@ new_stands none script s reader new = record {
 }
 
 -- a session that read one line more
-module _ (script : Script) (s : SessionNo) (place number : ℕ) (text : Line) (here : Here script s place number text) (reply : Reply) (old new : Machine) (before after : Reader) (setup : old.setup ≡ script.setup)
+module _ (script : Script) (s : SessionNo) (place number : ℕ) (text : Line) (here : Here script s place number text) (reply : Reply) (old new : Machine)
+    (before after : Reader) (setup : old.setup ≡ script.setup)
     (stands : ReaderStands script s place old.history before) (reads : Reads number text reply old new before after before.closed) where
   pub reader_grows : Grows old new (Session s) number
   reader_grows =
@@ -153,7 +162,8 @@ module _ (script : Script) (s : SessionNo) (place number : ℕ) (text : Line) (h
       }
 
 -- what a reader asks of a line
-pub reader_owns : (script : Script) (s : SessionNo) (old : Machine) (before : Reader) → old.setup ≡ script.setup → before.session ≡ s → (P : Setup → SessionNo → Type 0) → P script.setup s → P old.setup before.session
+pub reader_owns : (script : Script) (s : SessionNo) (old : Machine) (before : Reader) → old.setup ≡ script.setup → before.session ≡ s
+    → (P : Setup → SessionNo → Type 0) → P script.setup s → P old.setup before.session
 reader_owns script s old before setup session P owned =
     let S : Setup → Type 0 = λ setup. P setup before.session in
     subst S (sym setup) (subst (P script.setup) (sym session) owned)

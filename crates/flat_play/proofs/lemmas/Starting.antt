@@ -1,5 +1,6 @@
 -- The run before its first line.
-use Rattle.std.proofs.Common.{◌≡◌, ℕ, zero, suc, ◌+◌, ◌*◌, ◌<◌, ◌≤◌, Bool, true, false, cond, ◌==◌, not, nat_lt, nat_le, List, [], ◌∷◌, ◌++◌, length, map, sum, get_or, length-append, All, refl, sym, ap, ◌∙◌, subst, arith, add-one, None}
+use Rattle.std.proofs.Common.{◌≡◌, ℕ, zero, suc, ◌+◌, ◌*◌, ◌<◌, ◌≤◌, Bool, true, false, cond, ◌==◌, not, nat_lt, nat_le, List, [], ◌∷◌, ◌++◌, length, map, sum}
+use Rattle.std.proofs.Common.{get_or, length-append, All, refl, sym, ap, ◌∙◌, subst, arith, add-one, None}
 use Rattle.std.specs.List.{list_all, list_any}
 use Rattle.std.specs.Prelude.{slice_index_or}
 use Rattle.std.proofs.lemmas.Bool.Decides.{nat_tests}
@@ -37,7 +38,8 @@ use Rattle.flat_play.specs.Last.{IsLast}
 use Rattle.flat_rules.specs.Shown.{shown_states}
 use Rattle.flat_report.specs.Report.{finished}
 use Rattle.flat_play.specs.Keeping.{Keeps}
-use Rattle.flat_play.specs.Playing.{AnswersStand, lines_by, rest_shares, shares_of, AreNew, ReadersStand, DisplayStands, IsInOrder, IsSpent, FramesStand, PlayStands}
+use Rattle.flat_play.specs.Playing.{AnswersStand, lines_by, rest_shares, shares_of, AreNew, ReadersStand, DisplayStands, IsInOrder, IsSpent, FramesStand}
+use Rattle.flat_play.specs.Playing.{PlayStands}
 use Rattle.flat_play.proofs.lemmas.Places.{few_lines, rises, counted, frames_are, setup_is}
 use Rattle.flat_play.proofs.lemmas.DisplaySteps.{display_numbered}
 use Rattle.flat_base.proofs.lemmas.Tests.{and-left, and-right, and-true}
@@ -55,7 +57,8 @@ shares_length script =
     omega (arith, rest)
 
 -- a script has no more lines than its count
-pub few_from : (n count : ℕ) (lines : List ScriptLine) → n ≤ count → rise_from n lines ≡ true → list_all (λ (next : ScriptLine). nat_le next.number count) lines ≡ true → n + length lines ≤ count
+pub few_from : (n count : ℕ) (lines : List ScriptLine) → n ≤ count → rise_from n lines ≡ true
+    → list_all (λ (next : ScriptLine). nat_le next.number count) lines ≡ true → n + length lines ≤ count
 few_from n count [] below rise all = omega arith
 few_from n count (next ∷ later) below rise all =
     let less : n < next.number = rise_first n next later rise in
@@ -66,12 +69,14 @@ few_from n count (next ∷ later) below rise all =
 
 pub few : (script : Script) → is_playable script ≡ true → length script.lines ≤ SCRIPT_BYTES_MAX
 few script playable =
-    let counted : length script.lines ≤ script.count = let n = few_from 0 script.count script.lines (omega arith) (rises script playable) (counted script playable) in omega arith in
+    let counted : length script.lines ≤ script.count = let n =
+    few_from 0 script.count script.lines (omega arith) (rises script playable) (counted script playable) in omega arith in
     let limit : nat_le script.count SCRIPT_BYTES_MAX ≡ true = few_lines script playable in
     let le : script.count ≤ SCRIPT_BYTES_MAX = grind (arith, nat_tests) in
     omega arith
 
-lines_more : (seat : ℕ) (next : ScriptLine) (later : List ScriptLine) → lines_by seat (next ∷ later) ≡ lines_by seat later + cond (seat_number next.actor == seat) 1 0
+lines_more : (seat : ℕ) (next : ScriptLine) (later : List ScriptLine)
+    → lines_by seat (next ∷ later) ≡ lines_by seat later + cond (seat_number next.actor == seat) 1 0
 lines_more seat next later = grind (arith, common_steps)
 
 at_most_one : (b : Bool) → cond b 1 0 ≤ 1
@@ -87,10 +92,12 @@ by_at_most seat (next ∷ later) =
     omega (arith, rest, one, all)
 
 sum_end : (xs : List ℕ) (x : ℕ) → sum (xs ++ x ∷ []) ≡ sum xs + x
-sum_end xs x = let all : sum (xs ++ x ∷ []) ≡ sum xs + sum (x ∷ []) = sum_by-append (λ (n : ℕ). n) xs (x ∷ []) in let one : 0 + x ≡ x = omega arith in all ∙ ap (λ k. sum xs + k) one
+sum_end xs x = let all : sum (xs ++ x ∷ []) ≡ sum xs + sum (x ∷ []) = sum_by-append (λ (n : ℕ). n) xs (x ∷ []) in let one : 0 + x ≡ x =
+    omega arith in all ∙ ap (λ k. sum xs + k) one
 
 sum_first : (x : ℕ) (xs : List ℕ) → sum (x ∷ xs) ≡ x + sum xs
-sum_first x xs = let all : sum ((x ∷ []) ++ xs) ≡ sum (x ∷ []) + sum xs = sum_by-append (λ (n : ℕ). n) (x ∷ []) xs in let one : 0 + x ≡ x = omega arith in all ∙ ap (λ k. k + sum xs) one
+sum_first x xs = let all : sum ((x ∷ []) ++ xs) ≡ sum (x ∷ []) + sum xs = sum_by-append (λ (n : ℕ). n) (x ∷ []) xs in let one : 0 + x ≡ x =
+    omega arith in all ∙ ap (λ k. k + sum xs) one
 
 -- so many shares, each of at most this
 sum_sessions : (lines : List ScriptLine) (n most : ℕ) → length lines < most → sum (map (λ (s : SessionNo). lines_by s.0 lines + 1) (sessions_to n)) ≤ n * most
@@ -100,7 +107,8 @@ sum_sessions lines (suc n) most below =
     let s : SessionNo = record { 0 = suc n } in
     let before : sum (map f (sessions_to n)) ≤ n * most = sum_sessions lines n most below in
     let one : lines_by (suc n) lines ≤ length lines = by_at_most (suc n) lines in
-    let all : sum (map f (sessions_to n ++ s ∷ [])) ≡ sum (map f (sessions_to n)) + (lines_by (suc n) lines + 1) = ap sum (map-append f (sessions_to n) (s ∷ [])) ∙ sum_end (map f (sessions_to n)) (f s) in
+    let all : sum (map f (sessions_to n ++ s ∷ [])) ≡ sum (map f (sessions_to n)) + (lines_by (suc n) lines + 1) =
+    ap sum (map-append f (sessions_to n) (s ∷ [])) ∙ sum_end (map f (sessions_to n)) (f s) in
     let product : suc n * most ≡ n * most + most = grind arith in
     omega (arith, all, product)
 
@@ -135,7 +143,9 @@ is_numbered setup before within =
     let b : nat_le (before + 1) setup.sessions ≡ true = grind (arith, nat_tests) in
     and-true a b
 
-last_new : (setup : Setup) (readers : List Reader) (reader : Reader) (k : ℕ) (d : Reader) → ((k : ℕ) (d : Reader) → k < length readers → IsNew setup (record { 0 = k + 1 }) (get_or readers k d)) → IsNew setup (record { 0 = length readers + 1 }) reader → k < length readers + 1
+last_new : (setup : Setup) (readers : List Reader) (reader : Reader) (k : ℕ) (d : Reader)
+    → ((k : ℕ) (d : Reader) → k < length readers → IsNew setup (record { 0 = k + 1 }) (get_or readers k d))
+    → IsNew setup (record { 0 = length readers + 1 }) reader → k < length readers + 1
     → (b : Bool) → nat_lt k (length readers) ≡ b → IsNew setup (record { 0 = k + 1 }) (get_or (readers ++ reader ∷ []) k d)
 last_new setup readers reader k d each new below true is =
     let less : k < length readers = grind (arith, nat_tests) in
@@ -147,12 +157,14 @@ last_new setup readers reader k d each new below false is =
     let N : ℕ → Type 0 = λ n. IsNew setup (record { 0 = n + 1 }) (get_or (readers ++ reader ∷ []) n d) in
     subst N (sym same) (subst P (sym (get_or-append_seam readers reader [] d)) new)
 
-pub new_more : (setup : Setup) (before : ℕ) (readers : List Reader) (reader : Reader) → AreNew setup before readers → IsNew setup (record { 0 = before + 1 }) reader → AreNew setup (before + 1) (readers ++ reader ∷ [])
+pub new_more : (setup : Setup) (before : ℕ) (readers : List Reader) (reader : Reader) → AreNew setup before readers
+    → IsNew setup (record { 0 = before + 1 }) reader → AreNew setup (before + 1) (readers ++ reader ∷ [])
 new_more setup before readers reader are new =
     let N : ℕ → Type 0 = λ n. IsNew setup (record { 0 = n + 1 }) reader in
     record {
       count = length-append readers (reader ∷ []) ∙ ap (λ n. n + 1) are.count;
-      each = λ k d within. last_new setup readers reader k d are.each (subst N (sym are.count) new) (omega (arith, length-append readers (reader ∷ []))) (nat_lt k (length readers)) refl;
+      each = λ k d within. last_new setup readers reader k d are.each (subst N (sym are.count) new) (omega (arith, length-append readers (reader ∷ [])))
+          (nat_lt k (length readers)) refl;
     }
 
 -- ---- no line is played
@@ -172,7 +184,10 @@ module _ (script : Script) (playable : is_playable script ≡ true) where
   first_spent = record { spent = λ seat. omega arith }
 
 first_readers : NoneIsRead → (script : Script) (readers : List Reader) → AreNew script.setup script.setup.sessions readers → ReadersStand script 0 [] readers
-first_readers none script readers new = record { count = new.count; each = λ k d within. new_stands none script (record { 0 = k + 1 }) (slice_index_or readers k d) (new.each k d within) }
+first_readers none script readers new = record {
+  count = new.count;
+  each = λ k d within. new_stands none script (record { 0 = k + 1 }) (slice_index_or readers k d) (new.each k d within);
+}
 
 none_of : {A : Type 0} (xs : List A) → list_any (λ x. false) xs ≡ false
 none_of [] = refl
@@ -195,7 +210,8 @@ pub no_members : (set : SessionSet) → list_all not set.has ≡ true → (s : �
 no_members set all zero = refl
 no_members set all (suc before) = all_false set.has all before
 
-pub first_shown : NothingIsShownAtFirst → (setup : Setup) (shown : Shown) (views : SessionSet) → length shown ≡ setup.sessions → All (λ state. state ≡ None) shown
+pub first_shown : NothingIsShownAtFirst → (setup : Setup) (shown : Shown) (views : SessionSet) → length shown ≡ setup.sessions
+    → All (λ state. state ≡ None) shown
     → list_all not views.has ≡ true → FramesStand setup [] shown setup.ratio views
 first_shown at_first setup shown views count none all = record {
   showing = at_first setup shown count none;
@@ -204,15 +220,20 @@ first_shown at_first setup shown views count none all = record {
 }
 
 -- what shows nothing fits
-pub nothing_fits : BegunStatesFit → NothingIsShownAtFirst → (setup : Setup) (shown : Shown) → length shown ≡ setup.sessions → All (λ state. state ≡ None) shown → FitsSetup setup shown
+pub nothing_fits : BegunStatesFit → NothingIsShownAtFirst → (setup : Setup) (shown : Shown) → length shown ≡ setup.sessions → All (λ state. state ≡ None) shown
+    → FitsSetup setup shown
 nothing_fits begun at_first setup shown count none = subst (FitsSetup setup) (sym (at_first setup shown count none)) (begun setup [] tt)
 
 -- nothing is shown, and no frame is finished
-pub first_answers : (setup : Setup) (last : LastFrame) (answers : List HitAnswer) → last.frame.0 ≡ 0 → IsLast setup last → last.reuse ≡ shown_states setup [] → last.ratio ≡ setup.ratio → answers ≡ [] → AnswersStand setup [] last answers
-first_answers setup last answers number is showing scaling nothing = record { number = number; is_last = is; showing = showing; scaling = scaling; answering = nothing }
+pub first_answers : (setup : Setup) (last : LastFrame) (answers : List HitAnswer) → last.frame.0 ≡ 0 → IsLast setup last → last.reuse ≡ shown_states setup []
+    → last.ratio ≡ setup.ratio → answers ≡ [] → AnswersStand setup [] last answers
+first_answers setup last answers number is showing scaling nothing =
+    record { number = number; is_last = is; showing = showing; scaling = scaling; answering = nothing }
 
-pub starts : (script : Script) (play : Play) → is_playable script ≡ true → NoneIsRead → play.board ≡ record { setup = script.setup; shares = shares_of script; history = [] } → AreNew script.setup script.setup.sessions play.readers.items
-    → FramesStand script.setup [] play.shown play.ratio play.with_view → Keeps script play.kept [] → list_all not play.with_view.has ≡ true → AnswersStand script.setup [] play.last play.answers → PlayStands script 0 play
+pub starts : (script : Script) (play : Play) → is_playable script ≡ true → NoneIsRead
+    → play.board ≡ record { setup = script.setup; shares = shares_of script; history = [] } → AreNew script.setup script.setup.sessions play.readers.items
+    → FramesStand script.setup [] play.shown play.ratio play.with_view → Keeps script play.kept [] → list_all not play.with_view.has ≡ true
+    → AnswersStand script.setup [] play.last play.answers → PlayStands script 0 play
 starts script play playable none_is_read board new shows keeps none answers =
     let history : [] ≡ play.board.history = sym (ap (λ (m : Machine). m.history) board) in
     let P : List Entry → Type 0 = λ es. ReadersStand script 0 es play.readers.items in

@@ -1,5 +1,6 @@
 -- The run after one more line of the script.
-use Rattle.std.proofs.Common.{◌≡◌, ℕ, ◌+◌, ◌<◌, Bool, true, false, cond, ◌==◌, List, [], ◌∷◌, ◌++◌, take, drop, refl, sym, ap, ◌∙◌, subst, arith, append-nil, Some, slice_get}
+use Rattle.std.proofs.Common.{◌≡◌, ℕ, ◌+◌, ◌<◌, Bool, true, false, cond, ◌==◌, List, [], ◌∷◌, ◌++◌, take, drop, refl, sym, ap, ◌∙◌, subst, arith, append-nil}
+use Rattle.std.proofs.Common.{Some, slice_get}
 use Rattle.std.specs.List.{list_all}
 use Rattle.std.proofs.lemmas.Grind.{common_steps, flat_map-append}
 use Rattle.flat_base.specs.declared.ids.SessionNo.{SessionNo}
@@ -61,7 +62,11 @@ module _ (script : Script) (place : ℕ) (x : ScriptLine) (at : At script place 
   pub order_more : (old new : List Entry) → Step x old new → IsInOrder script place old → IsInOrder script (place + 1) new
   order_more old new (same is) order =
       let P : List Entry → Type 0 = IsInOrder script (place + 1) in
-      subst P (sym is) (record { rise = order.rise; last = let last = at.last in let above = at.above in let was = order.last in omega arith; no_ends = order.no_ends })
+      subst P (sym is) (record {
+        rise = order.rise;
+        last = let last = at.last in let above = at.above in let was = order.last in omega arith;
+        no_ends = order.no_ends;
+      })
   order_more old new (more e actor line goes_on is) order =
       let P : List Entry → Type 0 = IsInOrder script (place + 1) in
       let less : last_line old < e.line = let above = at.above in let was = order.last in omega arith in
@@ -84,7 +89,8 @@ module _ (script : Script) (place : ℕ) (x : ScriptLine) (at : At script place 
         spent = λ seat.
             let l = lines_spent seat in
             let s = spent.spent seat in
-            let m : made seat (old ▹ e) ≡ made seat old + cond (seat_number x.actor == seat) 1 0 = ap (λ who. made seat (old ▹ record e { actor = who })) actor ∙ grind (arith, common_steps) in
+            let m : made seat (old ▹ e) ≡ made seat old + cond (seat_number x.actor == seat) 1 0 =
+            ap (λ who. made seat (old ▹ record e { actor = who })) actor ∙ grind (arith, common_steps) in
             omega arith;
       })
 
@@ -99,10 +105,12 @@ module _ (script : Script) (place : ℕ) (x : ScriptLine) (at : At script place 
   no_line : (s : SessionNo) → is_session s x.actor ≡ false → session_lines s (take place script.lines) ≡ session_lines s (take (place + 1) script.lines)
   no_line s other =
       sym (append-nil (session_lines s (take place script.lines)))
-      ∙ sym (ap (session_lines s) at.taken ∙ flat_map-append (λ (one : ScriptLine). session_line (is_session s one.actor) one.number one.body) (take place script.lines) (x ∷ [])
+      ∙ sym (ap (session_lines s) at.taken ∙ flat_map-append (λ (one : ScriptLine). session_line (is_session s one.actor) one.number one.body)
+      (take place script.lines) (x ∷ [])
       ∙ ap (λ b. session_lines s (take place script.lines) ++ (session_line b x.number x.body ++ [])) other)
 
-  pub reader_other : (s : SessionNo) → is_session s x.actor ≡ false → (old new : List Entry) (reader : Reader) → Step x old new → ReaderStands script s place old reader → ReaderStands script s (place + 1) new reader
+  pub reader_other : (s : SessionNo) → is_session s x.actor ≡ false → (old new : List Entry) (reader : Reader) → Step x old new
+      → ReaderStands script s place old reader → ReaderStands script s (place + 1) new reader
   reader_other s other old new reader step stands =
       let mine : own s old ≡ own s new = sym (own_same s other old new step) in
       let S : List Entry → Type 0 = λ es. Stands script.setup es reader in

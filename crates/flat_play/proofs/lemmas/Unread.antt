@@ -58,5 +58,6 @@ module _ {A : Type 0} (f : ScriptLine → List (ℕ × A)) (numbered : (next : S
       let rest : rise_from one.number (read ++ next ∷ later) ≡ true = rise_later m one (read ++ next ∷ later) rise in
       let less : one.number < next.number = rise_to one.number read next later rest in
       filter-append (λ given. nat_lt next.number given.0) (f one) (flat_map f (read ++ next ∷ later))
-      ∙ ap (λ t. t ++ filter (λ given. nat_lt next.number given.0) (flat_map f (read ++ next ∷ later))) (none_above next.number one.number (f one) (omega arith) (numbered one))
+      ∙ ap (λ t. t ++ filter (λ given. nat_lt next.number given.0) (flat_map f (read ++ next ∷ later)))
+      (none_above next.number one.number (f one) (omega arith) (numbered one))
       ∙ unread_after one.number read next later rest

@@ -1,6 +1,8 @@
 -- The lines of a head in the canonical order.
 use Rattle.flat_page.specs.Words.{name_at, actor_name}
-use Rattle.std.proofs.Common.{◌≡◌, ℕ, ◌+◌, ◌-◌, ◌<◌, ◌≤◌, Bool, true, false, cond, ◌&&◌, nat_lt, nat_le, List, [], ◌∷◌, ◌++◌, length, map, Option, Some, None, unwrap_or, option_and_then, if◌then◌else◌, Ok, refl, sym, ◌∙◌, ap, codes, arith, lit<, lit≤, subst, append_assoc, length-append, option_map}
+use Rattle.std.proofs.Common.{◌≡◌, ℕ, ◌+◌, ◌-◌, ◌<◌, ◌≤◌, Bool, true, false, cond, ◌&&◌, nat_lt, nat_le, List, [], ◌∷◌, ◌++◌, length, map, Option, Some, None}
+use Rattle.std.proofs.Common.{unwrap_or, option_and_then, if◌then◌else◌, Ok, refl, sym, ◌∙◌, ap, codes, arith, lit<, lit≤, subst, append_assoc, length-append}
+use Rattle.std.proofs.Common.{option_map}
 use Rattle.std.proofs.lemmas.List.{map-append}
 use Rattle.std.proofs.Math.Seq.{get_or-append_seam}
 use Rattle.std.proofs.lemmas.Option.{slice_get-get_or}
@@ -28,7 +30,8 @@ use Rattle.flat_print.proofs.CallLemmas.{name_at-place_of, test_ok}
 use Rattle.flat_print.proofs.lemmas.TextLemmas.{IsLine, line_front, front_fits, AllLines, AllLines-append, room_of, room_of-append}
 use Rattle.flat_page.specs.Words.{line_of}
 use Rattle.flat_print.proofs.LineLemmas.{numbered-append}
-use Rattle.flat_forms.proofs.lemmas.StepLemmas.{SizeStep, SessionStep, ProbeStep, BuffersStep, PairStep, FenceStep, Step, size_step, session_step, probe_step, buffers_step, pair_step, fence_step, sort}
+use Rattle.flat_forms.proofs.lemmas.StepLemmas.{SizeStep, SessionStep, ProbeStep, BuffersStep, PairStep, FenceStep, Step, size_step, session_step, probe_step}
+use Rattle.flat_forms.proofs.lemmas.StepLemmas.{buffers_step, pair_step, fence_step, sort}
 use Rattle.flat_print.proofs.SwapLemmas.{swap}
 use Rattle.std.proofs.lemmas.Bool.{and_parts}
 
@@ -44,9 +47,16 @@ abbrev pub Chain : ℕ → Script → List (List Word) → Script → Type 0
 Chain k u [] t = u ≡ t
 Chain k u (ws ∷ wss) t = Link k u ws (λ m. Chain k m wss t)
 
-pub chain_more : (k : ℕ) (u m t : Script) (wss : List (List Word)) (ws : List Word) → Chain k u wss m → (y : Step m ws t) → k ≤ sort y → Chain k u (wss ++ ws ∷ []) t
-chain_more k u m t [] ws chain y order = let P : Script → Type 0 = λ v. Link k v ws (λ w. w ≡ t) in subst P (sym chain) (record { mid = t; step = y; order = order; behind = refl })
-chain_more k u m t (b ∷ wss) ws chain y order = record { mid = chain.mid; step = chain.step; order = chain.order; behind = chain_more k chain.mid m t wss ws chain.behind y order }
+pub chain_more : (k : ℕ) (u m t : Script) (wss : List (List Word)) (ws : List Word) → Chain k u wss m → (y : Step m ws t) → k ≤ sort y
+    → Chain k u (wss ++ ws ∷ []) t
+chain_more k u m t [] ws chain y order = let P : Script → Type 0 =
+    λ v. Link k v ws (λ w. w ≡ t) in subst P (sym chain) (record { mid = t; step = y; order = order; behind = refl })
+chain_more k u m t (b ∷ wss) ws chain y order = record {
+  mid = chain.mid;
+  step = chain.step;
+  order = chain.order;
+  behind = chain_more k chain.mid m t wss ws chain.behind y order;
+}
 
 -- a line of an earlier sort goes to the front of a chain
 pub record Bubbled (k : ℕ) (u : Script) (wss : List (List Word)) (ws : List Word) (t : Script) (j : ℕ) : Type 0 where
@@ -58,7 +68,8 @@ pub record Bubbled (k : ℕ) (u : Script) (wss : List (List Word)) (ws : List Wo
 step_from : (u m t : Script) (ws : List Word) → u ≡ m → (y : Step m ws t) → (x : Step u ws t) × (sort x ≡ sort y)
 step_from u m t ws e = let P : Script → Type 0 = λ v. (y : Step v ws t) → (x : Step u ws t) × (sort x ≡ sort y) in subst P e (λ y. (y, refl))
 
-pub bubble : (k : ℕ) (u m t : Script) (wss : List (List Word)) (ws : List Word) → Chain k u wss m → (y : Step m ws t) → sort y < k → Bubbled k u wss ws t (sort y)
+pub bubble : (k : ℕ) (u m t : Script) (wss : List (List Word)) (ws : List Word) → Chain k u wss m → (y : Step m ws t) → sort y < k
+    → Bubbled k u wss ws t (sort y)
 bubble k u m t [] ws chain y less = let x = step_from u m t ws chain y in record { mid = t; first = x.0; first_sort = x.1; behind = refl }
 bubble k u m t (b ∷ wss) ws chain y less =
     let inner = bubble k chain.mid m t wss ws chain.behind y less in
@@ -68,7 +79,12 @@ bubble k u m t (b ∷ wss) ws chain y less =
       mid = swapped.mid;
       first = swapped.first;
       first_sort = swapped.first_sort ∙ inner.first_sort;
-      behind = record { mid = inner.mid; step = swapped.second; order = (let s = swapped.second_sort in let o = chain.order in omega arith); behind = inner.behind };
+      behind = record {
+        mid = inner.mid;
+        step = swapped.second;
+        order = (let s = swapped.second_sort in let o = chain.order in omega arith);
+        behind = inner.behind;
+      };
     }
 
 -- what is printed of the lines, whatever is declared behind them
@@ -80,7 +96,8 @@ abbrev pub pairs_with : Script → List Word → List Word → List Word → Lis
 pairs_with u xs zs ys = numbered (pair_line_words (record u { sessions = u.sessions ++ xs; probes = u.probes ++ zs; pairs = u.pairs ++ ys })) 0 u.setup.pairs
 
 abbrev pub fences_with : Script → List Word → List Word → List Word → List (List Word)
-fences_with u xs zs ys = numbered (fence_line_words (record u { sessions = u.sessions ++ xs; probes = u.probes ++ zs; fences = u.fences ++ ys })) 0 u.setup.fences
+fences_with u xs zs ys = numbered (fence_line_words (record u { sessions = u.sessions ++ xs; probes = u.probes ++ zs; fences = u.fences ++ ys })) 0
+    u.setup.fences
 
 pub record Ordered (version : ℕ) (u : Script) (k : ℕ) : Type 0 where
   pub d : List (List Word)
@@ -173,12 +190,14 @@ range_ok least most w n is =
 -- names behind more names
 
 pub name_at_seam : (names ys : List Word) (n : Word) → name_at (names ++ n ∷ ys) (length names) ≡ n
-name_at_seam names ys n = ap (λ o. unwrap_or o []) (slice_get-get_or (names ++ n ∷ ys) (length names) [] (omega (arith, length-append names (n ∷ ys)))) ∙ get_or-append_seam names n ys []
+name_at_seam names ys n = ap (λ o. unwrap_or o []) (slice_get-get_or (names ++ n ∷ ys) (length names) [] (omega (arith, length-append names (n ∷ ys))))
+    ∙ get_or-append_seam names n ys []
 
 name_at_end : (names ys : List Word) (n : Word) (k : ℕ) → k ≡ length names → name_at ((names ++ n ∷ []) ++ ys) k ≡ n
 name_at_end names ys n k is = ap (λ zs. name_at zs k) (append_assoc names (n ∷ []) ys) ∙ ap (name_at (names ++ n ∷ ys)) is ∙ name_at_seam names ys n
 
-session_by : (u : Script) (xs : List Word) (w : Word) (a : SessionNo) (o : Option ℕ) → place_of u.sessions w ≡ o → option_map (λ i. record { 0 = i + 1 }) o ≡ Some a → name_at (u.sessions ++ xs) (a.0 - 1) ≡ w
+session_by : (u : Script) (xs : List Word) (w : Word) (a : SessionNo) (o : Option ℕ) → place_of u.sessions w ≡ o
+    → option_map (λ i. record { 0 = i + 1 }) o ≡ Some a → name_at (u.sessions ++ xs) (a.0 - 1) ≡ w
 session_by u xs w a None at is = absurd (cc)
 session_by u xs w a (Some i) at is =
     let number : i + 1 ≡ a.0 = ap (λ (o : Option SessionNo). option_map_or (λ s. s.0) o 0) is in
@@ -190,11 +209,13 @@ session_word_of u xs w a is = session_by u xs w a (place_of u.sessions w) refl i
 abbrev more_actors : Script → List Word → List Word → Script
 more_actors u xs zs = record u { sessions = u.sessions ++ xs; probes = u.probes ++ zs }
 
-actor_by_name : (u : Script) (xs zs : List Word) (w : Word) (a : Actor) (o : Option SessionNo) → session_named u w ≡ o → option_map Session o ≡ Some a → actor_name (more_actors u xs zs) a ≡ w
+actor_by_name : (u : Script) (xs zs : List Word) (w : Word) (a : Actor) (o : Option SessionNo) → session_named u w ≡ o → option_map Session o ≡ Some a
+    → actor_name (more_actors u xs zs) a ≡ w
 actor_by_name u xs zs w a None at is = absurd (cc)
 actor_by_name u xs zs w a (Some s) at is = let e : Session s ≡ a = cc in ap (actor_name (more_actors u xs zs)) (sym e) ∙ session_word_of u xs w s at
 
-actor_by : (u : Script) (xs zs : List Word) (w : Word) (a : Actor) (b : Bool) → bytes_eq w (codes "display") ≡ b → cond b (Some Display) (option_map Session (session_named u w)) ≡ Some a → actor_name (more_actors u xs zs) a ≡ w
+actor_by : (u : Script) (xs zs : List Word) (w : Word) (a : Actor) (b : Bool) → bytes_eq w (codes "display") ≡ b
+    → cond b (Some Display) (option_map Session (session_named u w)) ≡ Some a → actor_name (more_actors u xs zs) a ≡ w
 actor_by u xs zs w a true at is = let e : Display ≡ a = cc in ap (actor_name (more_actors u xs zs)) (sym e) ∙ sym ((bytes_eq-Decides w (codes "display")).0 at)
 actor_by u xs zs w a false at is = actor_by_name u xs zs w a (session_named u w) refl is
 
@@ -206,7 +227,8 @@ each_words u xs zs [] os is = let e : [] ≡ os = cc in ap (map (actor_name (mor
 each_words u xs zs (w ∷ ws) os is =
     let parts = both_ok (λ a rest. a ∷ rest) (owner_word u w) (each (owner_word u) ws) os is in
     let g = actor_name (more_actors u xs zs) in
-    ap (map g) (sym parts.value) ∙ ap (λ v. v ∷ map g parts.b) (actor_name_of u xs zs w parts.a (or_kind_ok UnknownName (owner_named u w) parts.a parts.first)) ∙ ap (λ vs. w ∷ vs) (each_words u xs zs ws parts.b parts.second)
+    ap (map g) (sym parts.value) ∙ ap (λ v. v ∷ map g parts.b) (actor_name_of u xs zs w parts.a (or_kind_ok UnknownName (owner_named u w) parts.a parts.first))
+    ∙ ap (λ vs. w ∷ vs) (each_words u xs zs ws parts.b parts.second)
 
 owners_words : (u : Script) (xs zs ws : List Word) (os : List Actor) → one_or_more (owner_word u) ws ≡ Ok os → map (actor_name (more_actors u xs zs)) os ≡ ws
 owners_words u xs zs [] os is = absurd (cc)
@@ -226,10 +248,15 @@ ratio_taken version [] q given =
     subst (λ (r : ℕ). RatioTaken version [] r) one (record { extra = []; is = refl; again = refl })
 ratio_taken version (w ∷ ws) q given = by_version (nat_lt version RATIO_SINCE) refl
   where
-    by_ratio : (b : Bool) → (q == ONE) ≡ b → nat_lt version RATIO_SINCE ≡ false → decimal q ≡ w → ws ≡ [] → (ratio (w ∷ [])).0 ≡ Ok q → RatioTaken version (w ∷ ws) q
+    by_ratio : (b : Bool) → (q == ONE) ≡ b → nat_lt version RATIO_SINCE ≡ false → decimal q ≡ w → ws ≡ [] → (ratio (w ∷ [])).0 ≡ Ok q
+        → RatioTaken version (w ∷ ws) q
     by_ratio true one late number none passes =
         let same : q ≡ ONE = grind (arith, nat_tests) in
-        record { extra = w ∷ []; is = rw one (ap (λ r. w ∷ r) none); again = rw one (ap (λ (r : ℕ). let given : Reading ℕ × List Word = (Ok r, []) in given) (sym same)) }
+        record {
+          extra = w ∷ [];
+          is = rw one (ap (λ r. w ∷ r) none);
+          again = rw one (ap (λ (r : ℕ). let given : Reading ℕ × List Word = (Ok r, []) in given) (sym same));
+        }
     by_ratio false other late number none passes = record {
       extra = [];
       is = rw other (ap (λ v. v ∷ ws) (sym number) ∙ ap (λ r. decimal q ∷ r) none);
@@ -260,7 +287,8 @@ size_taken version rest w h q is =
     let a = place_ok _ rest one.a two.mid one.given in
     let b = place_ok _ two.mid two.a three.mid two.second in
     let value : triple one.a two.a three.a ≡ triple w h q = ap (λ g. g two.a three.a) one.value ∙ ap (λ g. g three.a) two.value ∙ three.value in
-    sized version rest a.word b.word three.mid one.a two.a three.a w h q value (a.begins ∙ ap (λ r. a.word ∷ r) b.begins) a.passes b.passes (ratio_taken version three.mid three.a three.second)
+    sized version rest a.word b.word three.mid one.a two.a three.a w h q value (a.begins ∙ ap (λ r. a.word ∷ r) b.begins) a.passes b.passes
+    (ratio_taken version three.mid three.a three.second)
   where
     sized : (version : ℕ) (rest : List Word) (u v : Word) (tail : List Word) (x y z w h q : ℕ) → triple x y z ≡ triple w h q → rest ≡ u ∷ v ∷ tail
         → (side (u ∷ [])).0 ≡ Ok x → (side (v ∷ [])).0 ≡ Ok y → RatioTaken version tail z → SizeTaken version rest w h q
@@ -291,7 +319,8 @@ buffers_line u xs ys x many =
     rw (name, owner, a, b, c) (sym x.begins)
 
 pair_line : {ws : List Word} {t : Script} (u : Script) (xs zs ys : List Word) (x : PairStep u ws t) → length u.setup.pairs ≡ length u.pairs
-    → pair_line_words (record u { sessions = u.sessions ++ xs; probes = u.probes ++ zs; pairs = (u.pairs ++ x.name ∷ []) ++ ys }) (0 + length u.setup.pairs) x.decl ≡ ws
+    → pair_line_words (record u { sessions = u.sessions ++ xs; probes = u.probes ++ zs; pairs = (u.pairs ++ x.name ∷ []) ++ ys }) (0 + length u.setup.pairs)
+    x.decl ≡ ws
 pair_line u xs zs ys x many =
     let name = name_at_end u.pairs ys x.name (0 + length u.setup.pairs) (omega arith) in
     let viewport = actor_name_of u xs zs x.x x.decl.viewport x.viewport in
@@ -299,13 +328,15 @@ pair_line u xs zs ys x many =
     rw (name, viewport, view) (sym x.begins)
 
 fence_line : {ws : List Word} {t : Script} (u : Script) (xs zs ys : List Word) (x : FenceStep u ws t) → length u.setup.fences ≡ length u.fences
-    → fence_line_words (record u { sessions = u.sessions ++ xs; probes = u.probes ++ zs; fences = (u.fences ++ x.name ∷ []) ++ ys }) (0 + length u.setup.fences) x.decl ≡ ws
+    → fence_line_words (record u { sessions = u.sessions ++ xs; probes = u.probes ++ zs; fences = (u.fences ++ x.name ∷ []) ++ ys }) (0 + length u.setup.fences)
+    x.decl ≡ ws
 fence_line u xs zs ys x many =
     let name = name_at_end u.fences ys x.name (0 + length u.setup.fences) (omega arith) in
     let owners = owners_words u xs zs x.rest x.decl.owners x.owners in
     rw (name, owners) (sym x.begins)
 
-pub insert_size : {version : ℕ} (u : Script) (ws : List Word) (t : Script) (k : ℕ) → IsLine ws → Ordered version u k → SizeStep u ws t → Ordered version t (k + 1 + length (line_of ws))
+pub insert_size : {version : ℕ} (u : Script) (ws : List Word) (t : Script) (k : ℕ) → IsLine ws → Ordered version u k → SizeStep u ws t
+    → Ordered version t (k + 1 + length (line_of ws))
 insert_size {version = version} u ws t k good o x =
     let P : Script → Type 0 = λ v. Ordered version v (k + 1 + length (line_of ws)) in
     let t1 = with_display u x.w x.h x.q in
@@ -316,7 +347,16 @@ insert_size {version = version} u ws t k good o x =
     let shorter : length (line_of line) ≤ length (line_of ws) =
     let front = front_fits (codes "display") (decimal x.w ∷ decimal x.h ∷ ratio_words x.q) taken.extra in
     let same = ap (λ v. length (line_of v)) written in omega (arith, front, same) in
-    let y : Step u line t1 = size_step (record { rest = decimal x.w ∷ decimal x.h ∷ ratio_words x.q; w = x.w; h = x.h; q = x.q; begins = refl; first = x.first; read = taken.again; made = refl }) in
+    let y : Step u line t1 = size_step (record {
+      rest = decimal x.w ∷ decimal x.h ∷ ratio_words x.q;
+      w = x.w;
+      h = x.h;
+      q = x.q;
+      begins = refl;
+      first = x.first;
+      read = taken.again;
+      made = refl;
+    }) in
     let b5 = bubble 5 o.u4 u t1 o.f line o.fences y (lit< tt) in
     let b4 = bubble 4 o.u3 o.u4 b5.mid o.p line o.pairs b5.first (let e = b5.first_sort in omega arith) in
     let b3 = bubble 3 o.u2 o.u3 b4.mid o.b line o.buffers b4.first (let e = b4.first_sort in omega arith) in
@@ -325,7 +365,8 @@ insert_size {version = version} u ws t k good o x =
     let chain = chain_more 0 (with_version empty version) o.u0 b1.mid o.d line o.sizes b1.first (let e = b1.first_sort in omega arith) in
     let none : o.d ≡ [] = o.size_words ∙ ap (λ c. cond c (display_line_words u ∷ []) []) x.first in
     let wide : nat_lt 0 x.w ≡ true = let r = taken.wide in grind (arith, nat_tests) in
-    let shown : o.d ++ line ∷ [] ≡ cond (nat_lt 0 x.w) (display_line_words t1 ∷ []) [] = ap (λ l. l ++ line ∷ []) none ∙ ap (λ c. cond c (display_line_words t1 ∷ []) []) (sym wide) in
+    let shown : o.d ++ line ∷ [] ≡ cond (nat_lt 0 x.w) (display_line_words t1 ∷ []) [] =
+    ap (λ l. l ++ line ∷ []) none ∙ ap (λ c. cond c (display_line_words t1 ∷ []) []) (sym wide) in
     subst P (sym x.made) (record {
       d = o.d ++ line ∷ [];
       s = o.s;
@@ -362,7 +403,8 @@ insert_size {version = version} u ws t k good o x =
       fits = (let e = room_of-append o.d (line ∷ []) in let h = o.fits in omega (arith, shorter));
     })
 
-pub insert_session : {version : ℕ} (u : Script) (ws : List Word) (t : Script) (k : ℕ) → IsLine ws → Ordered version u k → SessionStep u ws t → Ordered version t (k + 1 + length (line_of ws))
+pub insert_session : {version : ℕ} (u : Script) (ws : List Word) (t : Script) (k : ℕ) → IsLine ws → Ordered version u k → SessionStep u ws t
+    → Ordered version t (k + 1 + length (line_of ws))
 insert_session {version = version} u ws t k good o x =
     let P : Script → Type 0 = λ v. Ordered version v (k + 1 + length (line_of ws)) in
     let t1 = with_session u x.name in
@@ -391,11 +433,15 @@ insert_session {version = version} u ws t k good o x =
       pairs = b4.behind;
       fences = b5.behind;
       size_words = o.size_words;
-      session_words = ap (λ l. l ++ ws ∷ []) o.session_words ∙ ap (λ v. map (name_words (codes "session")) u.sessions ++ v ∷ []) x.begins ∙ sym (map-append (name_words (codes "session")) u.sessions (x.name ∷ []));
+      session_words = ap (λ l. l ++ ws ∷ []) o.session_words ∙ ap (λ v. map (name_words (codes "session")) u.sessions ++ v ∷ []) x.begins
+          ∙ sym (map-append (name_words (codes "session")) u.sessions (x.name ∷ []));
       probe_words = o.probe_words;
-      buffer_words = λ xs ys. ap (λ ss. numbered (buffers_line_words (record u { sessions = ss; buffers = u.buffers ++ ys })) 0 u.setup.buffers) (append_assoc u.sessions (x.name ∷ []) xs) ∙ o.buffer_words (x.name ∷ xs) ys;
-      pair_words = λ xs zs ys. ap (λ ss. numbered (pair_line_words (record u { sessions = ss; probes = u.probes ++ zs; pairs = u.pairs ++ ys })) 0 u.setup.pairs) (append_assoc u.sessions (x.name ∷ []) xs) ∙ o.pair_words (x.name ∷ xs) zs ys;
-      fence_words = λ xs zs ys. ap (λ ss. numbered (fence_line_words (record u { sessions = ss; probes = u.probes ++ zs; fences = u.fences ++ ys })) 0 u.setup.fences) (append_assoc u.sessions (x.name ∷ []) xs) ∙ o.fence_words (x.name ∷ xs) zs ys;
+      buffer_words = λ xs ys. ap (λ ss. numbered (buffers_line_words (record u { sessions = ss; buffers = u.buffers ++ ys })) 0 u.setup.buffers)
+          (append_assoc u.sessions (x.name ∷ []) xs) ∙ o.buffer_words (x.name ∷ xs) ys;
+      pair_words = λ xs zs ys. ap (λ ss. numbered (pair_line_words (record u { sessions = ss; probes = u.probes ++ zs; pairs = u.pairs ++ ys })) 0
+          u.setup.pairs) (append_assoc u.sessions (x.name ∷ []) xs) ∙ o.pair_words (x.name ∷ xs) zs ys;
+      fence_words = λ xs zs ys. ap (λ ss. numbered (fence_line_words (record u { sessions = ss; probes = u.probes ++ zs; fences = u.fences ++ ys })) 0
+          u.setup.fences) (append_assoc u.sessions (x.name ∷ []) xs) ∙ o.fence_words (x.name ∷ xs) zs ys;
       buffer_names = o.buffer_names;
       pair_names = o.pair_names;
       fence_names = o.fence_names;
@@ -408,7 +454,8 @@ insert_session {version = version} u ws t k good o x =
       fits = (let e = room_of-append o.s (ws ∷ []) in let h = o.fits in omega arith);
     })
 
-pub insert_probe : {version : ℕ} (u : Script) (ws : List Word) (t : Script) (k : ℕ) → IsLine ws → Ordered version u k → ProbeStep u ws t → Ordered version t (k + 1 + length (line_of ws))
+pub insert_probe : {version : ℕ} (u : Script) (ws : List Word) (t : Script) (k : ℕ) → IsLine ws → Ordered version u k → ProbeStep u ws t
+    → Ordered version t (k + 1 + length (line_of ws))
 insert_probe {version = version} u ws t k good o x =
     let P : Script → Type 0 = λ v. Ordered version v (k + 1 + length (line_of ws)) in
     let t1 = with_probe u x.name in
@@ -437,10 +484,13 @@ insert_probe {version = version} u ws t k good o x =
       fences = b5.behind;
       size_words = o.size_words;
       session_words = o.session_words;
-      probe_words = ap (λ l. l ++ ws ∷ []) o.probe_words ∙ ap (λ v. map (name_words (codes "probe")) u.probes ++ v ∷ []) x.begins ∙ sym (map-append (name_words (codes "probe")) u.probes (x.name ∷ []));
+      probe_words = ap (λ l. l ++ ws ∷ []) o.probe_words ∙ ap (λ v. map (name_words (codes "probe")) u.probes ++ v ∷ []) x.begins
+          ∙ sym (map-append (name_words (codes "probe")) u.probes (x.name ∷ []));
       buffer_words = o.buffer_words;
-      pair_words = λ xs zs ys. ap (λ ps. numbered (pair_line_words (record u { sessions = u.sessions ++ xs; probes = ps; pairs = u.pairs ++ ys })) 0 u.setup.pairs) (append_assoc u.probes (x.name ∷ []) zs) ∙ o.pair_words xs (x.name ∷ zs) ys;
-      fence_words = λ xs zs ys. ap (λ ps. numbered (fence_line_words (record u { sessions = u.sessions ++ xs; probes = ps; fences = u.fences ++ ys })) 0 u.setup.fences) (append_assoc u.probes (x.name ∷ []) zs) ∙ o.fence_words xs (x.name ∷ zs) ys;
+      pair_words = λ xs zs ys. ap (λ ps. numbered (pair_line_words (record u { sessions = u.sessions ++ xs; probes = ps; pairs = u.pairs ++ ys })) 0
+          u.setup.pairs) (append_assoc u.probes (x.name ∷ []) zs) ∙ o.pair_words xs (x.name ∷ zs) ys;
+      fence_words = λ xs zs ys. ap (λ ps. numbered (fence_line_words (record u { sessions = u.sessions ++ xs; probes = ps; fences = u.fences ++ ys })) 0
+          u.setup.fences) (append_assoc u.probes (x.name ∷ []) zs) ∙ o.fence_words xs (x.name ∷ zs) ys;
       buffer_names = o.buffer_names;
       pair_names = o.pair_names;
       fence_names = o.fence_names;
@@ -453,15 +503,32 @@ insert_probe {version = version} u ws t k good o x =
       fits = (let e = room_of-append o.q (ws ∷ []) in let h = o.fits in omega arith);
     })
 
-pub insert_buffers : {version : ℕ} (u : Script) (ws : List Word) (t : Script) (k : ℕ) → IsLine ws → Ordered version u k → BuffersStep u ws t → Ordered version t (k + 1 + length (line_of ws))
+pub insert_buffers : {version : ℕ} (u : Script) (ws : List Word) (t : Script) (k : ℕ) → IsLine ws → Ordered version u k → BuffersStep u ws t
+    → Ordered version t (k + 1 + length (line_of ws))
 insert_buffers {version = version} u ws t k good o x =
     let P : Script → Type 0 = λ v. Ordered version v (k + 1 + length (line_of ws)) in
     let t1 = with_buffers u x.name x.decl in
-    let y : Step u ws t1 = buffers_step (record { name = x.name; owner = x.owner; a = x.a; b = x.b; c = x.c; decl = x.decl; begins = x.begins; room = x.room; fresh = x.fresh; owned = x.owned; count = x.count; width = x.width; height = x.height; made = refl }) in
+    let y : Step u ws t1 = buffers_step (record {
+      name = x.name;
+      owner = x.owner;
+      a = x.a;
+      b = x.b;
+      c = x.c;
+      decl = x.decl;
+      begins = x.begins;
+      room = x.room;
+      fresh = x.fresh;
+      owned = x.owned;
+      count = x.count;
+      width = x.width;
+      height = x.height;
+      made = refl;
+    }) in
     let b5 = bubble 5 o.u4 u t1 o.f ws o.fences y (lit< tt) in
     let b4 = bubble 4 o.u3 o.u4 b5.mid o.p ws o.pairs b5.first (let e = b5.first_sort in omega arith) in
     let chain = chain_more 3 o.u2 o.u3 b4.mid o.b ws o.buffers b4.first (let e = b4.first_sort in omega arith) in
-    let line : (xs ys : List Word) → buffers_line_words (record t1 { sessions = u.sessions ++ xs; buffers = (u.buffers ++ x.name ∷ []) ++ ys }) (0 + length u.setup.buffers) x.decl ≡ ws = λ xs ys. buffers_line u xs ys x o.buffer_names in
+    let line : (xs ys : List Word) → buffers_line_words (record t1 { sessions = u.sessions ++ xs; buffers = (u.buffers ++ x.name ∷ []) ++ ys })
+    (0 + length u.setup.buffers) x.decl ≡ ws = λ xs ys. buffers_line u xs ys x o.buffer_names in
     subst P (sym x.made) (record {
       d = o.d;
       s = o.s;
@@ -483,7 +550,11 @@ insert_buffers {version = version} u ws t k good o x =
       size_words = o.size_words;
       session_words = o.session_words;
       probe_words = o.probe_words;
-      buffer_words = λ xs ys. numbered-append (buffers_line_words (record t1 { sessions = u.sessions ++ xs; buffers = (u.buffers ++ x.name ∷ []) ++ ys })) 0 u.setup.buffers (x.decl ∷ []) ∙ ap (λ l. l ++ buffers_line_words (record t1 { sessions = u.sessions ++ xs; buffers = (u.buffers ++ x.name ∷ []) ++ ys }) (0 + length u.setup.buffers) x.decl ∷ []) (ap (λ ns. numbered (buffers_line_words (record u { sessions = u.sessions ++ xs; buffers = ns })) 0 u.setup.buffers) (append_assoc u.buffers (x.name ∷ []) ys) ∙ o.buffer_words xs (x.name ∷ ys)) ∙ ap (λ v. o.b ++ v ∷ []) (line xs ys);
+      buffer_words = λ xs ys. numbered-append (buffers_line_words (record t1 { sessions = u.sessions ++ xs; buffers = (u.buffers ++ x.name ∷ []) ++ ys })) 0
+          u.setup.buffers (x.decl ∷ []) ∙ ap (λ l. l ++ buffers_line_words
+          (record t1 { sessions = u.sessions ++ xs; buffers = (u.buffers ++ x.name ∷ []) ++ ys }) (0 + length u.setup.buffers) x.decl ∷ [])
+          (ap (λ ns. numbered (buffers_line_words (record u { sessions = u.sessions ++ xs; buffers = ns })) 0 u.setup.buffers)
+          (append_assoc u.buffers (x.name ∷ []) ys) ∙ o.buffer_words xs (x.name ∷ ys)) ∙ ap (λ v. o.b ++ v ∷ []) (line xs ys);
       pair_words = o.pair_words;
       fence_words = o.fence_words;
       buffer_names = omega (arith, length-append u.setup.buffers (x.decl ∷ []), length-append u.buffers (x.name ∷ []), o.buffer_names);
@@ -498,14 +569,29 @@ insert_buffers {version = version} u ws t k good o x =
       fits = (let e = room_of-append o.b (ws ∷ []) in let h = o.fits in omega arith);
     })
 
-pub insert_pair : {version : ℕ} (u : Script) (ws : List Word) (t : Script) (k : ℕ) → IsLine ws → Ordered version u k → PairStep u ws t → Ordered version t (k + 1 + length (line_of ws))
+pub insert_pair : {version : ℕ} (u : Script) (ws : List Word) (t : Script) (k : ℕ) → IsLine ws → Ordered version u k → PairStep u ws t
+    → Ordered version t (k + 1 + length (line_of ws))
 insert_pair {version = version} u ws t k good o x =
     let P : Script → Type 0 = λ v. Ordered version v (k + 1 + length (line_of ws)) in
     let t1 = with_pair u x.name x.decl in
-    let y : Step u ws t1 = pair_step (record { name = x.name; x = x.x; y = x.y; decl = x.decl; begins = x.begins; room = x.room; fresh = x.fresh; single = x.single; viewport = x.viewport; view = x.view; made = refl }) in
+    let y : Step u ws t1 = pair_step (record {
+      name = x.name;
+      x = x.x;
+      y = x.y;
+      decl = x.decl;
+      begins = x.begins;
+      room = x.room;
+      fresh = x.fresh;
+      single = x.single;
+      viewport = x.viewport;
+      view = x.view;
+      made = refl;
+    }) in
     let b5 = bubble 5 o.u4 u t1 o.f ws o.fences y (lit< tt) in
     let chain = chain_more 4 o.u3 o.u4 b5.mid o.p ws o.pairs b5.first (let e = b5.first_sort in omega arith) in
-    let line : (xs zs ys : List Word) → pair_line_words (record t1 { sessions = u.sessions ++ xs; probes = u.probes ++ zs; pairs = (u.pairs ++ x.name ∷ []) ++ ys }) (0 + length u.setup.pairs) x.decl ≡ ws = λ xs zs ys. pair_line u xs zs ys x o.pair_names in
+    let line : (xs zs ys : List Word) → pair_line_words (record t1
+    { sessions = u.sessions ++ xs; probes = u.probes ++ zs; pairs = (u.pairs ++ x.name ∷ []) ++ ys }) (0 + length u.setup.pairs) x.decl ≡ ws =
+    λ xs zs ys. pair_line u xs zs ys x o.pair_names in
     subst P (sym x.made) (record {
       d = o.d;
       s = o.s;
@@ -528,7 +614,12 @@ insert_pair {version = version} u ws t k good o x =
       session_words = o.session_words;
       probe_words = o.probe_words;
       buffer_words = o.buffer_words;
-      pair_words = λ xs zs ys. numbered-append (pair_line_words (record t1 { sessions = u.sessions ++ xs; probes = u.probes ++ zs; pairs = (u.pairs ++ x.name ∷ []) ++ ys })) 0 u.setup.pairs (x.decl ∷ []) ∙ ap (λ l. l ++ pair_line_words (record t1 { sessions = u.sessions ++ xs; probes = u.probes ++ zs; pairs = (u.pairs ++ x.name ∷ []) ++ ys }) (0 + length u.setup.pairs) x.decl ∷ []) (ap (λ ns. numbered (pair_line_words (record u { sessions = u.sessions ++ xs; probes = u.probes ++ zs; pairs = ns })) 0 u.setup.pairs) (append_assoc u.pairs (x.name ∷ []) ys) ∙ o.pair_words xs zs (x.name ∷ ys)) ∙ ap (λ v. o.p ++ v ∷ []) (line xs zs ys);
+      pair_words = λ xs zs ys. numbered-append (pair_line_words
+          (record t1 { sessions = u.sessions ++ xs; probes = u.probes ++ zs; pairs = (u.pairs ++ x.name ∷ []) ++ ys })) 0 u.setup.pairs (x.decl ∷ [])
+          ∙ ap (λ l. l ++ pair_line_words (record t1 { sessions = u.sessions ++ xs; probes = u.probes ++ zs; pairs = (u.pairs ++ x.name ∷ []) ++ ys })
+          (0 + length u.setup.pairs) x.decl ∷ []) (ap (λ ns. numbered
+          (pair_line_words (record u { sessions = u.sessions ++ xs; probes = u.probes ++ zs; pairs = ns })) 0 u.setup.pairs)
+          (append_assoc u.pairs (x.name ∷ []) ys) ∙ o.pair_words xs zs (x.name ∷ ys)) ∙ ap (λ v. o.p ++ v ∷ []) (line xs zs ys);
       fence_words = o.fence_words;
       buffer_names = o.buffer_names;
       pair_names = omega (arith, length-append u.setup.pairs (x.decl ∷ []), length-append u.pairs (x.name ∷ []), o.pair_names);
@@ -542,13 +633,25 @@ insert_pair {version = version} u ws t k good o x =
       fits = (let e = room_of-append o.p (ws ∷ []) in let h = o.fits in omega arith);
     })
 
-pub insert_fence : {version : ℕ} (u : Script) (ws : List Word) (t : Script) (k : ℕ) → IsLine ws → Ordered version u k → FenceStep u ws t → Ordered version t (k + 1 + length (line_of ws))
+pub insert_fence : {version : ℕ} (u : Script) (ws : List Word) (t : Script) (k : ℕ) → IsLine ws → Ordered version u k → FenceStep u ws t
+    → Ordered version t (k + 1 + length (line_of ws))
 insert_fence {version = version} u ws t k good o x =
     let P : Script → Type 0 = λ v. Ordered version v (k + 1 + length (line_of ws)) in
     let t1 = with_fence u x.name x.decl in
-    let y : Step u ws t1 = fence_step (record { name = x.name; rest = x.rest; decl = x.decl; begins = x.begins; room = x.room; fresh = x.fresh; owners = x.owners; made = refl }) in
+    let y : Step u ws t1 = fence_step (record {
+      name = x.name;
+      rest = x.rest;
+      decl = x.decl;
+      begins = x.begins;
+      room = x.room;
+      fresh = x.fresh;
+      owners = x.owners;
+      made = refl;
+    }) in
     let chain = chain_more 5 o.u4 u t1 o.f ws o.fences y (lit≤ tt) in
-    let line : (xs zs ys : List Word) → fence_line_words (record t1 { sessions = u.sessions ++ xs; probes = u.probes ++ zs; fences = (u.fences ++ x.name ∷ []) ++ ys }) (0 + length u.setup.fences) x.decl ≡ ws = λ xs zs ys. fence_line u xs zs ys x o.fence_names in
+    let line : (xs zs ys : List Word) → fence_line_words
+    (record t1 { sessions = u.sessions ++ xs; probes = u.probes ++ zs; fences = (u.fences ++ x.name ∷ []) ++ ys }) (0 + length u.setup.fences) x.decl ≡ ws =
+    λ xs zs ys. fence_line u xs zs ys x o.fence_names in
     subst P (sym x.made) (record {
       d = o.d;
       s = o.s;
@@ -572,7 +675,12 @@ insert_fence {version = version} u ws t k good o x =
       probe_words = o.probe_words;
       buffer_words = o.buffer_words;
       pair_words = o.pair_words;
-      fence_words = λ xs zs ys. numbered-append (fence_line_words (record t1 { sessions = u.sessions ++ xs; probes = u.probes ++ zs; fences = (u.fences ++ x.name ∷ []) ++ ys })) 0 u.setup.fences (x.decl ∷ []) ∙ ap (λ l. l ++ fence_line_words (record t1 { sessions = u.sessions ++ xs; probes = u.probes ++ zs; fences = (u.fences ++ x.name ∷ []) ++ ys }) (0 + length u.setup.fences) x.decl ∷ []) (ap (λ ns. numbered (fence_line_words (record u { sessions = u.sessions ++ xs; probes = u.probes ++ zs; fences = ns })) 0 u.setup.fences) (append_assoc u.fences (x.name ∷ []) ys) ∙ o.fence_words xs zs (x.name ∷ ys)) ∙ ap (λ v. o.f ++ v ∷ []) (line xs zs ys);
+      fence_words = λ xs zs ys. numbered-append (fence_line_words
+          (record t1 { sessions = u.sessions ++ xs; probes = u.probes ++ zs; fences = (u.fences ++ x.name ∷ []) ++ ys })) 0 u.setup.fences (x.decl ∷ [])
+          ∙ ap (λ l. l ++ fence_line_words (record t1 { sessions = u.sessions ++ xs; probes = u.probes ++ zs; fences = (u.fences ++ x.name ∷ []) ++ ys })
+          (0 + length u.setup.fences) x.decl ∷ []) (ap (λ ns. numbered
+          (fence_line_words (record u { sessions = u.sessions ++ xs; probes = u.probes ++ zs; fences = ns })) 0 u.setup.fences)
+          (append_assoc u.fences (x.name ∷ []) ys) ∙ o.fence_words xs zs (x.name ∷ ys)) ∙ ap (λ v. o.f ++ v ∷ []) (line xs zs ys);
       buffer_names = o.buffer_names;
       pair_names = o.pair_names;
       fence_names = omega (arith, length-append u.setup.fences (x.decl ∷ []), length-append u.fences (x.name ∷ []), o.fence_names);
@@ -585,7 +693,8 @@ insert_fence {version = version} u ws t k good o x =
       fits = (let e = room_of-append o.f (ws ∷ []) in let h = o.fits in omega arith);
     })
 
-pub insert : {version : ℕ} (u : Script) (ws : List Word) (t : Script) (k : ℕ) → IsLine ws → Ordered version u k → Step u ws t → Ordered version t (k + 1 + length (line_of ws))
+pub insert : {version : ℕ} (u : Script) (ws : List Word) (t : Script) (k : ℕ) → IsLine ws → Ordered version u k → Step u ws t
+    → Ordered version t (k + 1 + length (line_of ws))
 insert u ws t k good o (size_step x) = insert_size u ws t k good o x
 insert u ws t k good o (session_step x) = insert_session u ws t k good o x
 insert u ws t k good o (probe_step x) = insert_probe u ws t k good o x

@@ -1,5 +1,6 @@
 -- Lines and words of a canonical text.
-use Rattle.std.proofs.Common.{zero, suc, get_or, ◌≡◌, ℕ, ◌+◌, ◌<◌, ◌≤◌, ◌==◌, ◌||◌, cond, Bool, true, false, nat_lt, nat_le, List, [], ◌∷◌, ◌++◌, length, map, refl, sym, ◌∙◌, ap, arith, append-nil, append_assoc, length-append}
+use Rattle.std.proofs.Common.{zero, suc, get_or, ◌≡◌, ℕ, ◌+◌, ◌<◌, ◌≤◌, ◌==◌, ◌||◌, cond, Bool, true, false, nat_lt, nat_le, List, [], ◌∷◌, ◌++◌, length, map}
+use Rattle.std.proofs.Common.{refl, sym, ◌∙◌, ap, arith, append-nil, append_assoc, length-append}
 use Rattle.std.specs.Prelude.{All}
 use Rattle.std.specs.List.{list_all, slice_split, onto_first, join_with_byte}
 use Rattle.std.proofs.lemmas.List.Splits.{length-slice_split, join_with_byte-slice_split, slice_split_at, slice_split_none}
@@ -31,7 +32,12 @@ pub record IsLine (ws : List Word) : Type 0 where
 pub line_words_of : (line : List ℕ) → list_all is_plain line ≡ true → nat_lt 1024 (length line) ≡ false → is_skipped line ≡ false → IsLine (words_of line)
 line_words_of line plain short kept =
     let same = spelled-words_of line in
-    record { plain = ap (list_all is_plain) same ∙ plain; short = ap (λ t. nat_lt 1024 (length t)) same ∙ short; kept = ap is_skipped same ∙ kept; words = ap words_of same }
+    record {
+      plain = ap (list_all is_plain) same ∙ plain;
+      short = ap (λ t. nat_lt 1024 (length t)) same ∙ short;
+      kept = ap is_skipped same ∙ kept;
+      words = ap words_of same;
+    }
 
 -- the front words of a line
 
@@ -40,7 +46,8 @@ cut : (w t : List ℕ) (rest : List Word) → words_of (w ++ 32 ∷ t) ≡ w ∷
 cut [] t rest is = (refl, let e : [] ∷ words_of t ≡ [] ∷ rest = is in cc)
 cut (x ∷ w) t rest is = by_test (is_space x) refl is (λ given. cut w t rest given)
   where
-    by_test : (b : Bool) → is_space x ≡ b → cond b ([] ∷ words_of (w ++ 32 ∷ t)) (onto_first x (words_of (w ++ 32 ∷ t))) ≡ (x ∷ w) ∷ rest → (words_of (w ++ 32 ∷ t) ≡ w ∷ rest → (words_of w ≡ w ∷ []) × (words_of t ≡ rest))
+    by_test : (b : Bool) → is_space x ≡ b → cond b ([] ∷ words_of (w ++ 32 ∷ t)) (onto_first x (words_of (w ++ 32 ∷ t))) ≡ (x ∷ w) ∷ rest
+        → (words_of (w ++ 32 ∷ t) ≡ w ∷ rest → (words_of w ≡ w ∷ []) × (words_of t ≡ rest))
         → (words_of (x ∷ w) ≡ (x ∷ w) ∷ []) × (words_of t ≡ rest)
     by_test true at wrong later = absurd (cc)
     by_test false at same later =
@@ -128,7 +135,8 @@ no_feeds xs h = λ k d within. no_feed_at xs h k d (omega arith)
 
 split_fed : (l : List ℕ) (wss : List (List Word)) → list_all is_plain l ≡ true → AllLines wss → slice_split is_feed (l ++ fed wss) ≡ l ∷ map line_of wss
 split_fed l [] plain good = ap (slice_split is_feed) (append-nil l) ∙ slice_split_none is_feed l (no_feeds l plain)
-split_fed l (ws ∷ wss) plain good = slice_split_at is_feed l 10 (line_of ws ++ fed wss) (no_feeds l plain) refl ∙ ap (λ t. l ∷ t) (split_fed (line_of ws) wss good.0.plain good.1)
+split_fed l (ws ∷ wss) plain good = slice_split_at is_feed l 10 (line_of ws ++ fed wss) (no_feeds l plain) refl
+    ∙ ap (λ t. l ∷ t) (split_fed (line_of ws) wss good.0.plain good.1)
 
 pub skipped_none : (l : List ℕ) → is_skipped l ≡ false → (length l == 0) ≡ false
 skipped_none [] h = absurd (cc)
@@ -139,7 +147,8 @@ full_end l [] some good = rw some refl
 full_end l (ws ∷ wss) some good = ap (λ t. l ∷ t) (full_end (line_of ws) wss (skipped_none (line_of ws) good.0.kept) good.1)
 
 -- the lines of a text that was written line by line
-pub lines_of_fed : (l : List ℕ) (wss : List (List Word)) → list_all is_plain l ≡ true → (length l == 0) ≡ false → AllLines wss → lines_of (l ++ fed wss) ≡ l ∷ map line_of wss
+pub lines_of_fed : (l : List ℕ) (wss : List (List Word)) → list_all is_plain l ≡ true → (length l == 0) ≡ false → AllLines wss
+    → lines_of (l ++ fed wss) ≡ l ∷ map line_of wss
 lines_of_fed l wss plain some good = ap without_empty_end (split_fed l wss plain good) ∙ full_end l wss some good
 
 -- how long lines are, each with a line feed
@@ -171,7 +180,8 @@ pub split_room : (p : ℕ → Bool) (xs : List ℕ) → lines_room (slice_split 
 split_room p [] = refl
 split_room p (x ∷ xs) = by_test (p x) (split_room p xs) (some_parts p xs)
   where
-    by_test : (b : Bool) → lines_room (slice_split p xs) ≡ length xs + 1 → 0 < length (slice_split p xs) → lines_room (cond b ([] ∷ slice_split p xs) (onto_first x (slice_split p xs))) ≡ length (x ∷ xs) + 1
+    by_test : (b : Bool) → lines_room (slice_split p xs) ≡ length xs + 1 → 0 < length (slice_split p xs)
+        → lines_room (cond b ([] ∷ slice_split p xs) (onto_first x (slice_split p xs))) ≡ length (x ∷ xs) + 1
     by_test true rest some = omega arith
     by_test false rest some = onto_room x (slice_split p xs) some ∙ omega arith
 

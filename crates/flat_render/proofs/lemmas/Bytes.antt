@@ -9,7 +9,8 @@ use Rattle.std.proofs.lemmas.List.FromFn.{map-range_with_len_more}
 
 range-more : (n : ℕ) → range_with_len 0 (n + 1) ≡ range_with_len 0 n ++ n ∷ []
 range-more n =
-    sym (map-id (range_with_len 0 (n + 1))) ∙ map-range_with_len_more (λ x. x) 0 n n (zero-add n) ∙ ap (λ (xs : List ℕ). xs ++ n ∷ []) (map-id (range_with_len 0 n))
+    sym (map-id (range_with_len 0 (n + 1))) ∙ map-range_with_len_more (λ x. x) 0 n n (zero-add n)
+    ∙ ap (λ (xs : List ℕ). xs ++ n ∷ []) (map-id (range_with_len 0 n))
 
 -- one piece more
 pub piece-more : (f : ℕ → List ℕ) (n : ℕ) (before was piece now : List ℕ) → was ≡ before ++ flat_map f (range_with_len 0 n) → piece ≡ f n → now ≡ was ++ piece
@@ -22,7 +23,8 @@ one-more : (f : ℕ → List ℕ) (n : ℕ) → flat_map f (range_with_len 0 (n 
 one-more f n = sym (piece-more f n [] (flat_map f (range_with_len 0 n)) (f n) (flat_map f (range_with_len 0 n) ++ f n) refl refl refl)
 
 -- pieces from a number on
-pieces-append : (f : ℕ → List ℕ) (a n : ℕ) → flat_map f (range_with_len 0 (a + n)) ≡ flat_map f (range_with_len 0 a) ++ flat_map (λ i. f (a + i)) (range_with_len 0 n)
+pieces-append : (f : ℕ → List ℕ) (a n : ℕ) → flat_map f (range_with_len 0 (a + n)) ≡ flat_map f (range_with_len 0 a)
+    ++ flat_map (λ i. f (a + i)) (range_with_len 0 n)
 pieces-append f a zero = ap (λ (m : ℕ). flat_map f (range_with_len 0 m)) (omega arith) ∙ sym (append-nil (flat_map f (range_with_len 0 a)))
 pieces-append f a (suc n) =
     let e : a + suc n ≡ (a + n) + 1 = omega arith in
@@ -30,7 +32,8 @@ pieces-append f a (suc n) =
     ap (λ (m : ℕ). flat_map f (range_with_len 0 m)) e ∙ one-more f (a + n)
     ∙ ap (λ (xs : List ℕ). xs ++ f (a + n)) (pieces-append f a n)
     ∙ append_assoc (flat_map f (range_with_len 0 a)) (flat_map (λ i. f (a + i)) (range_with_len 0 n)) (f (a + n))
-    ∙ ap (λ (xs : List ℕ). flat_map f (range_with_len 0 a) ++ xs) (sym (one-more (λ i. f (a + i)) n) ∙ ap (λ (m : ℕ). flat_map (λ i. f (a + i)) (range_with_len 0 m)) (sym k))
+    ∙ ap (λ (xs : List ℕ). flat_map f (range_with_len 0 a) ++ xs)
+    (sym (one-more (λ i. f (a + i)) n) ∙ ap (λ (m : ℕ). flat_map (λ i. f (a + i)) (range_with_len 0 m)) (sym k))
 
 -- pieces that are the same one by one are the same as a whole
 pub pieces-same : (f g : ℕ → List ℕ) (n : ℕ) → ((i : ℕ) → i < n → f i ≡ g i) → flat_map f (range_with_len 0 n) ≡ flat_map g (range_with_len 0 n)
@@ -43,7 +46,8 @@ pieces-same f g (suc n) h =
     ∙ sym (one-more g n) ∙ ap (λ (m : ℕ). flat_map g (range_with_len 0 m)) (sym e)
 
 -- a run of pieces more
-pub run-more : (f g : ℕ → List ℕ) (a n b : ℕ) (before was now : List ℕ) → b ≡ a + n → was ≡ before ++ flat_map f (range_with_len 0 a) → ((i : ℕ) → i < n → g i ≡ f (a + i))
+pub run-more : (f g : ℕ → List ℕ) (a n b : ℕ) (before was now : List ℕ) → b ≡ a + n → was ≡ before ++ flat_map f (range_with_len 0 a)
+    → ((i : ℕ) → i < n → g i ≡ f (a + i))
     → now ≡ was ++ flat_map g (range_with_len 0 n) → now ≡ before ++ flat_map f (range_with_len 0 b)
 run-more f g a n b before was now e so_far same h =
     h ∙ ap (λ (xs : List ℕ). xs ++ flat_map g (range_with_len 0 n)) so_far
@@ -53,7 +57,8 @@ run-more f g a n b before was now e so_far same h =
     ∙ ap (λ (m : ℕ). before ++ flat_map f (range_with_len 0 m)) (sym e)
 
 -- so a picture's bytes are those of the colours that it shows
-pub shown-bytes : (p : Picture) (w h : ℕ) (colour : ℕ → ℕ → List ℕ) → Shows p w h colour → ppm_bytes (width_of p) (height_of p) (pixel_of p) ≡ ppm_bytes w h colour
+pub shown-bytes : (p : Picture) (w h : ℕ) (colour : ℕ → ℕ → List ℕ) → Shows p w h colour
+    → ppm_bytes (width_of p) (height_of p) (pixel_of p) ≡ ppm_bytes w h colour
 shown-bytes p w h colour s =
     ap (λ (n : ℕ). ppm_bytes n (height_of p) (pixel_of p)) s.width
     ∙ ap (λ (n : ℕ). ppm_bytes w n (pixel_of p)) s.height

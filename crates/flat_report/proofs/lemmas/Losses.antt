@@ -1,5 +1,6 @@
 -- The displays that were lost are told by the lines of the frames at which they were.
-use Rattle.std.proofs.Common.{◌≡◌, ℕ, ◌<◌, ◌≤◌, ◌^◌, ◌==◌, ◌&&◌, not, nat_lt, nat_le, Bool, true, false, cond, List, [], ◌∷◌, map, codes, refl, sym, ap, ◌∙◌, arith}
+use Rattle.std.proofs.Common.{◌≡◌, ℕ, ◌<◌, ◌≤◌, ◌^◌, ◌==◌, ◌&&◌, not, nat_lt, nat_le, Bool, true, false, cond, List, [], ◌∷◌, map, codes, refl, sym, ap, ◌∙◌}
+use Rattle.std.proofs.Common.{arith}
 use Rattle.std.specs.List.{list_all}
 use Rattle.std.proofs.lemmas.Bool.Decides.{nat_tests}
 use Rattle.std.proofs.lemmas.Fmt.{decimal_injective}
@@ -40,8 +41,10 @@ first-loss : (n : ℕ) (x y : Lost) (a b : List ℕ) → is_at n x ≡ true → 
 first-loss n x y a b at_x at_y is =
     let of_x = and_parts (x.frame.0 == n) (is_small x) at_x in
     let of_y = and_parts (y.frame.0 == n) (is_small y) at_y in
-    let behind = append_cancel_left (codes "display") (laid (number x.display ∷ codes "lost" ∷ lost_words x) a) (laid (number y.display ∷ codes "lost" ∷ lost_words y) b) is in
-    let parts = told-next (number x.display) (number y.display) (codes "lost" ∷ lost_words x) (codes "lost" ∷ lost_words y) a b (number-word x.display) (number-word y.display) behind in
+    let behind = append_cancel_left (codes "display") (laid (number x.display ∷ codes "lost" ∷ lost_words x) a)
+    (laid (number y.display ∷ codes "lost" ∷ lost_words y) b) is in
+    let parts = told-next (number x.display) (number y.display) (codes "lost" ∷ lost_words x) (codes "lost" ∷ lost_words y) a b (number-word x.display)
+    (number-word y.display) behind in
     let display : x.display ≡ y.display = decimal_injective x.display y.display (small x of_x.1) (small y of_y.1) parts.0 in
     let frame : x.frame.0 ≡ y.frame.0 = same-frame n x y of_x.0 of_y.0 in
     let rest : laid (codes "lost" ∷ lost_words y) a ≡ laid (codes "lost" ∷ lost_words y) b =
@@ -67,7 +70,8 @@ all-at n (one ∷ lost) fits =
     let parts = and_parts (is_small one) (list_all is_small lost) fits in
     by_test (one.frame.0 == n) refl parts.0 (all-at n lost parts.1)
   where
-    by_test : (b : Bool) → (one.frame.0 == n) ≡ b → is_small one ≡ true → list_all (is_at n) (lost_at n lost) ≡ true → list_all (is_at n) (cond b (one ∷ lost_at n lost) (lost_at n lost)) ≡ true
+    by_test : (b : Bool) → (one.frame.0 == n) ≡ b → is_small one ≡ true → list_all (is_at n) (lost_at n lost) ≡ true
+        → list_all (is_at n) (cond b (one ∷ lost_at n lost) (lost_at n lost)) ≡ true
     by_test true at fits later = rw (at, fits) later
     by_test false at fits later = later
 
@@ -119,7 +123,8 @@ same-first to a b xs ys of_a of_b agree = by_order (nat_lt a.frame.0 b.frame.0) 
 
     less : (a b : Lost) (xs ys : List Lost) → Rises to a xs → Rises to b ys → AgreeTo 0 to (a ∷ xs) (b ∷ ys) → a.frame.0 < b.frame.0 → ⊥
     less a b xs ys of_a of_b agree lower =
-        let itself : (nat_le b.frame.0 b.frame.0 && list_all (λ c. nat_le b.frame.0 c.frame.0) ys) ≡ true = (let same : nat_le b.frame.0 b.frame.0 ≡ true = grind (arith, nat_tests) in rw same of_b.above) in
+        let itself : (nat_le b.frame.0 b.frame.0 && list_all (λ c. nat_le b.frame.0 c.frame.0) ys) ≡ true =
+        (let same : nat_le b.frame.0 b.frame.0 ≡ true = grind (arith, nat_tests) in rw same of_b.above) in
         no-empty a (lost_at a.frame.0 xs) (sym (at-itself a xs) ∙ agree a.frame.0 of_a.some of_a.within ∙ none-at a.frame.0 b.frame.0 (b ∷ ys) lower itself)
 
     equal : a.frame.0 ≡ b.frame.0 → a ≡ b
@@ -149,7 +154,8 @@ rising-told to (a ∷ xs) (b ∷ ys) of_xs of_ys agree =
     let of_a = rises to a xs of_xs in
     let of_b = rises to b ys of_ys in
     let same = same-first to a b xs ys of_a of_b agree in
-    let later = rising-told to xs ys of_a.rest of_b.rest (λ n from upto. without-first n a xs ys (agree n from upto ∙ ap (λ (c : Lost). lost_at n (c ∷ ys)) (sym same))) in
+    let later = rising-told to xs ys of_a.rest of_b.rest
+    (λ n from upto. without-first n a xs ys (agree n from upto ∙ ap (λ (c : Lost). lost_at n (c ∷ ys)) (sym same))) in
     ap (λ (c : Lost). c ∷ xs) same ∙ ap (λ zs. b ∷ zs) later
 
 -- ---- losses rise
@@ -157,7 +163,8 @@ rising-told to (a ∷ xs) (b ∷ ys) of_xs of_ys agree =
 before-rises : (a b : Lost) → is_lost_before a b ≡ true → nat_le a.frame.0 b.frame.0 ≡ true
 before-rises a b is = grind (arith, nat_tests)
 
-all-before : (a : Lost) (later : List Lost) → list_all (λ b. is_lost_before a b && not (b.display == a.display)) later ≡ true → list_all (λ (b : Lost). nat_le a.frame.0 b.frame.0) later ≡ true
+all-before : (a : Lost) (later : List Lost) → list_all (λ b. is_lost_before a b && not (b.display == a.display)) later ≡ true
+    → list_all (λ (b : Lost). nat_le a.frame.0 b.frame.0) later ≡ true
 all-before a [] is = refl
 all-before a (b ∷ later) is =
     let parts = and_parts (is_lost_before a b && not (b.display == a.display)) (list_all (λ b. is_lost_before a b && not (b.display == a.display)) later) is in
@@ -166,10 +173,13 @@ all-before a (b ∷ later) is =
 loss-rises : (history : List Entry) (lost : List Lost) → is_loss history lost ≡ true → is_rising (frames history) lost ≡ true
 loss-rises history [] is = refl
 loss-rises history (a ∷ later) is =
-    let four = and_parts (nat_lt 0 a.frame.0 && nat_le a.frame.0 (frames history) && list_all (λ b. is_lost_before a b && not (b.display == a.display)) later) (is_loss history later) is in
-    let three = and_parts (nat_lt 0 a.frame.0 && nat_le a.frame.0 (frames history)) (list_all (λ b. is_lost_before a b && not (b.display == a.display)) later) four.0 in
+    let four = and_parts (nat_lt 0 a.frame.0 && nat_le a.frame.0 (frames history) && list_all (λ b. is_lost_before a b && not (b.display == a.display)) later)
+    (is_loss history later) is in
+    let three = and_parts (nat_lt 0 a.frame.0 && nat_le a.frame.0 (frames history)) (list_all (λ b. is_lost_before a b && not (b.display == a.display)) later)
+    four.0 in
     rw (three.0, all-before a later three.1) (loss-rises history later four.1)
 
 -- losses that agree at each finished frame are the same
-pub losses-same : (history : List Entry) (xs ys : List Lost) → is_loss history xs ≡ true → is_loss history ys ≡ true → AgreeTo 0 (frames history) xs ys → xs ≡ ys
+pub losses-same : (history : List Entry) (xs ys : List Lost) → is_loss history xs ≡ true → is_loss history ys ≡ true → AgreeTo 0 (frames history) xs ys
+    → xs ≡ ys
 losses-same history xs ys of_xs of_ys agree = rising-told (frames history) xs ys (loss-rises history xs of_xs) (loss-rises history ys of_ys) agree

@@ -1,5 +1,6 @@
 -- What is asked of the names of a script, and who is named by a word.
-use Rattle.std.proofs.Common.{◌≡◌, ℕ, ◌-◌, ◌<◌, ◌≤◌, ◌&&◌, not, nat_lt, nat_le, true, false, List, [], ◌∷◌, length, codes, Some, None, slice_index, refl, sym, ap, ◌∙◌, arith, tests, rules}
+use Rattle.std.proofs.Common.{◌≡◌, ℕ, ◌-◌, ◌<◌, ◌≤◌, ◌&&◌, not, nat_lt, nat_le, true, false, List, [], ◌∷◌, length, codes, Some, None, slice_index, refl, sym}
+use Rattle.std.proofs.Common.{ap, ◌∙◌, arith, tests, rules}
 use Rattle.std.specs.List.{list_all}
 use Rattle.std.specs.Char.{is_ascii_alphabetic}
 use Rattle.std.proofs.lemmas.Bool.Decides.{nat_tests}
@@ -82,9 +83,11 @@ module _ (script : Script) (named : IsNamed script) where
   same-place : (i j : ℕ) → Some i ≡ Some j → i ≡ j
   same-place i j is = cc
 
-  same-session : (s t : SessionNo) → is_declared script.setup s ≡ true → is_declared script.setup t ≡ true → session_name script.sessions s ≡ session_name script.sessions t → s ≡ t
+  same-session : (s t : SessionNo) → is_declared script.setup s ≡ true → is_declared script.setup t ≡ true
+      → session_name script.sessions s ≡ session_name script.sessions t → s ≡ t
   same-session s t of_s of_t is =
-      let place : s.0 - 1 ≡ t.0 - 1 = same-place (s.0 - 1) (t.0 - 1) (sym (named.sessions.placed (s.0 - 1) (within s of_s)) ∙ ap (place_of script.sessions) is ∙ named.sessions.placed (t.0 - 1) (within t of_t)) in
+      let place : s.0 - 1 ≡ t.0 - 1 = same-place (s.0 - 1) (t.0 - 1)
+      (sym (named.sessions.placed (s.0 - 1) (within s of_s)) ∙ ap (place_of script.sessions) is ∙ named.sessions.placed (t.0 - 1) (within t of_t)) in
       let least : 1 ≤ s.0 = grind (arith, nat_tests) in
       let least' : 1 ≤ t.0 = grind (arith, nat_tests) in
       ap (λ (n : ℕ). let u : SessionNo = record { 0 = n } in u) (omega (arith, place, least, least'))

@@ -54,7 +54,8 @@ not-ends line _ is = no_number is
 -- ---- texts that begin with no entry, and with no lost display
 
 abbrev pub NoEntry : Script → List ℕ → Type 0
-NoEntry script text = (frames : ℕ) (hits : ℤ → ℤ → List Hit) (entry : Entry) (rest : List ℕ) → Acts script entry.actor → text ≡ line_on (entry_line script frames hits entry) rest → ⊥
+NoEntry script text = (frames : ℕ) (hits : ℤ → ℤ → List Hit) (entry : Entry) (rest : List ℕ) → Acts script entry.actor
+    → text ≡ line_on (entry_line script frames hits entry) rest → ⊥
 
 abbrev pub NoLoss : List ℕ → Type 0
 NoLoss text = (one : Lost) (rest : List ℕ) → text ≡ line_on (lost_line one) rest → ⊥
@@ -73,8 +74,10 @@ differ : (a b : ℕ) → (a == b) ≡ false → a ≡ b → ⊥
 differ a b unlike is = grind (arith, nat_tests)
 
 -- the display says nothing of a lost one in its entries
-no-lost-said : (script : Script) (frames : ℕ) (hits : ℤ → ℤ → List Hit) (before : List Entry) (carries : List Call) (made : Kind) (answer : Reply) (ws : List Word) (rest rest' : List ℕ)
-    → display_may made ≡ true → answer ≡ reply_to script.setup before Display carries made → laid (answer_words script frames hits made answer) rest ≡ laid (codes "lost" ∷ ws) rest' → ⊥
+no-lost-said : (script : Script) (frames : ℕ) (hits : ℤ → ℤ → List Hit) (before : List Entry) (carries : List Call) (made : Kind) (answer : Reply)
+    (ws : List Word) (rest rest' : List ℕ)
+    → display_may made ≡ true → answer ≡ reply_to script.setup before Display carries made
+    → laid (answer_words script frames hits made answer) rest ≡ laid (codes "lost" ∷ ws) rest' → ⊥
 no-lost-said script frames hits before carries (kind.View p) answer ws rest rest' may has is = cc
 no-lost-said script frames hits before carries (kind.Viewport p props) answer ws rest rest' may has is = cc
 no-lost-said script frames hits before carries (kind.Present args) answer ws rest rest' may has is = cc
@@ -86,15 +89,19 @@ no-lost-said script frames hits before carries (kind.Begin time) answer ws rest 
 no-lost-said script frames hits before carries kind.Finish answer ws rest rest' may has is = differ 100 108 refl (second is)
 no-lost-said script frames hits before carries (kind.Hit x y) answer ws rest rest' may has is = differ 104 108 refl (second is)
 no-lost-said script frames hits before carries (kind.Signal f) answer ws rest rest' may has is =
-    let wrong : laid (codes "Signal" ∷ codes "ok" ∷ []) rest ≡ laid (codes "lost" ∷ ws) rest' = ap (λ (r : Reply). laid (answer_words script frames hits (kind.Signal f) r) rest) (sym has) ∙ is in differ 83 108 refl (second wrong)
+    let wrong : laid (codes "Signal" ∷ codes "ok" ∷ []) rest ≡ laid (codes "lost" ∷ ws) rest' =
+    ap (λ (r : Reply). laid (answer_words script frames hits (kind.Signal f) r) rest) (sym has) ∙ is in differ 83 108 refl (second wrong)
 no-lost-said script frames hits before carries (kind.Dpr ratio) answer ws rest rest' may has is =
-    let wrong : laid (codes "dpr" ∷ codes "ok" ∷ []) rest ≡ laid (codes "lost" ∷ ws) rest' = ap (λ (r : Reply). laid (answer_words script frames hits (kind.Dpr ratio) r) rest) (sym has) ∙ is in differ 100 108 refl (second wrong)
+    let wrong : laid (codes "dpr" ∷ codes "ok" ∷ []) rest ≡ laid (codes "lost" ∷ ws) rest' =
+    ap (λ (r : Reply). laid (answer_words script frames hits (kind.Dpr ratio) r) rest) (sym has) ∙ is in differ 100 108 refl (second wrong)
 no-lost-said script frames hits before carries (kind.Wait c) answer ws rest rest' may has is =
     by_test (nat_le (asked_of c) (value_of script.setup before Display c)) (value_of script.setup before Display c) has
   where
     by_test : (b : Bool) (v : ℕ) → answer ≡ cond b (reply.Met v) (reply.Unmet v) → ⊥
-    by_test true v has = let wrong : laid (codes "Wait" ∷ codes "met" ∷ number v ∷ []) rest ≡ laid (codes "lost" ∷ ws) rest' = ap (λ (r : Reply). laid (answer_words script frames hits (kind.Wait c) r) rest) (sym has) ∙ is in differ 87 108 refl (second wrong)
-    by_test false v has = let wrong : laid (codes "Wait" ∷ codes "unmet" ∷ number v ∷ []) rest ≡ laid (codes "lost" ∷ ws) rest' = ap (λ (r : Reply). laid (answer_words script frames hits (kind.Wait c) r) rest) (sym has) ∙ is in differ 87 108 refl (second wrong)
+    by_test true v has = let wrong : laid (codes "Wait" ∷ codes "met" ∷ number v ∷ []) rest ≡ laid (codes "lost" ∷ ws) rest' =
+        ap (λ (r : Reply). laid (answer_words script frames hits (kind.Wait c) r) rest) (sym has) ∙ is in differ 87 108 refl (second wrong)
+    by_test false v has = let wrong : laid (codes "Wait" ∷ codes "unmet" ∷ number v ∷ []) rest ≡ laid (codes "lost" ∷ ws) rest' =
+        ap (λ (r : Reply). laid (answer_words script frames hits (kind.Wait c) r) rest) (sym has) ∙ is in differ 87 108 refl (second wrong)
 
 display-said : (script : Script) (frames : ℕ) (hits : ℤ → ℤ → List Hit) (line : ℕ) (made : Kind) (answer : Reply) → display_may made ≡ true
     → said_words script frames hits line made answer ≡ number line ∷ answer_words script frames hits made answer
@@ -104,29 +111,40 @@ display-said script frames hits line _ answer may = refl
 -- ---- the lines of entries
 
 module _ (script : Script) (named : IsNamed script) where
-  entry-no-loss-by : (before : List Entry) (entry : Entry) (frames : ℕ) (hits : ℤ → ℤ → List Hit) (rest : List ℕ) (one : Lost) (rest' : List ℕ) (actor : Actor) → may_act script.setup entry.kind actor ≡ true
+  entry-no-loss-by : (before : List Entry) (entry : Entry) (frames : ℕ) (hits : ℤ → ℤ → List Hit) (rest : List ℕ) (one : Lost) (rest' : List ℕ) (actor : Actor)
+      → may_act script.setup entry.kind actor ≡ true
       → entry.reply ≡ reply_to script.setup before actor entry.calls entry.kind
-      → actor_name script actor ++ laid (said_words script frames hits entry.line entry.kind entry.reply) rest ≡ codes "display" ++ laid (number one.display ∷ codes "lost" ∷ lost_words one) rest' → ⊥
+      → actor_name script actor ++ laid (said_words script frames hits entry.line entry.kind entry.reply) rest ≡ codes "display"
+      ++ laid (number one.display ∷ codes "lost" ∷ lost_words one) rest' → ⊥
   entry-no-loss-by before entry frames hits rest one rest' (Session s) may has is =
       let proper = session-proper script named s (acts script entry.kind (Session s) may) in
       not-display (session_name script.sessions s) proper
-      (told (session_name script.sessions s) (codes "display") (said_words script frames hits entry.line entry.kind entry.reply) (number one.display ∷ codes "lost" ∷ lost_words one) rest rest' (actor-word script named (Session s) (acts script entry.kind (Session s) may)) refl is).0
+      (told (session_name script.sessions s) (codes "display") (said_words script frames hits entry.line entry.kind entry.reply)
+      (number one.display ∷ codes "lost" ∷ lost_words one) rest rest' (actor-word script named (Session s) (acts script entry.kind (Session s) may)) refl
+      is).0
   entry-no-loss-by before entry frames hits rest one rest' Display may has is =
-      let behind = append_cancel_left (codes "display") (laid (said_words script frames hits entry.line entry.kind entry.reply) rest) (laid (number one.display ∷ codes "lost" ∷ lost_words one) rest') is in
-      let said : laid (number entry.line ∷ answer_words script frames hits entry.kind entry.reply) rest ≡ laid (number one.display ∷ codes "lost" ∷ lost_words one) rest' =
+      let behind = append_cancel_left (codes "display") (laid (said_words script frames hits entry.line entry.kind entry.reply) rest)
+      (laid (number one.display ∷ codes "lost" ∷ lost_words one) rest') is in
+      let said : laid (number entry.line ∷ answer_words script frames hits entry.kind entry.reply) rest
+      ≡ laid (number one.display ∷ codes "lost" ∷ lost_words one) rest' =
       ap (λ ws. laid ws rest) (sym (display-said script frames hits entry.line entry.kind entry.reply may)) ∙ behind in
-      let next = told-next (number entry.line) (number one.display) (answer_words script frames hits entry.kind entry.reply) (codes "lost" ∷ lost_words one) rest rest' (number-word entry.line) (number-word one.display) said in
+      let next = told-next (number entry.line) (number one.display) (answer_words script frames hits entry.kind entry.reply) (codes "lost" ∷ lost_words one)
+      rest rest' (number-word entry.line) (number-word one.display) said in
       no-lost-said script frames hits before entry.calls entry.kind entry.reply (lost_words one) rest rest' may has next.1
   entry-no-loss-by before entry frames hits rest one rest' (Probe p) may has is = acts script entry.kind (Probe p) may
 
-  pub entry-no-loss : (before : List Entry) (entry : Entry) (frames : ℕ) (hits : ℤ → ℤ → List Hit) (rest : List ℕ) → LegalEntry script.setup before entry → NoLoss (line_on (entry_line script frames hits entry) rest)
-  entry-no-loss before entry frames hits rest legal one rest' is = entry-no-loss-by before entry frames hits rest one rest' entry.actor legal.may.acts legal.reply is
+  pub entry-no-loss : (before : List Entry) (entry : Entry) (frames : ℕ) (hits : ℤ → ℤ → List Hit) (rest : List ℕ) → LegalEntry script.setup before entry
+      → NoLoss (line_on (entry_line script frames hits entry) rest)
+  entry-no-loss before entry frames hits rest legal one rest' is =
+      entry-no-loss-by before entry frames hits rest one rest' entry.actor legal.may.acts legal.reply is
 
   -- the lines of two entries that begin one text have one actor
   pub entry-actors : (frames frames' : ℕ) (hits hits' : ℤ → ℤ → List Hit) (e e' : Entry) (rest rest' : List ℕ) → Acts script e.actor → Acts script e'.actor
-      → line_on (entry_line script frames hits e) rest ≡ line_on (entry_line script frames' hits' e') rest' → actor_name script e.actor ≡ actor_name script e'.actor
+      → line_on (entry_line script frames hits e) rest ≡ line_on (entry_line script frames' hits' e') rest'
+      → actor_name script e.actor ≡ actor_name script e'.actor
   entry-actors frames frames' hits hits' e e' rest rest' of_e of_e' is =
-      (told (actor_name script e.actor) (actor_name script e'.actor) (said_words script frames hits e.line e.kind e.reply) (said_words script frames' hits' e'.line e'.kind e'.reply) rest rest'
+      (told (actor_name script e.actor) (actor_name script e'.actor) (said_words script frames hits e.line e.kind e.reply)
+      (said_words script frames' hits' e'.line e'.kind e'.reply) rest rest'
       (actor-word script named e.actor of_e) (actor-word script named e'.actor of_e') is).0
 
   -- ---- the other lines
@@ -138,10 +156,12 @@ module _ (script : Script) (named : IsNamed script) where
   -- the end of the report
   pub end-no-entry : (ws : List Word) (rest : List ℕ) → NoEntry script (line_on (codes "report" ∷ codes "ends" ∷ ws) rest)
   end-no-entry ws rest frames hits entry rest' acting is =
-      let behind = (told (codes "report") (actor_name script entry.actor) (codes "ends" ∷ ws) (said_words script frames hits entry.line entry.kind entry.reply) rest rest' refl (actor-word script named entry.actor acting) is).1 in
+      let behind = (told (codes "report") (actor_name script entry.actor) (codes "ends" ∷ ws) (said_words script frames hits entry.line entry.kind entry.reply)
+      rest rest' refl (actor-word script named entry.actor acting) is).1 in
       let said : laid (codes "ends" ∷ ws) rest ≡ laid (first_said entry.line entry.kind ∷ then_said script frames hits entry.kind entry.reply) rest' =
       behind ∙ ap (λ vs. laid vs rest') (said-is script frames hits entry.line entry.kind entry.reply) in
-      not-ends entry.line entry.kind (told-next (codes "ends") (first_said entry.line entry.kind) ws (then_said script frames hits entry.kind entry.reply) rest rest' refl (first-word entry.line entry.kind) said).0
+      not-ends entry.line entry.kind (told-next (codes "ends") (first_said entry.line entry.kind) ws (then_said script frames hits entry.kind entry.reply) rest
+      rest' refl (first-word entry.line entry.kind) said).0
 
   pub end-no-loss : (ws : List Word) (rest : List ℕ) → NoLoss (line_on (codes "report" ∷ ws) rest)
   end-no-loss ws rest one rest' is = differ 114 100 refl (first is)

@@ -1,5 +1,6 @@
 -- Answers to a probe: one more, and after more entries.
-use Rattle.std.proofs.Common.{◌≡◌, ◌≤◌, ℕ, suc, ℤ, ◌+◌, ◌==◌, ◌&&◌, nat_le, Bool, true, false, cond, List, [], ◌∷◌, ◌++◌, length, filter, map, refl, sym, ap, ◌∙◌, arith, length-append}
+use Rattle.std.proofs.Common.{◌≡◌, ◌≤◌, ℕ, suc, ℤ, ◌+◌, ◌==◌, ◌&&◌, nat_le, Bool, true, false, cond, List, [], ◌∷◌, ◌++◌, length, filter, map, refl, sym, ap}
+use Rattle.std.proofs.Common.{◌∙◌, arith, length-append}
 use Rattle.std.specs.List.{list_all, zip}
 use Rattle.std.proofs.lemmas.Bool.{and_parts}
 use Rattle.std.proofs.lemmas.Bool.Decides.{nat_tests}
@@ -45,45 +46,52 @@ last-behind : (n : ℕ) (seen : List ℕ) (frame : ℕ) → seen_last_from n (se
 last-behind n [] frame = refl
 last-behind n (first ∷ seen) frame = last-behind first seen frame
 
-module _ {hits : ℕ → ℤ → ℤ → List Hit} {last : ℕ} {lines : List ScriptLine} {answers : List ProbeAnswer} (answered : AreAnsweredBy hits last lines answers) where
-  -- the frame seen last is up to the last one
-  pub seen-within : seen_last answers ≤ last
-  seen-within = last-within 0 (map frame_seen answers) last (omega arith) answered.within
+module _ {hits : ℕ → ℤ → ℤ → List Hit} {last : ℕ} {lines : List ScriptLine} {answers : List ProbeAnswer} (answered : AreAnsweredBy hits last lines answers)
+  where
+    -- the frame seen last is up to the last one
+    pub seen-within : seen_last answers ≤ last
+    seen-within = last-within 0 (map frame_seen answers) last (omega arith) answered.within
 
-  -- one line more is answered by a frame that isn't below the one seen last
-  pub one-answer-more : (line : ScriptLine) (frame : ℕ) → seen_last answers ≤ frame → frame ≤ last → AreAnsweredBy hits last (lines ++ line ∷ []) (answers ++ answer_by hits (line, frame) ∷ [])
-  one-answer-more line frame rises fits =
-      let answer : ProbeAnswer = answer_by hits (line, frame) in
-      let seen : map frame_seen (answers ++ answer ∷ []) ≡ map frame_seen answers ++ frame ∷ [] = map-append frame_seen answers (answer ∷ []) in
-      let long : length (map frame_seen answers) ≡ length lines = length-map answers frame_seen ∙ answered.as_many in
-      let low : nat_le frame last ≡ true = grind (arith, nat_tests) in
-      let within = answered.within in
-      record {
-        as_many = length-append answers (answer ∷ []) ∙ ap (λ n. n + 1) answered.as_many ∙ sym (length-append lines (line ∷ []));
-        are = ap (λ l. l ++ answer ∷ []) answered.are
-            ∙ sym (map-append (answer_by hits) (zip lines (map frame_seen answers)) ((line, frame) ∷ []))
-            ∙ ap (map (answer_by hits)) (sym (zip-append lines (map frame_seen answers) (line ∷ []) (frame ∷ []) long))
-            ∙ ap (λ fs. map (answer_by hits) (zip (lines ++ line ∷ []) fs)) (sym seen);
-        within = ap (list_all (λ frame. nat_le frame last)) seen ∙ list_all-append (λ frame. nat_le frame last) (map frame_seen answers) (frame ∷ []) ∙ rw (within, low) refl;
-        rise = ap (never_fall_from 0) seen ∙ rise-more 0 (map frame_seen answers) frame answered.rise rises;
-      }
+    -- one line more is answered by a frame that isn't below the one seen last
+    pub one-answer-more : (line : ScriptLine) (frame : ℕ) → seen_last answers ≤ frame → frame ≤ last
+        → AreAnsweredBy hits last (lines ++ line ∷ []) (answers ++ answer_by hits (line, frame) ∷ [])
+    one-answer-more line frame rises fits =
+        let answer : ProbeAnswer = answer_by hits (line, frame) in
+        let seen : map frame_seen (answers ++ answer ∷ []) ≡ map frame_seen answers ++ frame ∷ [] = map-append frame_seen answers (answer ∷ []) in
+        let long : length (map frame_seen answers) ≡ length lines = length-map answers frame_seen ∙ answered.as_many in
+        let low : nat_le frame last ≡ true = grind (arith, nat_tests) in
+        let within = answered.within in
+        record {
+          as_many = length-append answers (answer ∷ []) ∙ ap (λ n. n + 1) answered.as_many ∙ sym (length-append lines (line ∷ []));
+          are = ap (λ l. l ++ answer ∷ []) answered.are
+              ∙ sym (map-append (answer_by hits) (zip lines (map frame_seen answers)) ((line, frame) ∷ []))
+              ∙ ap (map (answer_by hits)) (sym (zip-append lines (map frame_seen answers) (line ∷ []) (frame ∷ []) long))
+              ∙ ap (λ fs. map (answer_by hits) (zip (lines ++ line ∷ []) fs)) (sym seen);
+          within = ap (list_all (λ frame. nat_le frame last)) seen ∙ list_all-append (λ frame. nat_le frame last) (map frame_seen answers) (frame ∷ [])
+              ∙ rw (within, low) refl;
+          rise = ap (never_fall_from 0) seen ∙ rise-more 0 (map frame_seen answers) frame answered.rise rises;
+        }
 
-  -- as by the last frame
-  pub last-answer-more : (line : ScriptLine) → AreAnsweredBy hits last (lines ++ line ∷ []) (answers ++ answer_by hits (line, last) ∷ [])
-  last-answer-more line = one-answer-more line last seen-within (omega arith)
+    -- as by the last frame
+    pub last-answer-more : (line : ScriptLine) → AreAnsweredBy hits last (lines ++ line ∷ []) (answers ++ answer_by hits (line, last) ∷ [])
+    last-answer-more line = one-answer-more line last seen-within (omega arith)
 
 -- and that is the one seen last then
-pub seen-last-more : (hits : ℕ → ℤ → ℤ → List Hit) (line : ScriptLine) (frame : ℕ) (answers : List ProbeAnswer) → seen_last (answers ++ answer_by hits (line, frame) ∷ []) ≡ frame
-seen-last-more hits line frame answers = ap (seen_last_from 0) (map-append frame_seen answers (answer_by hits (line, frame) ∷ [])) ∙ last-behind 0 (map frame_seen answers) frame
+pub seen-last-more : (hits : ℕ → ℤ → ℤ → List Hit) (line : ScriptLine) (frame : ℕ) (answers : List ProbeAnswer)
+    → seen_last (answers ++ answer_by hits (line, frame) ∷ []) ≡ frame
+seen-last-more hits line frame answers = ap (seen_last_from 0) (map-append frame_seen answers (answer_by hits (line, frame) ∷ []))
+    ∙ last-behind 0 (map frame_seen answers) frame
 
 -- ---- more frames
 
-module _ {hits later : ℕ → ℤ → ℤ → List Hit} {last more : ℕ} (grows : last ≤ more) (agree : (frame : ℕ) → frame ≤ last → (x y : ℤ) → hits frame x y ≡ later frame x y) where
+module _ {hits later : ℕ → ℤ → ℤ → List Hit} {last more : ℕ} (grows : last ≤ more)
+    (agree : (frame : ℕ) → frame ≤ last → (x y : ℤ) → hits frame x y ≡ later frame x y) where
   same-hits : (frame : ℕ) (asked : ProbeLine) → frame ≤ last → asked_hits (hits frame) asked ≡ asked_hits (later frame) asked
   same-hits frame (probe.Hit x y) low = agree frame low x y
   same-hits frame (probe.Await n) low = refl
 
-  same-answers : (lines : List ScriptLine) (seen : List ℕ) → list_all (λ frame. nat_le frame last) seen ≡ true → map (answer_by hits) (zip lines seen) ≡ map (answer_by later) (zip lines seen)
+  same-answers : (lines : List ScriptLine) (seen : List ℕ) → list_all (λ frame. nat_le frame last) seen ≡ true
+      → map (answer_by hits) (zip lines seen) ≡ map (answer_by later) (zip lines seen)
   same-answers [] seen within = refl
   same-answers (line ∷ lines) [] within = refl
   same-answers (line ∷ lines) (frame ∷ seen) within =
@@ -92,7 +100,13 @@ module _ {hits later : ℕ → ℤ → ℤ → List Hit} {last more : ℕ} (grow
       let low : frame ≤ last = grind (arith, nat_tests) in
       let rest = same-answers lines seen parts.1 in
       let same = same-hits frame (asked_by line.body) low in
-      let answer : List Hit → ProbeAnswer = λ hit. record { actor = line.actor; line = line.number; asked = asked_by line.body; frame = record { 0 = frame }; hits = hit } in
+      let answer : List Hit → ProbeAnswer = λ hit. record {
+        actor = line.actor;
+        line = line.number;
+        asked = asked_by line.body;
+        frame = record { 0 = frame };
+        hits = hit;
+      } in
       λ i. answer (same i) ∷ rest i
 
   still-within : (seen : List ℕ) → list_all (λ frame. nat_le frame last) seen ≡ true → list_all (λ frame. nat_le frame more) seen ≡ true
@@ -129,22 +143,28 @@ not-this false other here before is = refl
 -- a frame that is finished has its begin, whatever comes later
 pub begin-stays : (frame : ℕ) (history : List Entry) (entry : Entry) → frame ≤ frames history → begin_of frame (history ▹ entry) ≡ begin_of frame history
 begin-stays frame history entry low =
-    let other : (suc (frames history) == frame) ≡ false = grind (arith, nat_tests) in not-this (is_finish entry.kind) (suc (frames history) == frame) (to_begin history) (begin_of frame history) other
+    let other : (suc (frames history) == frame) ≡ false =
+    grind (arith, nat_tests) in not-this (is_finish entry.kind) (suc (frames history) == frame) (to_begin history) (begin_of frame history) other
 
 -- no frame has the number 0
 pub no-begin : (history : List Entry) → begin_of 0 history ≡ []
 no-begin [] = refl
 no-begin (before ▹ entry) = begin-stays 0 before entry (omega arith) ∙ no-begin before
 
-pub hits-stay : (setup : Setup) (frame : ℕ) (history : List Entry) (entry : Entry) → frame ≤ frames history → (x y : ℤ) → hits_in_frame setup history frame x y ≡ hits_in_frame setup (history ▹ entry) frame x y
+pub hits-stay : (setup : Setup) (frame : ℕ) (history : List Entry) (entry : Entry) → frame ≤ frames history → (x y : ℤ)
+    → hits_in_frame setup history frame x y ≡ hits_in_frame setup (history ▹ entry) frame x y
 hits-stay setup frame history entry low x y = ap (λ begun. hits_at setup begun x y) (sym (begin-stays frame history entry low))
 
 -- what is answered by frames of a history is answered by frames of a longer one
-pub answered-on : (setup : Setup) (history : List Entry) (entry : Entry) (lines : List ScriptLine) (answers : List ProbeAnswer) → AreAnsweredBy (hits_in_frame setup history) (frames history) lines answers
+pub answered-on : (setup : Setup) (history : List Entry) (entry : Entry) (lines : List ScriptLine) (answers : List ProbeAnswer)
+    → AreAnsweredBy (hits_in_frame setup history) (frames history) lines answers
     → AreAnsweredBy (hits_in_frame setup (history ▹ entry)) (frames (history ▹ entry)) lines answers
-answered-on setup history entry lines answers answered = still-answered (frames-grow history entry) (λ frame low x y. hits-stay setup frame history entry low x y) lines answers answered
+answered-on setup history entry lines answers answered =
+    still-answered (frames-grow history entry) (λ frame low x y. hits-stay setup frame history entry low x y) lines answers answered
 
-pub answered-later : (setup : Setup) (later history : List Entry) (lines : List ScriptLine) (answers : List ProbeAnswer) → AreAnsweredBy (hits_in_frame setup history) (frames history) lines answers
+pub answered-later : (setup : Setup) (later history : List Entry) (lines : List ScriptLine) (answers : List ProbeAnswer)
+    → AreAnsweredBy (hits_in_frame setup history) (frames history) lines answers
     → AreAnsweredBy (hits_in_frame setup (later ++ history)) (frames (later ++ history)) lines answers
 answered-later setup [] history lines answers answered = answered
-answered-later setup (entry ∷ later) history lines answers answered = answered-on setup (later ++ history) entry lines answers (answered-later setup later history lines answers answered)
+answered-later setup (entry ∷ later) history lines answers answered =
+    answered-on setup (later ++ history) entry lines answers (answered-later setup later history lines answers answered)

@@ -1,5 +1,6 @@
 -- What a script that was read from a text is like: its names, the lines of its probes, and how many lines it has.
-use Rattle.std.proofs.Common.{◌≡◌, ℕ, zero, suc, ◌^◌, ◌+◌, ◌*◌, ◌-◌, ◌<◌, ◌≤◌, not, nat_lt, Bool, true, false, cond, List, [], ◌∷◌, ◌++◌, length, codes, Some, None, Result, Ok, Err, refl, subst, sym, ap, ◌∙◌, arith, length-append}
+use Rattle.std.proofs.Common.{◌≡◌, ℕ, zero, suc, ◌^◌, ◌+◌, ◌*◌, ◌-◌, ◌<◌, ◌≤◌, not, nat_lt, Bool, true, false, cond, List, [], ◌∷◌, ◌++◌, length, codes, Some}
+use Rattle.std.proofs.Common.{None, Result, Ok, Err, refl, subst, sym, ap, ◌∙◌, arith, length-append}
 use Rattle.std.specs.List.{list_all}
 use Rattle.std.specs.Str.{bytes_eq}
 use Rattle.std.proofs.lemmas.Bool.Decides.{nat_tests}
@@ -58,7 +59,10 @@ other-name names name w i none some = by_test (bytes_eq name w) refl
     by_test false at = at
 
 names-more : (names : List Word) (name : Word) → AreNames names → is_name name ≡ true → place_of names name ≡ None → AreNames (names ++ name ∷ [])
-names-more names name are proper none = record { proper = λ i below. proper_at (nat_lt i (length names)) i refl below; placed = λ i below. placed_at (nat_lt i (length names)) i refl below }
+names-more names name are proper none = record {
+  proper = λ i below. proper_at (nat_lt i (length names)) i refl below;
+  placed = λ i below. placed_at (nat_lt i (length names)) i refl below;
+}
   where
     last : (i : ℕ) → nat_lt i (length names) ≡ false → i < length (names ++ name ∷ []) → length names ≡ i
     last i over below = let upto : length names ≤ i = grind (arith, nat_tests) in omega (arith, upto, below, length-append names (name ∷ []))
@@ -68,14 +72,18 @@ names-more names name are proper none = record { proper = λ i below. proper_at 
 
     proper_at : (b : Bool) (i : ℕ) → nat_lt i (length names) ≡ b → i < length (names ++ name ∷ []) → is_name (name_at (names ++ name ∷ []) i) ≡ true
     proper_at true i is below = ap is_name (at-old names (name ∷ []) i (within i is)) ∙ are.proper i (within i is)
-    proper_at false i is below = subst (λ (k : ℕ). is_name (name_at (names ++ name ∷ []) k) ≡ true) (last i is below) (ap is_name (name_at_seam names [] name) ∙ proper)
+    proper_at false i is below = subst (λ (k : ℕ). is_name (name_at (names ++ name ∷ []) k) ≡ true) (last i is below)
+        (ap is_name (name_at_seam names [] name) ∙ proper)
 
-    placed_at : (b : Bool) (i : ℕ) → nat_lt i (length names) ≡ b → i < length (names ++ name ∷ []) → place_of (names ++ name ∷ []) (name_at (names ++ name ∷ []) i) ≡ Some i
+    placed_at : (b : Bool) (i : ℕ) → nat_lt i (length names) ≡ b → i < length (names ++ name ∷ [])
+        → place_of (names ++ name ∷ []) (name_at (names ++ name ∷ []) i) ≡ Some i
     placed_at true i is below =
         let placed = are.placed i (within i is) in
-        ap (place_of (names ++ name ∷ [])) (at-old names (name ∷ []) i (within i is)) ∙ place_else names name (name_at names i) (other-name names name (name_at names i) i none placed) ∙ placed
+        ap (place_of (names ++ name ∷ [])) (at-old names (name ∷ []) i (within i is))
+        ∙ place_else names name (name_at names i) (other-name names name (name_at names i) i none placed) ∙ placed
     placed_at false i is below =
-        subst (λ (k : ℕ). place_of (names ++ name ∷ []) (name_at (names ++ name ∷ []) k) ≡ Some k) (last i is below) (ap (place_of (names ++ name ∷ [])) (name_at_seam names [] name) ∙ place_there names name none)
+        subst (λ (k : ℕ). place_of (names ++ name ∷ []) (name_at (names ++ name ∷ []) k) ≡ Some k) (last i is below)
+        (ap (place_of (names ++ name ∷ [])) (name_at_seam names [] name) ∙ place_there names name none)
 
 session-named : (u : Script) (ws : List Word) (t : Script) → SessionStep u ws t → IsNamed u → IsNamed t
 session-named u ws t x is =
@@ -87,10 +95,12 @@ session-named u ws t x is =
       probe_count = is.probe_count;
       sessions = names-more u.sessions x.name is.sessions x.fresh.name none.sessions;
       probes = is.probes;
-      apart = λ i below. place_else u.sessions x.name (name_at u.probes i) (other-name u.probes x.name (name_at u.probes i) i none.probes (is.probes.placed i below)) ∙ is.apart i below;
+      apart = λ i below. place_else u.sessions x.name (name_at u.probes i)
+          (other-name u.probes x.name (name_at u.probes i) i none.probes (is.probes.placed i below)) ∙ is.apart i below;
     })
 
-apart-more : (sessions probes : List Word) (name : Word) → ((i : ℕ) → i < length probes → place_of sessions (name_at probes i) ≡ None) → place_of sessions name ≡ None
+apart-more : (sessions probes : List Word) (name : Word) → ((i : ℕ) → i < length probes → place_of sessions (name_at probes i) ≡ None)
+    → place_of sessions name ≡ None
     → (i : ℕ) → i < length (probes ++ name ∷ []) → place_of sessions (name_at (probes ++ name ∷ []) i) ≡ None
 apart-more sessions probes name apart none i below = by_place (nat_lt i (length probes)) refl
   where
@@ -102,7 +112,8 @@ apart-more sessions probes name apart none i below = by_place (nat_lt i (length 
 
     by_place : (b : Bool) → nat_lt i (length probes) ≡ b → place_of sessions (name_at (probes ++ name ∷ []) i) ≡ None
     by_place true is = ap (place_of sessions) (at-old probes (name ∷ []) i (within is)) ∙ apart i (within is)
-    by_place false is = subst (λ (k : ℕ). place_of sessions (name_at (probes ++ name ∷ []) k) ≡ None) (last is) (ap (place_of sessions) (name_at_seam probes [] name) ∙ none)
+    by_place false is = subst (λ (k : ℕ). place_of sessions (name_at (probes ++ name ∷ []) k) ≡ None) (last is)
+        (ap (place_of sessions) (name_at_seam probes [] name) ∙ none)
 
 probe-named : (u : Script) (ws : List Word) (t : Script) → ProbeStep u ws t → IsNamed u → IsNamed t
 probe-named u ws t x is =
@@ -117,7 +128,8 @@ probe-named u ws t x is =
       apart = apart-more u.sessions u.probes x.name is.apart none.sessions;
     })
 
-same-names : (u t : Script) → t.setup.sessions ≡ u.setup.sessions → t.setup.probes ≡ u.setup.probes → t.sessions ≡ u.sessions → t.probes ≡ u.probes → IsNamed u → IsNamed t
+same-names : (u t : Script) → t.setup.sessions ≡ u.setup.sessions → t.setup.probes ≡ u.setup.probes → t.sessions ≡ u.sessions → t.probes ≡ u.probes → IsNamed u
+    → IsNamed t
 same-names u t count count' sessions probes is = record {
   session_count = count ∙ is.session_count ∙ ap (λ (ws : List Word). length ws) (sym sessions);
   probe_count = count' ∙ is.probe_count ∙ ap (λ (ws : List Word). length ws) (sym probes);
@@ -127,15 +139,24 @@ same-names u t count count' sessions probes is = record {
 }
   where
     both : (ss ps : List Word) → u.sessions ≡ ss → u.probes ≡ ps → (i : ℕ) → i < length ps → place_of ss (name_at ps i) ≡ None
-    both ss ps same same' = let P : List Word → List Word → Type 0 = λ vs ws. (i : ℕ) → i < length ws → place_of vs (name_at ws i) ≡ None in subst (λ vs. P vs ps) same (subst (λ ws. P u.sessions ws) same' is.apart)
+    both ss ps same same' = let P : List Word → List Word → Type 0 =
+        λ vs ws. (i : ℕ) → i < length ws → place_of vs (name_at ws i) ≡ None in subst (λ vs. P vs ps) same (subst (λ ws. P u.sessions ws) same' is.apart)
 
 step-named : (u : Script) (ws : List Word) (t : Script) → Step u ws t → IsNamed u → IsNamed t
 step-named u ws t (session_step x) is = session-named u ws t x is
 step-named u ws t (probe_step x) is = probe-named u ws t x is
-step-named u ws t (size_step x) is = let m = x.made in same-names u t (ap (λ (s : Script). s.setup.sessions) m) (ap (λ (s : Script). s.setup.probes) m) (ap (λ (s : Script). s.sessions) m) (ap (λ (s : Script). s.probes) m) is
-step-named u ws t (buffers_step x) is = let m = x.made in same-names u t (ap (λ (s : Script). s.setup.sessions) m) (ap (λ (s : Script). s.setup.probes) m) (ap (λ (s : Script). s.sessions) m) (ap (λ (s : Script). s.probes) m) is
-step-named u ws t (pair_step x) is = let m = x.made in same-names u t (ap (λ (s : Script). s.setup.sessions) m) (ap (λ (s : Script). s.setup.probes) m) (ap (λ (s : Script). s.sessions) m) (ap (λ (s : Script). s.probes) m) is
-step-named u ws t (fence_step x) is = let m = x.made in same-names u t (ap (λ (s : Script). s.setup.sessions) m) (ap (λ (s : Script). s.setup.probes) m) (ap (λ (s : Script). s.sessions) m) (ap (λ (s : Script). s.probes) m) is
+step-named u ws t (size_step x) is = let m = x.made in
+    same-names u t (ap (λ (s : Script). s.setup.sessions) m) (ap (λ (s : Script). s.setup.probes) m) (ap (λ (s : Script). s.sessions) m)
+    (ap (λ (s : Script). s.probes) m) is
+step-named u ws t (buffers_step x) is = let m = x.made in
+    same-names u t (ap (λ (s : Script). s.setup.sessions) m) (ap (λ (s : Script). s.setup.probes) m) (ap (λ (s : Script). s.sessions) m)
+    (ap (λ (s : Script). s.probes) m) is
+step-named u ws t (pair_step x) is = let m = x.made in
+    same-names u t (ap (λ (s : Script). s.setup.sessions) m) (ap (λ (s : Script). s.setup.probes) m) (ap (λ (s : Script). s.sessions) m)
+    (ap (λ (s : Script). s.probes) m) is
+step-named u ws t (fence_step x) is = let m = x.made in
+    same-names u t (ap (λ (s : Script). s.setup.sessions) m) (ap (λ (s : Script). s.setup.probes) m) (ap (λ (s : Script). s.sessions) m)
+    (ap (λ (s : Script). s.probes) m) is
 
 -- ---- one line more
 
@@ -169,14 +190,26 @@ body-kept n u ws t is kept =
     let few = kept.few in
     let P : Script → Type 0 = Kept (n + 1) in
     subst P (sym a.read) (record {
-      named = record { session_count = kept.named.session_count; probe_count = kept.named.probe_count; sessions = kept.named.sessions; probes = kept.named.probes; apart = kept.named.apart };
+      named = record {
+        session_count = kept.named.session_count;
+        probe_count = kept.named.probe_count;
+        sessions = kept.named.sessions;
+        probes = kept.named.probes;
+        apart = kept.named.apart;
+      };
       spoken = list_all-append (λ (line : ScriptLine). is_asking line.actor line.body) u.lines (line ∷ []) ∙ rw (before, says) refl;
       few = omega (arith, few, length-append u.lines (line ∷ []));
     })
 
 version-kept : (n : ℕ) (u : Script) (version : ℕ) → Kept n u → Kept n (with_version u version)
 version-kept n u version kept = record {
-  named = record { session_count = kept.named.session_count; probe_count = kept.named.probe_count; sessions = kept.named.sessions; probes = kept.named.probes; apart = kept.named.apart };
+  named = record {
+    session_count = kept.named.session_count;
+    probe_count = kept.named.probe_count;
+    sessions = kept.named.sessions;
+    probes = kept.named.probes;
+    apart = kept.named.apart;
+  };
   spoken = kept.spoken;
   few = kept.few;
 }
@@ -188,8 +221,10 @@ words-kept n (part.Start, u) next ws is kept =
 words-kept n (part.Head, u) next [] is kept = absurd (cc)
 words-kept n (part.Head, u) next (w ∷ ws) is kept = by_run (bytes_eq w (codes "run")) is
   where
-    by_run : (b : Bool) → cond b (mapped (λ _. (part.Body, u)) (run_line u ws)) (mapped (λ t. (part.Head, t)) (head_line u (w ∷ ws))) ≡ Ok next → Kept (n + 1) next.1
-    by_run true is = let m = mapped_ok (λ _. (part.Body, u)) (run_line u ws) next is in kept-at (n + 1) u next.1 (ap (λ (v : Sofar). v.1) m.value) (kept-on n u kept)
+    by_run : (b : Bool) → cond b (mapped (λ _. (part.Body, u)) (run_line u ws)) (mapped (λ t. (part.Head, t)) (head_line u (w ∷ ws))) ≡ Ok next
+        → Kept (n + 1) next.1
+    by_run true is = let m = mapped_ok (λ _. (part.Body, u)) (run_line u ws) next is in
+        kept-at (n + 1) u next.1 (ap (λ (v : Sofar). v.1) m.value) (kept-on n u kept)
     by_run false is =
         let m = mapped_ok (λ t. (part.Head, t)) (head_line u (w ∷ ws)) next is in
         kept-at (n + 1) m.a next.1 (ap (λ (v : Sofar). v.1) m.value) (head-kept n u (w ∷ ws) m.a (step_found u (w ∷ ws) m.a m.given) kept)
@@ -198,10 +233,12 @@ words-kept n (part.Body, u) next ws is kept =
     kept-at (n + 1) m.a next.1 (ap (λ (v : Sofar). v.1) m.value) (body-kept n u ws m.a m.given kept)
 
 line-by : (n : ℕ) (sofar next : Sofar) (ws : List Word) (p q r : Bool) → Kept n sofar.1
-    → cond {A = Reading Sofar} (not p) (Err NotAscii) (cond {A = Reading Sofar} q (Err LongLine) (cond {A = Reading Sofar} r (Ok sofar) (words_read n sofar ws))) ≡ Ok next → Kept (n + 1) next.1
+    → cond {A = Reading Sofar} (not p) (Err NotAscii) (cond {A = Reading Sofar} q (Err LongLine)
+    (cond {A = Reading Sofar} r (Ok sofar) (words_read n sofar ws))) ≡ Ok next → Kept (n + 1) next.1
 line-by n sofar next ws false q r kept is = absurd (cc)
 line-by n sofar next ws true true r kept is = absurd (cc)
-line-by n sofar next ws true false true kept is = let same : sofar ≡ next = cc in kept-at (n + 1) sofar.1 next.1 (ap (λ (v : Sofar). v.1) same) (kept-on n sofar.1 kept)
+line-by n sofar next ws true false true kept is = let same : sofar ≡ next =
+    cc in kept-at (n + 1) sofar.1 next.1 (ap (λ (v : Sofar). v.1) same) (kept-on n sofar.1 kept)
 line-by n sofar next ws true false false kept is = words-kept n sofar next ws is kept
 
 -- ---- all lines
@@ -211,12 +248,19 @@ end-kept n (part.Start, u) s is kept = absurd (cc)
 end-kept n (part.Head, u) s is kept = absurd (cc)
 end-kept n (part.Body, u) s is kept = by_test (is_open u) is
   where
-    by_test : (b : Bool) → cond {A = Result Script ScriptFault} b (Err (record { line = n; kind = BadOrder })) (Ok (record u { count = n - 1 })) ≡ Ok s → Kept n s
+    by_test : (b : Bool) → cond {A = Result Script ScriptFault} b (Err (record { line = n; kind = BadOrder })) (Ok (record u { count = n - 1 })) ≡ Ok s
+        → Kept n s
     by_test true is = absurd (cc)
     by_test false is =
         let same : record u { count = n - 1 } ≡ s = cc in
         kept-at n (record u { count = n - 1 }) s same (record {
-          named = record { session_count = kept.named.session_count; probe_count = kept.named.probe_count; sessions = kept.named.sessions; probes = kept.named.probes; apart = kept.named.apart };
+          named = record {
+            session_count = kept.named.session_count;
+            probe_count = kept.named.probe_count;
+            sessions = kept.named.sessions;
+            probes = kept.named.probes;
+            apart = kept.named.apart;
+          };
           spoken = kept.spoken;
           few = kept.few;
         })
@@ -226,7 +270,8 @@ record NextRead (n : ℕ) (sofar : Sofar) (l : List ℕ) (ls : List (List ℕ)) 
   read : line_read n sofar l ≡ Ok next
   rest : lines_read (n + 1) next ls ≡ Ok s
 
-next-by : (n : ℕ) (sofar : Sofar) (l : List ℕ) (ls : List (List ℕ)) (s : Script) (r : Reading Sofar) → line_read n sofar l ≡ r → lines_read n sofar (l ∷ ls) ≡ Ok s → NextRead n sofar l ls s
+next-by : (n : ℕ) (sofar : Sofar) (l : List ℕ) (ls : List (List ℕ)) (s : Script) (r : Reading Sofar) → line_read n sofar l ≡ r
+    → lines_read n sofar (l ∷ ls) ≡ Ok s → NextRead n sofar l ls s
 next-by n sofar l ls s (Ok next) e is = record { next = next; read = e; rest = rw e at is }
 next-by n sofar l ls s (Err k) e is = absurd (let wrong = rw e at is in cc)
 

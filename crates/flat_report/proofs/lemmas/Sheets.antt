@@ -1,5 +1,6 @@
 -- Texts of lines, laid out from the front, and which words begin them.
-use Rattle.std.proofs.Common.{◌≡◌, ℕ, zero, suc, ◌+◌, ◌<◌, ◌/◌, ◌%◌, ◌==◌, ◌&&◌, nat_lt, nat_le, Bool, true, false, cond, List, [], ◌∷◌, ◌++◌, refl, sym, ap, ◌∙◌, append_assoc, append-nil, arith}
+use Rattle.std.proofs.Common.{◌≡◌, ℕ, zero, suc, ◌+◌, ◌<◌, ◌/◌, ◌%◌, ◌==◌, ◌&&◌, nat_lt, nat_le, Bool, true, false, cond, List, [], ◌∷◌, ◌++◌, refl, sym, ap}
+use Rattle.std.proofs.Common.{◌∙◌, append_assoc, append-nil, arith}
 use Rattle.std.specs.List.{list_all}
 use Rattle.std.specs.Fmt.{digits, digits_onto, digit_glyph}
 use Rattle.std.proofs.lemmas.Bool.Decides.{nat_tests}
@@ -93,14 +94,16 @@ word-told (a ∷ w) (b ∷ v) c d xs ys of_w of_v low_c low_d is =
     (ap (λ x. x ∷ w) first.0 ∙ ap (λ t. b ∷ t) later.0, later.1)
 
 -- the first words of two lines that begin the same text
-pub told : (w v : Word) (ws vs : List Word) (a b : List ℕ) → is_word w ≡ true → is_word v ≡ true → w ++ laid ws a ≡ v ++ laid vs b → (w ≡ v) × (laid ws a ≡ laid vs b)
+pub told : (w v : Word) (ws vs : List Word) (a b : List ℕ) → is_word w ≡ true → is_word v ≡ true → w ++ laid ws a ≡ v ++ laid vs b
+    → (w ≡ v) × (laid ws a ≡ laid vs b)
 told w v [] [] a b of_w of_v is = word-told w v 10 10 a b of_w of_v refl refl is
 told w v [] (y ∷ vs) a b of_w of_v is = word-told w v 10 32 a (y ++ laid vs b) of_w of_v refl refl is
 told w v (x ∷ ws) [] a b of_w of_v is = word-told w v 32 10 (x ++ laid ws a) b of_w of_v refl refl is
 told w v (x ∷ ws) (y ∷ vs) a b of_w of_v is = word-told w v 32 32 (x ++ laid ws a) (y ++ laid vs b) of_w of_v refl refl is
 
 -- the next words of two lines
-pub told-next : (w v : Word) (ws vs : List Word) (a b : List ℕ) → is_word w ≡ true → is_word v ≡ true → laid (w ∷ ws) a ≡ laid (v ∷ vs) b → (w ≡ v) × (laid ws a ≡ laid vs b)
+pub told-next : (w v : Word) (ws vs : List Word) (a b : List ℕ) → is_word w ≡ true → is_word v ≡ true → laid (w ∷ ws) a ≡ laid (v ∷ vs) b
+    → (w ≡ v) × (laid ws a ≡ laid vs b)
 told-next w v ws vs a b of_w of_v is = told w v ws vs a b of_w of_v (behind-one 32 (w ++ laid ws a) (v ++ laid vs b) is)
 
 -- ---- numbers
@@ -118,8 +121,10 @@ glyph d low = let one : nat_lt d 10 ≡ true = grind (arith, nat_tests) in rw on
 digits-onto : (k n : ℕ) (acc : List ℕ) → list_all is_digit acc ≡ true → list_all is_digit (digits_onto k 10 false n acc) ≡ true
 digits-onto zero n acc fine = fine
 digits-onto (suc k) n acc fine =
-    let more : list_all is_digit (digit_glyph false (n % 10) ∷ acc) ≡ true = and_from (is_digit (digit_glyph false (n % 10))) (list_all is_digit acc) (glyph (n % 10) (omega arith)) fine in
-    by_last (n / 10 == 0) (digit_glyph false (n % 10) ∷ acc) (digits_onto k 10 false (n / 10) (digit_glyph false (n % 10) ∷ acc)) more (digits-onto k (n / 10) (digit_glyph false (n % 10) ∷ acc) more)
+    let more : list_all is_digit (digit_glyph false (n % 10) ∷ acc) ≡ true =
+    and_from (is_digit (digit_glyph false (n % 10))) (list_all is_digit acc) (glyph (n % 10) (omega arith)) fine in
+    by_last (n / 10 == 0) (digit_glyph false (n % 10) ∷ acc) (digits_onto k 10 false (n / 10) (digit_glyph false (n % 10) ∷ acc)) more
+    (digits-onto k (n / 10) (digit_glyph false (n % 10) ∷ acc) more)
   where
     by_last : (b : Bool) (xs ys : List ℕ) → list_all is_digit xs ≡ true → list_all is_digit ys ≡ true → list_all is_digit (cond b xs ys) ≡ true
     by_last true xs ys p q = p

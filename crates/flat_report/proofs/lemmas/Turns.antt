@@ -12,7 +12,8 @@ use Rattle.flat_scene.specs.declared.script.DisplayLine.{DisplayLine}
 use Rattle.flat_scene.specs.declared.setup.Setup.{Setup}
 use Rattle.flat_scene.specs.Frames.{sessions_to}
 use Rattle.flat_scene.specs.History.{◌▹◌, own, is_session, is_display}
-use Rattle.flat_scene.specs.Interleave.{Follows, FollowsDisplay, IsFirstLine, IsNext, Interleaves, IsReading, Next, next_of, session_lines, display_lines, by_display, unread_lines}
+use Rattle.flat_scene.specs.Interleave.{Follows, FollowsDisplay, IsFirstLine, IsNext, Interleaves, IsReading, Next, next_of, session_lines, display_lines}
+use Rattle.flat_scene.specs.Interleave.{by_display, unread_lines}
 use Rattle.flat_scene.specs.Setups.{is_declared}
 use Rattle.flat_rules.specs.Legal.{Legal, may_act, session_may}
 use Rattle.flat_report.proofs.lemmas.Tails.{onto}
@@ -26,11 +27,14 @@ listed P (x ∷ xs) last all = let later = listed P xs last all.1 in ((all.0, la
 
 pub session-at : (P : SessionNo → Type 0) (n k : ℕ) → 1 ≤ k → k ≤ n → AllByRecursion P (sessions_to n) → P (record { 0 = k })
 session-at P zero k some few all = absurd (omega arith)
-session-at P (suc n) k some few all = by_last (nat_le k n) refl (listed P (sessions_to n) (record { 0 = suc n }) all) (λ below rest. session-at P n k some below rest)
+session-at P (suc n) k some few all = by_last (nat_le k n) refl (listed P (sessions_to n) (record { 0 = suc n }) all)
+    (λ below rest. session-at P n k some below rest)
   where
-    by_last : (b : Bool) → nat_le k n ≡ b → AllByRecursion P (sessions_to n) × P (record { 0 = suc n }) → (k ≤ n → AllByRecursion P (sessions_to n) → P (record { 0 = k })) → P (record { 0 = k })
+    by_last : (b : Bool) → nat_le k n ≡ b → AllByRecursion P (sessions_to n) × P (record { 0 = suc n })
+        → (k ≤ n → AllByRecursion P (sessions_to n) → P (record { 0 = k })) → P (record { 0 = k })
     by_last true is parts before = before (grind (arith, nat_tests)) parts.0
-    by_last false is parts before = let same : suc n ≡ k = (let over : n < k = grind (arith, nat_tests) in omega arith) in subst (λ (m : ℕ). P (record { 0 = m })) same parts.1
+    by_last false is parts before = let same : suc n ≡ k =
+        (let over : n < k = grind (arith, nat_tests) in omega arith) in subst (λ (m : ℕ). P (record { 0 = m })) same parts.1
 
 -- ---- what stands
 
@@ -49,7 +53,8 @@ module _ (setup : Setup) (count : ℕ) (lines : List ScriptLine) where
   pub stands : (history : List Entry) → Legal setup history → Interleaves setup count lines history → Stands setup count lines history
   stands history legal interleaves = record {
     legal = legal;
-    sessions = λ s declared. (session-at (λ s. IsReading setup count (session_lines s lines) (own s history)) setup.sessions s.0 (least s declared) (most s declared) interleaves.sessions).follows;
+    sessions = λ s declared. (session-at (λ s. IsReading setup count (session_lines s lines) (own s history)) setup.sessions s.0 (least s declared)
+        (most s declared) interleaves.sessions).follows;
     display = interleaves.display;
   }
     where
@@ -63,15 +68,19 @@ module _ (setup : Setup) (count : ℕ) (lines : List ScriptLine) where
   same-next : (next : Next) (e e' : Entry) → IsNext next e → IsNext next e' → (e.line ≡ e'.line) × (e.calls ≡ e'.calls) × (e.kind ≡ e'.kind)
   same-next next e e' is is' = (is.line ∙ sym is'.line, is.carried ∙ sym is'.carried, is.kind ∙ sym is'.kind)
 
-  pub session-next : (s : SessionNo) (before : List Entry) (e : Entry) → is_session s e.actor ≡ true → Follows setup count (session_lines s lines) (own s (before ▹ e)) → IsNext (next_of setup count (own s before) (session_lines s lines)) e
+  pub session-next : (s : SessionNo) (before : List Entry) (e : Entry) → is_session s e.actor ≡ true
+      → Follows setup count (session_lines s lines) (own s (before ▹ e)) → IsNext (next_of setup count (own s before) (session_lines s lines)) e
   session-next s before e mine follows = (subst (λ b. Follows setup count (session_lines s lines) (cond b (own s before ▹ e) (own s before))) mine follows).1
 
-  pub same-first : (ls : List (ℕ × DisplayLine)) (e e' : Entry) → IsFirstLine ls e → IsFirstLine ls e' → (e.line ≡ e'.line) × (e.calls ≡ e'.calls) × (e.kind ≡ e'.kind)
+  pub same-first : (ls : List (ℕ × DisplayLine)) (e e' : Entry) → IsFirstLine ls e → IsFirstLine ls e'
+      → (e.line ≡ e'.line) × (e.calls ≡ e'.calls) × (e.kind ≡ e'.kind)
   same-first [] e e' is is' = absurd is
   same-first ((number, text) ∷ later) e e' is is' = same-next _ e e' is is'
 
-  pub display-next : (before : List Entry) (e : Entry) → e.actor ≡ Display → FollowsDisplay (display_lines lines) (by_display (before ▹ e)) → IsFirstLine (unread_lines (by_display before) (display_lines lines)) e
-  display-next before e is follows = (subst (λ (a : Actor). FollowsDisplay (display_lines lines) (cond (is_display a) (by_display before ▹ e) (by_display before))) is follows).1
+  pub display-next : (before : List Entry) (e : Entry) → e.actor ≡ Display → FollowsDisplay (display_lines lines) (by_display (before ▹ e))
+      → IsFirstLine (unread_lines (by_display before) (display_lines lines)) e
+  display-next before e is follows = (subst (λ (a : Actor). FollowsDisplay (display_lines lines)
+      (cond (is_display a) (by_display before ▹ e) (by_display before))) is follows).1
 
   pub no-probe : (kind : Kind) (p : ℕ) → may_act setup kind (Probe p) ≡ true → ⊥
   no-probe kind p acts = cc
@@ -87,17 +96,21 @@ module _ (setup : Setup) (count : ℕ) (lines : List ScriptLine) where
       let own_e : is_session s e.actor ≡ true = rw is (eq-eqb s.0 s.0 refl) in
       let own_e' : is_session s e'.actor ≡ true = rw is' (eq-eqb s.0 s.0 refl) in
       let declared : is_declared setup s ≡ true = (and_parts (session_may e.kind) (is_declared setup s) (acts-at (Session s) e is acts)).1 in
-      same-next (next_of setup count (own s before) (session_lines s lines)) e e' (session-next s before e own_e (follows.sessions s declared)) (session-next s before e' own_e' (follows'.sessions s declared))
+      same-next (next_of setup count (own s before) (session_lines s lines)) e e' (session-next s before e own_e (follows.sessions s declared))
+      (session-next s before e' own_e' (follows'.sessions s declared))
   determined Display before e e' is is' acts follows follows' =
-      same-first (unread_lines (by_display before) (display_lines lines)) e e' (display-next before e is follows.display) (display-next before e' is' follows'.display)
+      same-first (unread_lines (by_display before) (display_lines lines)) e e' (display-next before e is follows.display)
+      (display-next before e' is' follows'.display)
   determined (Probe p) before e e' is is' acts follows follows' = absurd (no-probe e.kind p (acts-at (Probe p) e is acts))
 
   -- the earlier entries stand too
-  earlier-session : (s : SessionNo) (before : List Entry) (e : Entry) → (b : Bool) → Follows setup count (session_lines s lines) (cond b (own s before ▹ e) (own s before)) → Follows setup count (session_lines s lines) (own s before)
+  earlier-session : (s : SessionNo) (before : List Entry) (e : Entry) → (b : Bool)
+      → Follows setup count (session_lines s lines) (cond b (own s before ▹ e) (own s before)) → Follows setup count (session_lines s lines) (own s before)
   earlier-session s before e true follows = follows.0
   earlier-session s before e false follows = follows
 
-  earlier-display : (before : List Entry) (e : Entry) → (b : Bool) → FollowsDisplay (display_lines lines) (cond b (by_display before ▹ e) (by_display before)) → FollowsDisplay (display_lines lines) (by_display before)
+  earlier-display : (before : List Entry) (e : Entry) → (b : Bool) → FollowsDisplay (display_lines lines) (cond b (by_display before ▹ e) (by_display before))
+      → FollowsDisplay (display_lines lines) (by_display before)
   earlier-display before e true follows = follows.0
   earlier-display before e false follows = follows
 
@@ -113,8 +126,10 @@ module _ (setup : Setup) (count : ℕ) (lines : List ScriptLine) where
   stood before [] follows = follows
   stood before (e ∷ later) follows = earlier before e (stood (before ▹ e) later follows)
 
-  pub one-more : (before : List Entry) (e e' : Entry) → e.actor ≡ e'.actor → Stands setup count lines (before ▹ e) → Stands setup count lines (before ▹ e') → e ≡ e'
+  pub one-more : (before : List Entry) (e e' : Entry) → e.actor ≡ e'.actor → Stands setup count lines (before ▹ e) → Stands setup count lines (before ▹ e')
+      → e ≡ e'
   one-more before e e' actor follows follows' =
-      let same : (e.line ≡ e'.line) × (e.calls ≡ e'.calls) × (e.kind ≡ e'.kind) = determined e.actor before e e' refl (sym actor) follows.legal.1.may.acts follows follows' in
+      let same : (e.line ≡ e'.line) × (e.calls ≡ e'.calls) × (e.kind ≡ e'.kind) =
+      determined e.actor before e e' refl (sym actor) follows.legal.1.may.acts follows follows' in
       let reply : e.reply ≡ e'.reply = follows.legal.1.reply ∙ (rw (actor, same.1, same.2) (sym follows'.legal.1.reply)) in
       same-entry e e' actor same.0 same.1 same.2 reply

@@ -32,7 +32,8 @@ use Rattle.flat_rules.proofs.lemmas.ListLemmas.{flat-each, flat_map-none}
 -- ---- lists
 
 -- maps that agree on what passes a test
-pub flat-same : {X Y : Type 0} (o : X → Bool) (f g : X → List Y) → ((x : X) → o x ≡ true → f x ≡ g x) → (xs : List X) → list_all o xs ≡ true → flat_map f xs ≡ flat_map g xs
+pub flat-same : {X Y : Type 0} (o : X → Bool) (f g : X → List Y) → ((x : X) → o x ≡ true → f x ≡ g x) → (xs : List X) → list_all o xs ≡ true
+    → flat_map f xs ≡ flat_map g xs
 flat-same o f g same [] all = refl
 flat-same o f g same (x ∷ xs) all =
     let first : f x ≡ g x = same x (grind arith) in
@@ -47,7 +48,8 @@ flat-none o f none (x ∷ xs) all =
     rw (first, rest) refl
 
 -- five parts in a row
-pub five-same : {X : Type 0} (a a' b b' c c' d d' e e' : List X) → a ≡ a' → b ≡ b' → c ≡ c' → d ≡ d' → e ≡ e' → (a ++ b ++ c ++ d ++ e) ≡ (a' ++ b' ++ c' ++ d' ++ e')
+pub five-same : {X : Type 0} (a a' b b' c c' d d' e e' : List X) → a ≡ a' → b ≡ b' → c ≡ c' → d ≡ d' → e ≡ e'
+    → (a ++ b ++ c ++ d ++ e) ≡ (a' ++ b' ++ c' ++ d' ++ e')
 five-same a a' b b' c c' d d' e e' pa pb pc pd pe = cc
 
 -- ---- pairs of one owner
@@ -55,7 +57,8 @@ five-same a a' b b' c c' d d' e e' pa pb pc pd pe = cc
 -- the pairs that pass a test have what each such pair has
 where-all : (test : PairDecl → Bool) (o : PairNo → Bool) (all : List PairDecl)
     → ((n : ℕ) (pair : PairDecl) → slice_get all n ≡ Some pair → test pair ≡ true → (let p : PairNo = record { 0 = n } in o p ≡ true))
-    → (number : ℕ) (pairs : List PairDecl) → ((i j : ℕ) → j ≡ number + i → slice_get all j ≡ slice_get pairs i) → list_all o (pairs_where test number pairs) ≡ true
+    → (number : ℕ) (pairs : List PairDecl) → ((i j : ℕ) → j ≡ number + i → slice_get all j ≡ slice_get pairs i)
+    → list_all o (pairs_where test number pairs) ≡ true
 where-all test o all has number [] at = refl
 where-all test o all has number (pair ∷ pairs) at =
     by_test (where-all test o all has (number + 1) pairs (λ i j e. at (suc i) j (omega arith))) (test pair) refl
@@ -82,18 +85,22 @@ same-credits a a' b b' c c' d d' pa pb pc pd = cc
 
 module _ (setup : Setup) where
   pub views-owned : (s : SessionNo) → list_all (owns_view setup s) (views_of setup s) ≡ true
-  views-owned s = where-all (λ pair. pair.view.0 == s.0) (owns_view setup s) setup.pairs (λ n pair at is. rw at is) 0 setup.pairs (λ i j e. ap (slice_get setup.pairs) (omega arith))
+  views-owned s = where-all (λ pair. pair.view.0 == s.0) (owns_view setup s) setup.pairs (λ n pair at is. rw at is) 0 setup.pairs
+      (λ i j e. ap (slice_get setup.pairs) (omega arith))
 
   pub viewports-owned : (s : SessionNo) → list_all (owns_viewport setup s) (viewports_of setup s) ≡ true
-  viewports-owned s = where-all (λ pair. is_session s pair.viewport) (owns_viewport setup s) setup.pairs (λ n pair at is. rw at is) 0 setup.pairs (λ i j e. ap (slice_get setup.pairs) (omega arith))
+  viewports-owned s = where-all (λ pair. is_session s pair.viewport) (owns_viewport setup s) setup.pairs (λ n pair at is. rw at is) 0 setup.pairs
+      (λ i j e. ap (slice_get setup.pairs) (omega arith))
 
   -- the owner listens while it is open
-  pub hears-view : (o : Option SessionNo) (s : SessionNo) (history : List Entry) → unwrap_or (option_map (λ t. t.0 == s.0) o) false ≡ true → is_closed s history ≡ false
+  pub hears-view : (o : Option SessionNo) (s : SessionNo) (history : List Entry) → unwrap_or (option_map (λ t. t.0 == s.0) o) false ≡ true
+      → is_closed s history ≡ false
       → is_open setup (option_map Session o) history ≡ true
   hears-view None s history owns going = cc
   hears-view (Some t) s history owns going = rw (same-session s t owns, going) refl
 
-  pub hears-viewport : (o : Option Actor) (s : SessionNo) (history : List Entry) → unwrap_or (option_map (is_session s) o) false ≡ true → is_closed s history ≡ false
+  pub hears-viewport : (o : Option Actor) (s : SessionNo) (history : List Entry) → unwrap_or (option_map (is_session s) o) false ≡ true
+      → is_closed s history ≡ false
       → is_open setup o history ≡ true
   hears-viewport None s history owns going = cc
   hears-viewport (Some Display) s history owns going = cc
@@ -115,7 +122,8 @@ module _ (setup : Setup) (of_family : SessionNo → Bool) (closed : IsClosedFami
   begun-only [] legal = refl
   begun-only (before ▹ e) legal = by_side (begun-only before legal.0) (is_kept of_family e) refl (is_begin e.kind) refl
     where
-      by_side : drop 1 (to_begin (only of_family before)) ≡ only of_family (drop 1 (to_begin before)) → (k : Bool) → is_kept of_family e ≡ k → (b : Bool) → is_begin e.kind ≡ b
+      by_side : drop 1 (to_begin (only of_family before)) ≡ only of_family (drop 1 (to_begin before)) → (k : Bool) → is_kept of_family e ≡ k → (b : Bool)
+          → is_begin e.kind ≡ b
           → drop 1 (to_begin (only of_family (before ▹ e))) ≡ only of_family (drop 1 (to_begin (before ▹ e)))
       by_side earlier true kept true begins = rw (kept, begins) refl
       by_side earlier true kept false other = rw (kept, other) earlier
@@ -126,7 +134,8 @@ module _ (setup : Setup) (of_family : SessionNo → Bool) (closed : IsClosedFami
   pub closed-only : (history : List Entry) (s : SessionNo) → of_family s ≡ true → is_closed s (only of_family history) ≡ is_closed s history
   closed-only history s mine = rw (own-only setup of_family s mine history) refl
 
-  pub frame-took-only : (before : List Entry) → Legal setup before → (s : SessionNo) → of_family s ≡ true → frame_took setup (only of_family before) s ≡ frame_took setup before s
+  pub frame-took-only : (before : List Entry) → Legal setup before → (s : SessionNo) → of_family s ≡ true
+      → frame_took setup (only of_family before) s ≡ frame_took setup before s
   frame-took-only before legal s mine =
       rw (
         begun-only before legal,
@@ -135,10 +144,12 @@ module _ (setup : Setup) (of_family : SessionNo → Bool) (closed : IsClosedFami
         took-only setup of_family closed (drop 1 (to_begin before)) (legal-begun before legal) s mine,
       ) refl
 
-  pub seen-only : (history : List Entry) → Legal setup history → (s : SessionNo) → of_family s ≡ true → (p : PairNo) → releases_seen setup (only of_family history) s p ≡ releases_seen setup history s p
+  pub seen-only : (history : List Entry) → Legal setup history → (s : SessionNo) → of_family s ≡ true → (p : PairNo)
+      → releases_seen setup (only of_family history) s p ≡ releases_seen setup history s p
   seen-only history legal s mine p = rw (taken-calls-only setup of_family closed history legal s mine) refl
 
-  pub tokens-only : (before : List Entry) → Legal setup before → (s : SessionNo) → of_family s ≡ true → tokens_back setup (only of_family before) s ≡ tokens_back setup before s
+  pub tokens-only : (before : List Entry) → Legal setup before → (s : SessionNo) → of_family s ≡ true
+      → tokens_back setup (only of_family before) s ≡ tokens_back setup before s
   tokens-only before legal s mine = flat-each (came_back (only of_family before)) (came_back before) each-same (viewports_of setup s)
     where
       came_back : List Entry → PairNo → List Event
@@ -147,12 +158,15 @@ module _ (setup : Setup) (of_family : SessionNo → Bool) (closed : IsClosedFami
       each-same : (p : PairNo) → came_back (only of_family before) p ≡ came_back before p
       each-same p =
           let now : releases_seen setup (to_begin (only of_family before)) s p ≡ releases_seen setup (to_begin before) s p =
-          ap (λ (h : List Entry). releases_seen setup h s p) (begin-only setup of_family closed before legal) ∙ seen-only (to_begin before) (legal-begin setup of_family closed before legal) s mine p in
+          ap (λ (h : List Entry). releases_seen setup h s p) (begin-only setup of_family closed before legal)
+          ∙ seen-only (to_begin before) (legal-begin setup of_family closed before legal) s mine p in
           let earlier : releases_seen setup (drop 1 (to_begin (only of_family before))) s p ≡ releases_seen setup (drop 1 (to_begin before)) s p =
-          ap (λ (h : List Entry). releases_seen setup h s p) (begun-only before legal) ∙ seen-only (drop 1 (to_begin before)) (legal-begun before legal) s mine p in
+          ap (λ (h : List Entry). releases_seen setup h s p) (begun-only before legal)
+          ∙ seen-only (drop 1 (to_begin before)) (legal-begun before legal) s mine p in
           cc
 
-  pub at-finish-only : (before : List Entry) → Legal setup before → (s : SessionNo) → of_family s ≡ true → at_finish setup (only of_family before) s ≡ at_finish setup before s
+  pub at-finish-only : (before : List Entry) → Legal setup before → (s : SessionNo) → of_family s ≡ true
+      → at_finish setup (only of_family before) s ≡ at_finish setup before s
   at-finish-only before legal s mine = rw (frame-took-only before legal s mine, tokens-only before legal s mine) refl
 
   -- ---- an entry that is kept
@@ -161,9 +175,11 @@ module _ (setup : Setup) (of_family : SessionNo → Bool) (closed : IsClosedFami
     pub kept-is : only of_family (before ▹ e) ≡ (only of_family before ▹ e)
     kept-is = rw kept refl
 
-    told-same : (p : PairNo) (watcher : Watcher) → IsFamilyPair setup of_family closed (pair_watched watcher) → told_event setup p watcher (only of_family before) e ≡ told_event setup p watcher before e
+    told-same : (p : PairNo) (watcher : Watcher) → IsFamilyPair setup of_family closed (pair_watched watcher)
+        → told_event setup p watcher (only of_family before) e ≡ told_event setup p watcher before e
     told-same p watcher pair =
-        let now : told setup (only of_family before ▹ e) watcher ≡ told setup (before ▹ e) watcher = rw kept at (told-only setup of_family closed watcher pair (before ▹ e) legal) in
+        let now : told setup (only of_family before ▹ e) watcher ≡ told setup (before ▹ e) watcher =
+        rw kept at (told-only setup of_family closed watcher pair (before ▹ e) legal) in
         rw (watching-only setup of_family closed watcher pair before legal.0, now) refl
 
     at-begin-same : (s : SessionNo) → of_family s ≡ true → at_begin setup (only of_family before) e s ≡ at_begin setup before e s
@@ -177,11 +193,14 @@ module _ (setup : Setup) (of_family : SessionNo → Bool) (closed : IsClosedFami
     news-same : (s : SessionNo) → of_family s ≡ true → news_for setup (only of_family before) e s ≡ news_for setup before e s
     news-same s mine =
         five-same _ _ _ _ _ _ _ _ _ _
-        (flat-same (owns_view setup s) _ _ (λ p owns. told-same p (layout_of p) (pair-of-view setup of_family closed p s mine owns)) (views_of setup s) (views-owned setup s))
-        (flat-same (owns_view setup s) _ _ (λ p owns. told-same p (status_of p) (pair-of-view setup of_family closed p s mine owns)) (views_of setup s) (views-owned setup s))
+        (flat-same (owns_view setup s) _ _ (λ p owns. told-same p (layout_of p) (pair-of-view setup of_family closed p s mine owns)) (views_of setup s)
+        (views-owned setup s))
+        (flat-same (owns_view setup s) _ _ (λ p owns. told-same p (status_of p) (pair-of-view setup of_family closed p s mine owns)) (views_of setup s)
+        (views-owned setup s))
         (flat-same (owns_viewport setup s) _ _ (λ p owns.
         rw (viewports-only setup of_family closed p (pair-of-viewport setup of_family closed p s mine owns) before legal.0)
-        (flat-each _ _ (λ n. told-same p (child_of p n) (pair-of-viewport setup of_family closed p s mine owns)) (up_to (length (viewport_uses p before))))) (viewports_of setup s) (viewports-owned setup s))
+        (flat-each _ _ (λ n. told-same p (child_of p n) (pair-of-viewport setup of_family closed p s mine owns)) (up_to (length (viewport_uses p before)))))
+        (viewports_of setup s) (viewports-owned setup s))
         (ap (λ (l : List Event). cond (is_finish e.kind) l []) (at-finish-only before legal.0 s mine))
         (ap (λ (l : List Event). cond (is_begin e.kind) l []) (at-begin-same s mine))
 
@@ -189,7 +208,8 @@ module _ (setup : Setup) (of_family : SessionNo → Bool) (closed : IsClosedFami
     pub events-kept : (s : SessionNo) → of_family s ≡ true → events_to setup (only of_family before) e s ≡ events_to setup before e s
     events-kept s mine =
         let shut : is_closed s (only of_family before ▹ e) ≡ is_closed s (before ▹ e) = ap (is_closed s) (sym kept-is) ∙ closed-only (before ▹ e) s mine in
-        ap (λ (b : Bool). cond b [] (news_for setup (only of_family before) e s)) shut ∙ ap (λ (l : List Event). cond (is_closed s (before ▹ e)) [] l) (news-same s mine)
+        ap (λ (b : Bool). cond b [] (news_for setup (only of_family before) e s)) shut
+        ∙ ap (λ (l : List Event). cond (is_closed s (before ▹ e)) [] l) (news-same s mine)
 
   -- ---- an entry that is dropped
 
@@ -197,11 +217,14 @@ module _ (setup : Setup) (of_family : SessionNo → Bool) (closed : IsClosedFami
     dropped-is : only of_family (before ▹ e) ≡ only of_family before
     dropped-is = rw out refl
 
-    told-none : (p : PairNo) (watcher : Watcher) → IsFamilyPair setup of_family closed (pair_watched watcher) → is_open setup (listener setup watcher) before ≡ true → told_event setup p watcher before e ≡ []
+    told-none : (p : PairNo) (watcher : Watcher) → IsFamilyPair setup of_family closed (pair_watched watcher)
+        → is_open setup (listener setup watcher) before ≡ true → told_event setup p watcher before e ≡ []
     told-none p watcher pair listens =
         let still : told setup (before ▹ e) watcher ≡ told setup before watcher =
-        sym (told-only setup of_family closed watcher pair (before ▹ e) legal) ∙ (ap (λ (h : List Entry). told setup h watcher) dropped-is ∙ told-only setup of_family closed watcher pair before legal.0) in
-        let rests : settled true (told setup before watcher) (watching setup watcher before) ≡ watching setup watcher before = rw listens at (at-rest setup watcher before) in
+        sym (told-only setup of_family closed watcher pair (before ▹ e) legal)
+        ∙ (ap (λ (h : List Entry). told setup h watcher) dropped-is ∙ told-only setup of_family closed watcher pair before legal.0) in
+        let rests : settled true (told setup before watcher) (watching setup watcher before) ≡ watching setup watcher before =
+        rw listens at (at-rest setup watcher before) in
         rw still (rest-none p (answer (told setup before watcher) (watching setup watcher before)) (watching setup watcher before) rests)
 
     still-open : (s : SessionNo) → of_family s ≡ true → is_closed s (before ▹ e) ≡ is_closed s before
@@ -210,10 +233,14 @@ module _ (setup : Setup) (of_family : SessionNo → Bool) (closed : IsClosedFami
     news-none : (s : SessionNo) → of_family s ≡ true → is_closed s before ≡ false → news_for setup before e s ≡ []
     news-none s mine going =
         five-same _ [] _ [] _ [] _ [] _ []
-        (flat-none (owns_view setup s) _ (λ p owns. told-none p (layout_of p) (pair-of-view setup of_family closed p s mine owns) (hears-view setup (view_owner setup p) s before owns going)) (views_of setup s) (views-owned setup s))
-        (flat-none (owns_view setup s) _ (λ p owns. told-none p (status_of p) (pair-of-view setup of_family closed p s mine owns) (hears-view setup (view_owner setup p) s before owns going)) (views_of setup s) (views-owned setup s))
+        (flat-none (owns_view setup s) _ (λ p owns. told-none p (layout_of p) (pair-of-view setup of_family closed p s mine owns)
+        (hears-view setup (view_owner setup p) s before owns going)) (views_of setup s) (views-owned setup s))
+        (flat-none (owns_view setup s) _ (λ p owns. told-none p (status_of p) (pair-of-view setup of_family closed p s mine owns)
+        (hears-view setup (view_owner setup p) s before owns going)) (views_of setup s) (views-owned setup s))
         (flat-none (owns_viewport setup s) _ (λ p owns.
-        flat_map-none _ (up_to (length (viewport_uses p before))) (λ n. told-none p (child_of p n) (pair-of-viewport setup of_family closed p s mine owns) (hears-viewport setup (viewport_owner setup p) s before owns going))) (viewports_of setup s) (viewports-owned setup s))
+        flat_map-none _ (up_to (length (viewport_uses p before)))
+        (λ n. told-none p (child_of p n) (pair-of-viewport setup of_family closed p s mine owns)
+        (hears-viewport setup (viewport_owner setup p) s before owns going))) (viewports_of setup s) (viewports-owned setup s))
         (ap (λ (b : Bool). cond b (at_finish setup before s) []) (no-frame setup of_family closed e.kind e.actor out legal.1.may.acts).1)
         (ap (λ (b : Bool). cond b (at_begin setup before e s) []) (no-frame setup of_family closed e.kind e.actor out legal.1.may.acts).0)
 

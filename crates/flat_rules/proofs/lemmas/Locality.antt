@@ -19,7 +19,8 @@ use Rattle.flat_scene.specs.declared.calls.Call.{Call}
 use Rattle.flat_scene.specs.declared.setup.Setup.{Setup}
 use Rattle.flat_scene.specs.declared.setup.FenceDecl.{FenceDecl}
 use Rattle.flat_scene.specs.History.{◌▹◌, own, is_closed, calls, presents, published, is_session, Published}
-use Rattle.flat_scene.specs.Frames.{is_signalled, taken, going, takes, signals, is_ready, is_unsquashable, up_to_first, ready_run, ready_prefix, lets_go, is_among, is_released_by, sessions_to}
+use Rattle.flat_scene.specs.Frames.{is_signalled, taken, going, takes, signals, is_ready, is_unsquashable, up_to_first, ready_run, ready_prefix, lets_go}
+use Rattle.flat_scene.specs.Frames.{is_among, is_released_by, sessions_to}
 use Rattle.flat_scene.specs.Family.{is_linked, shares, keeps, is_kept, only}
 use Rattle.flat_scene.specs.Laws.{IsClosedFamily}
 use Rattle.flat_rules.specs.Legal.{owns_fence, owns_in_kind, owns_all, may_act, Legal, LegalEntry}
@@ -44,7 +45,8 @@ same-session s t is = ap (λ (n : ℕ). let u : SessionNo = record { 0 = n } in 
 pub same-number : (n : ℕ) → (n == n) ≡ true
 same-number n = grind (arith, common_steps)
 
-pub kept-by : (of_family : SessionNo → Bool) (kind : Kind) (s : SessionNo) (actor : Actor) → is_session s actor ≡ true → keeps of_family kind actor ≡ of_family s
+pub kept-by : (of_family : SessionNo → Bool) (kind : Kind) (s : SessionNo) (actor : Actor) → is_session s actor ≡ true
+    → keeps of_family kind actor ≡ of_family s
 kept-by of_family kind s (Session t) is = ap of_family (same-session s t is)
 kept-by of_family kind s Display is = cc
 kept-by of_family kind s (Probe p) is = cc
@@ -136,7 +138,8 @@ not-released o (x ∷ xs) f all none =
     grind arith
 
 -- what signals a fence goes by what releases it
-pub signals-same : (sessions : List SessionNo) (kind : Kind) (g h : SessionNo → List Published) (f : FenceNo) → ((s : SessionNo) → is_released_by (g s) f ≡ is_released_by (h s) f)
+pub signals-same : (sessions : List SessionNo) (kind : Kind) (g h : SessionNo → List Published) (f : FenceNo)
+    → ((s : SessionNo) → is_released_by (g s) f ≡ is_released_by (h s) f)
     → signals sessions kind g f ≡ signals sessions kind h f
 signals-same sessions Finish g h f same = any-same (λ s. is_released_by (g s) f) (λ s. is_released_by (h s) f) same sessions
 signals-same sessions _ g h f same = refl
@@ -161,35 +164,44 @@ pub published-owned : (setup : Setup) (s : SessionNo) (kind : Kind) (reply : Rep
 published-owned setup s (Present args) (Presented number credits) made owned = grind arith
 published-owned setup s _ _ made owned = refl
 
-pub owned-by : (setup : Setup) (s : SessionNo) (carries : List Call) (kind : Kind) (actor : Actor) → is_session s actor ≡ true → owns_all setup actor carries kind ≡ true → owns_in_kind setup s kind ≡ true
+pub owned-by : (setup : Setup) (s : SessionNo) (carries : List Call) (kind : Kind) (actor : Actor) → is_session s actor ≡ true
+    → owns_all setup actor carries kind ≡ true → owns_in_kind setup s kind ≡ true
 owned-by setup s carries kind (Session t) is owns = subst (λ (u : SessionNo). owns_in_kind setup u kind ≡ true) (same-session s t is) (grind arith)
 owned-by setup s carries kind Display is owns = cc
 owned-by setup s carries kind (Probe p) is owns = cc
 
 -- what a legal entry of a session names is the session's
-pub entry-owned : (setup : Setup) (before : List Entry) (e : Entry) → LegalEntry setup before e → (t : SessionNo) → is_session t e.actor ≡ true → owns_in_kind setup t e.kind ≡ true
+pub entry-owned : (setup : Setup) (before : List Entry) (e : Entry) → LegalEntry setup before e → (t : SessionNo) → is_session t e.actor ≡ true
+    → owns_in_kind setup t e.kind ≡ true
 entry-owned setup before e legal t is = owned-by setup t e.calls e.kind e.actor is legal.may.owned
 
-pub presents-owned-step : (setup : Setup) (s : SessionNo) (before : List Entry) (e : Entry) → LegalEntry setup before e → list_all (owns_fences_of (owns_fence setup s)) (presents s before) ≡ true
+pub presents-owned-step : (setup : Setup) (s : SessionNo) (before : List Entry) (e : Entry) → LegalEntry setup before e
+    → list_all (owns_fences_of (owns_fence setup s)) (presents s before) ≡ true
     → (b : Bool) → is_session s e.actor ≡ b → list_all (owns_fences_of (owns_fence setup s)) (presents s (before ▹ e)) ≡ true
 presents-owned-step setup s before e legal earlier true mine =
     let owns : owns_in_kind setup s e.kind ≡ true = entry-owned setup before e legal s mine in
-    let here : list_all (owns_fences_of (owns_fence setup s)) (published e.kind e.reply (calls s before ++ e.calls)) ≡ true = published-owned setup s e.kind e.reply _ owns in
+    let here : list_all (owns_fences_of (owns_fence setup s)) (published e.kind e.reply (calls s before ++ e.calls)) ≡ true =
+    published-owned setup s e.kind e.reply _ owns in
     rw (presents-own s before e mine, list_all-append, earlier, here) refl
 presents-owned-step setup s before e legal earlier false other = rw (presents-other s before e other) earlier
 
-pub presents-owned : (setup : Setup) (s : SessionNo) (history : List Entry) → Legal setup history → list_all (owns_fences_of (owns_fence setup s)) (presents s history) ≡ true
+pub presents-owned : (setup : Setup) (s : SessionNo) (history : List Entry) → Legal setup history
+    → list_all (owns_fences_of (owns_fence setup s)) (presents s history) ≡ true
 presents-owned setup s [] legal = refl
 presents-owned setup s (before ▹ e) legal = presents-owned-step setup s before e legal.1 (presents-owned setup s before legal.0) (is_session s e.actor) refl
 
-pub waiting-owned : (setup : Setup) (s : SessionNo) (before : List Entry) → Legal setup before → list_all (owns_fences_of (owns_fence setup s)) (drop (taken setup before s) (presents s before)) ≡ true
-waiting-owned setup s before legal = all-drop (owns_fences_of (owns_fence setup s)) (taken setup before s) (presents s before) (presents-owned setup s before legal)
+pub waiting-owned : (setup : Setup) (s : SessionNo) (before : List Entry) → Legal setup before
+    → list_all (owns_fences_of (owns_fence setup s)) (drop (taken setup before s) (presents s before)) ≡ true
+waiting-owned setup s before legal = all-drop (owns_fences_of (owns_fence setup s)) (taken setup before s) (presents s before)
+    (presents-owned setup s before legal)
 
 -- so what a frame lets go of it
-pub going-owned : (setup : Setup) (s : SessionNo) (history : List Entry) → Legal setup history → list_all (owns_fences_of (owns_fence setup s)) (going setup history s) ≡ true
+pub going-owned : (setup : Setup) (s : SessionNo) (history : List Entry) → Legal setup history
+    → list_all (owns_fences_of (owns_fence setup s)) (going setup history s) ≡ true
 going-owned setup s [] legal = refl
 going-owned setup s (before ▹ e) legal =
-    all-let-go (owns_fences_of (owns_fence setup s)) e.kind (is_signalled setup before) (is_closed s before) (drop (taken setup before s) (presents s before)) (going setup before s)
+    all-let-go (owns_fences_of (owns_fence setup s)) e.kind (is_signalled setup before) (is_closed s before) (drop (taken setup before s) (presents s before))
+    (going setup before s)
     (waiting-owned setup s before legal.0) (going-owned setup s before legal.0)
 
 module _ (setup : Setup) (of_family : SessionNo → Bool) (closed : IsClosedFamily setup of_family) where
@@ -207,7 +219,8 @@ module _ (setup : Setup) (of_family : SessionNo → Bool) (closed : IsClosedFami
 
   -- An entry that isn't kept changes nothing for the family's fences.
   pub quiet : (kind : Kind) (actor : Actor) (f : FenceNo) (g : SessionNo → List Published) → IsOfFamily f → keeps of_family kind actor ≡ false
-      → may_act setup kind actor ≡ true → ((t : SessionNo) → is_session t actor ≡ true → owns_in_kind setup t kind ≡ true) → signals (sessions_to setup.sessions) kind g f ≡ false
+      → may_act setup kind actor ≡ true → ((t : SessionNo) → is_session t actor ≡ true → owns_in_kind setup t kind ≡ true)
+      → signals (sessions_to setup.sessions) kind g f ≡ false
   quiet (Begin time) Display f g of_it out acts owns = cc
   quiet (Begin time) (Session t) f g of_it out acts owns = cc
   quiet (Begin time) (Probe p) f g of_it out acts owns = cc
@@ -272,21 +285,38 @@ module _ (setup : Setup) (of_family : SessionNo → Bool) (closed : IsClosedFami
         let none : signals (sessions_to setup.sessions) e.kind (going setup before) f ≡ false =
         quiet e.kind e.actor f (going setup before) of_it out legal.may.acts (entry-owned setup before e legal) in
         rw (out, none, same.signalled f of_it) (grind arith);
-    took = λ s mine. rw (out, quiet-takes e.kind e.actor (is_signalled setup before) (is_closed s before) (drop (taken setup before s) (presents s before)) out legal.may.acts, same.took s mine) (omega arith);
-    goes = λ s mine. rw (out, quiet-goes e.kind e.actor (is_signalled setup before) (is_closed s before) (drop (taken setup before s) (presents s before)) (going setup before s) out legal.may.acts) (same.goes s mine);
+    took = λ s mine. rw (
+      out,
+      quiet-takes e.kind e.actor (is_signalled setup before) (is_closed s before) (drop (taken setup before s) (presents s before)) out
+          legal.may.acts,
+      same.took s mine,
+    ) (omega arith);
+    goes = λ s mine. rw (
+      out,
+      quiet-goes e.kind e.actor (is_signalled setup before) (is_closed s before) (drop (taken setup before s) (presents s before))
+          (going setup before s) out legal.may.acts,
+    ) (same.goes s mine);
   }
 
   pub same-kept : (before : List Entry) (e : Entry) → IsSame before → Legal setup before → is_kept of_family e ≡ true → IsSame (before ▹ e)
   same-kept before e same legal kept = record {
     signalled = λ f of_it.
-        rw (kept, same.signalled f of_it, signals-same (sessions_to setup.sessions) e.kind (going setup (only of_family before)) (going setup before) f (released-same before legal same f of_it)) refl;
+        rw (
+          kept,
+          same.signalled f of_it,
+          signals-same (sessions_to setup.sessions) e.kind (going setup (only of_family before)) (going setup before) f
+              (released-same before legal same f of_it),
+        ) refl;
     took = λ s mine.
-        let here : takes e.kind (is_signalled setup (only of_family before)) (is_closed s before) (drop (taken setup before s) (presents s before)) ≡ takes e.kind (is_signalled setup before) (is_closed s before) (drop (taken setup before s) (presents s before)) =
+        let here : takes e.kind (is_signalled setup (only of_family before)) (is_closed s before) (drop (taken setup before s) (presents s before))
+        ≡ takes e.kind (is_signalled setup before) (is_closed s before) (drop (taken setup before s) (presents s before)) =
         takes-same e.kind (owns_fence setup s) (is_signalled setup (only of_family before)) (is_signalled setup before)
-        (λ x owns. same.signalled x (record { s = s; mine = mine; owns = owns })) (is_closed s before) (drop (taken setup before s) (presents s before)) (waiting-owned setup s before legal) in
+        (λ x owns. same.signalled x (record { s = s; mine = mine; owns = owns })) (is_closed s before) (drop (taken setup before s) (presents s before))
+        (waiting-owned setup s before legal) in
         rw (kept, own-only setup of_family s mine before, same.took s mine, here) refl;
     goes = λ s mine.
-        let here : lets_go e.kind (is_signalled setup (only of_family before)) (is_closed s before) (drop (taken setup before s) (presents s before)) (going setup (only of_family before) s)
+        let here : lets_go e.kind (is_signalled setup (only of_family before)) (is_closed s before) (drop (taken setup before s) (presents s before))
+        (going setup (only of_family before) s)
         ≡ lets_go e.kind (is_signalled setup before) (is_closed s before) (drop (taken setup before s) (presents s before)) (going setup before s) =
         goes-same e.kind (owns_fence setup s) (is_signalled setup (only of_family before)) (is_signalled setup before)
         (λ x owns. same.signalled x (record { s = s; mine = mine; owns = owns })) (is_closed s before) (drop (taken setup before s) (presents s before))

@@ -41,21 +41,25 @@ b16_token_not_back_yet-setup = record {
 abbrev pub b16_token_not_back_yet-history : List Entry
 b16_token_not_back_yet-history = []
     ▹ by (Session (s 1)) 8 ((call.CreateView (p 0)) ∷ []) (kind.View (p 0)) reply.Done
-    ▹ by (Session (s 1)) 9 ((call.CreateViewport (c 1) (p 1) 60 40 no_inset) ∷ []) (kind.Viewport (p 1) (record { w = 60; h = 40; inset = no_inset })) reply.Done
+    ▹ by (Session (s 1)) 9 ((call.CreateViewport (c 1) (p 1) 60 40 no_inset) ∷ []) (kind.Viewport (p 1) (record { w = 60; h = 40; inset = no_inset }))
+    reply.Done
     ▹ by (Session (s 1)) 10 [] (kind.Present (present 0 [] [])) (reply.Presented 1 0)
     ▹ by Display 11 [] (kind.Begin 1) reply.Done
     ▹ by Display 12 [] kind.Finish reply.Done
     ▹ by (Session (s 1)) 14 ((call.ReleaseViewport (c 1)) ∷ []) (kind.Present (present 0 [] [])) (reply.Presented 2 4)
-    ▹ by (Session (s 1)) 15 ((call.CreateViewport (c 2) (p 1) 30 30 no_inset) ∷ []) (kind.Viewport (p 1) (record { w = 30; h = 30; inset = no_inset })) (reply.Closed (Some error.BadOperation) (Some reason.TokenNotHeld))
+    ▹ by (Session (s 1)) 15 ((call.CreateViewport (c 2) (p 1) 30 30 no_inset) ∷ []) (kind.Viewport (p 1) (record { w = 30; h = 30; inset = no_inset }))
+    (reply.Closed (Some error.BadOperation) (Some reason.TokenNotHeld))
     ▹ by Display 16 [] (kind.Begin 2) reply.Done
     ▹ by Display 17 [] kind.Finish reply.Done
     ▹ by (Session (s 1)) 19 [] (kind.End 1) reply.Done
     ▹ by (Session (s 2)) 19 [] (kind.End 0) reply.Done
 
 pub b16_token_not_back_yet-legal : Legal b16_token_not_back_yet-setup b16_token_not_back_yet-history
-b16_token_not_back_yet-legal = legal-by-tests b16_token_not_back_yet-setup b16_token_not_back_yet-history refl (((((((((((tt, refl), refl), refl), refl), refl), refl), refl), refl), refl), refl), refl)
+b16_token_not_back_yet-legal = legal-by-tests b16_token_not_back_yet-setup b16_token_not_back_yet-history refl
+    (((((((((((tt, refl), refl), refl), refl), refl), refl), refl), refl), refl), refl), refl)
 
-b16_token_not_back_yet-posts : posts b16_token_not_back_yet-setup b16_token_not_back_yet-history ≡ (post 3 1 (event.Credits 5) ∷ post 4 1 (event.FramePresented 1) ∷ [])
+b16_token_not_back_yet-posts : posts b16_token_not_back_yet-setup b16_token_not_back_yet-history
+    ≡ (post 3 1 (event.Credits 5) ∷ post 4 1 (event.FramePresented 1) ∷ [])
 b16_token_not_back_yet-posts = refl
 
 abbrev pub b16_token_not_back_yet-lines : List ScriptLine
@@ -74,7 +78,35 @@ b16_token_not_back_yet-lines =
     ∷ []
 
 b16_token_not_back_yet-reading : Interleaves b16_token_not_back_yet-setup 18 b16_token_not_back_yet-lines b16_token_not_back_yet-history
-b16_token_not_back_yet-reading = record { sessions = (record { follows = ((((((tt, record { line = refl; carried = refl; kind = refl }), record { line = refl; carried = refl; kind = refl }), record { line = refl; carried = refl; kind = refl }), record { line = refl; carried = refl; kind = refl }), record { line = refl; carried = refl; kind = refl }), record { line = refl; carried = refl; kind = refl }); ended = refl }, (record { follows = (tt, record { line = refl; carried = refl; kind = refl }); ended = refl }, tt)); display = ((((tt, record { line = refl; carried = refl; kind = refl }), record { line = refl; carried = refl; kind = refl }), record { line = refl; carried = refl; kind = refl }), record { line = refl; carried = refl; kind = refl }); all_read = refl }
+b16_token_not_back_yet-reading = record {
+  sessions = (
+    record {
+      follows = (
+        (
+          (
+            (
+              ((tt, record { line = refl; carried = refl; kind = refl }), record { line = refl; carried = refl; kind = refl }),
+              record { line = refl; carried = refl; kind = refl },
+            ),
+            record { line = refl; carried = refl; kind = refl },
+          ),
+          record { line = refl; carried = refl; kind = refl },
+        ),
+        record { line = refl; carried = refl; kind = refl },
+      );
+      ended = refl;
+    },
+    (record { follows = (tt, record { line = refl; carried = refl; kind = refl }); ended = refl }, tt),
+  );
+  display = (
+    (
+      ((tt, record { line = refl; carried = refl; kind = refl }), record { line = refl; carried = refl; kind = refl }),
+      record { line = refl; carried = refl; kind = refl },
+    ),
+    record { line = refl; carried = refl; kind = refl },
+  );
+  all_read = refl;
+}
 
 -- layout before first present
 
@@ -95,16 +127,19 @@ layout_before_first_present-history = []
     ▹ by (Session (s 2)) 8 ((call.CreateView (p 1)) ∷ []) (kind.View (p 1)) reply.Done
     ▹ by (Session (s 2)) 9 [] (kind.Get watch.Layout) reply.Held
     ▹ by (Session (s 1)) 10 ((call.CreateView (p 0)) ∷ []) (kind.View (p 0)) reply.Done
-    ▹ by (Session (s 1)) 11 ((call.CreateViewport (c 1) (p 1) 60 40 no_inset) ∷ []) (kind.Viewport (p 1) (record { w = 60; h = 40; inset = no_inset })) reply.Done
+    ▹ by (Session (s 1)) 11 ((call.CreateViewport (c 1) (p 1) 60 40 no_inset) ∷ []) (kind.Viewport (p 1) (record { w = 60; h = 40; inset = no_inset }))
+    reply.Done
     ▹ by (Session (s 2)) 12 [] (kind.Get watch.Layout) reply.Held
     ▹ by (Session (s 2)) 13 [] (kind.Get watch.Layout) (reply.Closed (Some error.BadHangingGet) None)
     ▹ by (Session (s 1)) 14 [] (kind.End 0) reply.Done
     ▹ by (Session (s 2)) 14 [] (kind.End 0) reply.Done
 
 pub layout_before_first_present-legal : Legal layout_before_first_present-setup layout_before_first_present-history
-layout_before_first_present-legal = legal-by-tests layout_before_first_present-setup layout_before_first_present-history refl ((((((((tt, refl), refl), refl), refl), refl), refl), refl), refl)
+layout_before_first_present-legal = legal-by-tests layout_before_first_present-setup layout_before_first_present-history refl
+    ((((((((tt, refl), refl), refl), refl), refl), refl), refl), refl)
 
-layout_before_first_present-posts : posts layout_before_first_present-setup layout_before_first_present-history ≡ (post 3 2 (event.Told (p 1) watch.Layout (tell.Layout (layout 60 40 0 0 0 0))) ∷ [])
+layout_before_first_present-posts : posts layout_before_first_present-setup layout_before_first_present-history
+    ≡ (post 3 2 (event.Told (p 1) watch.Layout (tell.Layout (layout 60 40 0 0 0 0))) ∷ [])
 layout_before_first_present-posts = refl
 
 abbrev pub layout_before_first_present-lines : List ScriptLine
@@ -118,7 +153,35 @@ layout_before_first_present-lines =
     ∷ []
 
 layout_before_first_present-reading : Interleaves layout_before_first_present-setup 13 layout_before_first_present-lines layout_before_first_present-history
-layout_before_first_present-reading = record { sessions = (record { follows = (((tt, record { line = refl; carried = refl; kind = refl }), record { line = refl; carried = refl; kind = refl }), record { line = refl; carried = refl; kind = refl }); ended = refl }, (record { follows = (((((tt, record { line = refl; carried = refl; kind = refl }), record { line = refl; carried = refl; kind = refl }), record { line = refl; carried = refl; kind = refl }), record { line = refl; carried = refl; kind = refl }), record { line = refl; carried = refl; kind = refl }); ended = refl }, tt)); display = tt; all_read = refl }
+layout_before_first_present-reading = record {
+  sessions = (
+    record {
+      follows = (
+        ((tt, record { line = refl; carried = refl; kind = refl }), record { line = refl; carried = refl; kind = refl }),
+        record { line = refl; carried = refl; kind = refl },
+      );
+      ended = refl;
+    },
+    (
+      record {
+        follows = (
+          (
+            (
+              ((tt, record { line = refl; carried = refl; kind = refl }), record { line = refl; carried = refl; kind = refl }),
+              record { line = refl; carried = refl; kind = refl },
+            ),
+            record { line = refl; carried = refl; kind = refl },
+          ),
+          record { line = refl; carried = refl; kind = refl },
+        );
+        ended = refl;
+      },
+      tt,
+    ),
+  );
+  display = tt;
+  all_read = refl;
+}
 
 -- layout changes between gets
 
@@ -137,7 +200,8 @@ layout_changes_between_gets-setup = record {
 abbrev pub layout_changes_between_gets-history : List Entry
 layout_changes_between_gets-history = []
     ▹ by (Session (s 1)) 8 ((call.CreateView (p 0)) ∷ []) (kind.View (p 0)) reply.Done
-    ▹ by (Session (s 1)) 11 ((call.CreateTransform (t 1)) ∷ (call.SetRootTransform (t 1)) ∷ (call.CreateViewport (c 1) (p 1) 60 40 no_inset) ∷ []) (kind.Viewport (p 1) (record { w = 60; h = 40; inset = no_inset })) reply.Done
+    ▹ by (Session (s 1)) 11 ((call.CreateTransform (t 1)) ∷ (call.SetRootTransform (t 1)) ∷ (call.CreateViewport (c 1) (p 1) 60 40 no_inset) ∷ [])
+    (kind.Viewport (p 1) (record { w = 60; h = 40; inset = no_inset })) reply.Done
     ▹ by (Session (s 1)) 13 ((call.SetContent (t 1) (c 1)) ∷ []) (kind.Present (present 0 [] [])) (reply.Presented 1 0)
     ▹ by (Session (s 2)) 14 ((call.CreateView (p 1)) ∷ []) (kind.View (p 1)) reply.Done
     ▹ by (Session (s 2)) 15 [] (kind.Get watch.Layout) (reply.Now (tell.Layout (layout 60 40 0 0 0 0)))
@@ -157,9 +221,13 @@ layout_changes_between_gets-history = []
     ▹ by (Session (s 2)) 31 [] (kind.End 0) reply.Done
 
 pub layout_changes_between_gets-legal : Legal layout_changes_between_gets-setup layout_changes_between_gets-history
-layout_changes_between_gets-legal = legal-by-tests layout_changes_between_gets-setup layout_changes_between_gets-history refl (((((((((((((((((((tt, refl), refl), refl), refl), refl), refl), refl), refl), refl), refl), refl), refl), refl), refl), refl), refl), refl), refl), refl)
+layout_changes_between_gets-legal = legal-by-tests layout_changes_between_gets-setup layout_changes_between_gets-history refl
+    (((((((((((((((((((tt, refl), refl), refl), refl), refl), refl), refl), refl), refl), refl), refl), refl), refl), refl), refl), refl), refl), refl), refl)
 
-layout_changes_between_gets-posts : posts layout_changes_between_gets-setup layout_changes_between_gets-history ≡ (post 5 1 (event.Credits 5) ∷ post 6 1 (event.FramePresented 1) ∷ post 8 1 (event.Credits 1) ∷ post 9 1 (event.FramePresented 1) ∷ post 11 1 (event.Credits 1) ∷ post 12 1 (event.FramePresented 1) ∷ post 15 1 (event.Credits 1) ∷ post 16 1 (event.FramePresented 1) ∷ post 16 2 (event.Told (p 1) watch.Layout (tell.Layout (layout 50 50 0 0 0 0))) ∷ [])
+layout_changes_between_gets-posts : posts layout_changes_between_gets-setup layout_changes_between_gets-history
+    ≡ (post 5 1 (event.Credits 5) ∷ post 6 1 (event.FramePresented 1) ∷ post 8 1 (event.Credits 1) ∷ post 9 1 (event.FramePresented 1)
+    ∷ post 11 1 (event.Credits 1) ∷ post 12 1 (event.FramePresented 1) ∷ post 15 1 (event.Credits 1) ∷ post 16 1 (event.FramePresented 1)
+    ∷ post 16 2 (event.Told (p 1) watch.Layout (tell.Layout (layout 50 50 0 0 0 0))) ∷ [])
 layout_changes_between_gets-posts = refl
 
 abbrev pub layout_changes_between_gets-lines : List ScriptLine
@@ -190,7 +258,62 @@ layout_changes_between_gets-lines =
     ∷ []
 
 layout_changes_between_gets-reading : Interleaves layout_changes_between_gets-setup 30 layout_changes_between_gets-lines layout_changes_between_gets-history
-layout_changes_between_gets-reading = record { sessions = (record { follows = (((((((tt, record { line = refl; carried = refl; kind = refl }), record { line = refl; carried = refl; kind = refl }), record { line = refl; carried = refl; kind = refl }), record { line = refl; carried = refl; kind = refl }), record { line = refl; carried = refl; kind = refl }), record { line = refl; carried = refl; kind = refl }), record { line = refl; carried = refl; kind = refl }); ended = refl }, (record { follows = ((((tt, record { line = refl; carried = refl; kind = refl }), record { line = refl; carried = refl; kind = refl }), record { line = refl; carried = refl; kind = refl }), record { line = refl; carried = refl; kind = refl }); ended = refl }, tt)); display = ((((((((tt, record { line = refl; carried = refl; kind = refl }), record { line = refl; carried = refl; kind = refl }), record { line = refl; carried = refl; kind = refl }), record { line = refl; carried = refl; kind = refl }), record { line = refl; carried = refl; kind = refl }), record { line = refl; carried = refl; kind = refl }), record { line = refl; carried = refl; kind = refl }), record { line = refl; carried = refl; kind = refl }); all_read = refl }
+layout_changes_between_gets-reading = record {
+  sessions = (
+    record {
+      follows = (
+        (
+          (
+            (
+              (
+                ((tt, record { line = refl; carried = refl; kind = refl }), record { line = refl; carried = refl; kind = refl }),
+                record { line = refl; carried = refl; kind = refl },
+              ),
+              record { line = refl; carried = refl; kind = refl },
+            ),
+            record { line = refl; carried = refl; kind = refl },
+          ),
+          record { line = refl; carried = refl; kind = refl },
+        ),
+        record { line = refl; carried = refl; kind = refl },
+      );
+      ended = refl;
+    },
+    (
+      record {
+        follows = (
+          (
+            ((tt, record { line = refl; carried = refl; kind = refl }), record { line = refl; carried = refl; kind = refl }),
+            record { line = refl; carried = refl; kind = refl },
+          ),
+          record { line = refl; carried = refl; kind = refl },
+        );
+        ended = refl;
+      },
+      tt,
+    ),
+  );
+  display = (
+    (
+      (
+        (
+          (
+            (
+              ((tt, record { line = refl; carried = refl; kind = refl }), record { line = refl; carried = refl; kind = refl }),
+              record { line = refl; carried = refl; kind = refl },
+            ),
+            record { line = refl; carried = refl; kind = refl },
+          ),
+          record { line = refl; carried = refl; kind = refl },
+        ),
+        record { line = refl; carried = refl; kind = refl },
+      ),
+      record { line = refl; carried = refl; kind = refl },
+    ),
+    record { line = refl; carried = refl; kind = refl },
+  );
+  all_read = refl;
+}
 
 -- cycle of links is never reached
 
@@ -209,10 +332,12 @@ cycle_of_links_is_never_reached-setup = record {
 abbrev pub cycle_of_links_is_never_reached-history : List Entry
 cycle_of_links_is_never_reached-history = []
     ▹ by (Session (s 1)) 9 ((call.CreateView (p 2)) ∷ []) (kind.View (p 2)) reply.Done
-    ▹ by (Session (s 1)) 12 ((call.CreateTransform (t 1)) ∷ (call.SetRootTransform (t 1)) ∷ (call.CreateViewport (c 1) (p 1) 10 10 no_inset) ∷ []) (kind.Viewport (p 1) (record { w = 10; h = 10; inset = no_inset })) reply.Done
+    ▹ by (Session (s 1)) 12 ((call.CreateTransform (t 1)) ∷ (call.SetRootTransform (t 1)) ∷ (call.CreateViewport (c 1) (p 1) 10 10 no_inset) ∷ [])
+    (kind.Viewport (p 1) (record { w = 10; h = 10; inset = no_inset })) reply.Done
     ▹ by (Session (s 1)) 14 ((call.SetContent (t 1) (c 1)) ∷ []) (kind.Present (present 0 [] [])) (reply.Presented 1 0)
     ▹ by (Session (s 2)) 15 ((call.CreateView (p 1)) ∷ []) (kind.View (p 1)) reply.Done
-    ▹ by (Session (s 2)) 18 ((call.CreateTransform (t 1)) ∷ (call.SetRootTransform (t 1)) ∷ (call.CreateViewport (c 1) (p 2) 10 10 no_inset) ∷ []) (kind.Viewport (p 2) (record { w = 10; h = 10; inset = no_inset })) reply.Done
+    ▹ by (Session (s 2)) 18 ((call.CreateTransform (t 1)) ∷ (call.SetRootTransform (t 1)) ∷ (call.CreateViewport (c 1) (p 2) 10 10 no_inset) ∷ [])
+    (kind.Viewport (p 2) (record { w = 10; h = 10; inset = no_inset })) reply.Done
     ▹ by (Session (s 2)) 20 ((call.SetContent (t 1) (c 1)) ∷ []) (kind.Present (present 0 [] [])) (reply.Presented 1 0)
     ▹ by Display 21 [] (kind.Begin 1) reply.Done
     ▹ by Display 22 [] kind.Finish reply.Done
@@ -220,9 +345,11 @@ cycle_of_links_is_never_reached-history = []
     ▹ by (Session (s 2)) 23 [] (kind.End 0) reply.Done
 
 pub cycle_of_links_is_never_reached-legal : Legal cycle_of_links_is_never_reached-setup cycle_of_links_is_never_reached-history
-cycle_of_links_is_never_reached-legal = legal-by-tests cycle_of_links_is_never_reached-setup cycle_of_links_is_never_reached-history refl ((((((((((tt, refl), refl), refl), refl), refl), refl), refl), refl), refl), refl)
+cycle_of_links_is_never_reached-legal = legal-by-tests cycle_of_links_is_never_reached-setup cycle_of_links_is_never_reached-history refl
+    ((((((((((tt, refl), refl), refl), refl), refl), refl), refl), refl), refl), refl)
 
-cycle_of_links_is_never_reached-posts : posts cycle_of_links_is_never_reached-setup cycle_of_links_is_never_reached-history ≡ (post 6 1 (event.Credits 5) ∷ post 6 2 (event.Credits 5) ∷ post 7 1 (event.FramePresented 1) ∷ post 7 2 (event.FramePresented 1) ∷ [])
+cycle_of_links_is_never_reached-posts : posts cycle_of_links_is_never_reached-setup cycle_of_links_is_never_reached-history
+    ≡ (post 6 1 (event.Credits 5) ∷ post 6 2 (event.Credits 5) ∷ post 7 1 (event.FramePresented 1) ∷ post 7 2 (event.FramePresented 1) ∷ [])
 cycle_of_links_is_never_reached-posts = refl
 
 abbrev pub cycle_of_links_is_never_reached-lines : List ScriptLine
@@ -243,8 +370,38 @@ cycle_of_links_is_never_reached-lines =
     ∷ display_line 22 display.Done
     ∷ []
 
-cycle_of_links_is_never_reached-reading : Interleaves cycle_of_links_is_never_reached-setup 22 cycle_of_links_is_never_reached-lines cycle_of_links_is_never_reached-history
-cycle_of_links_is_never_reached-reading = record { sessions = (record { follows = ((((tt, record { line = refl; carried = refl; kind = refl }), record { line = refl; carried = refl; kind = refl }), record { line = refl; carried = refl; kind = refl }), record { line = refl; carried = refl; kind = refl }); ended = refl }, (record { follows = ((((tt, record { line = refl; carried = refl; kind = refl }), record { line = refl; carried = refl; kind = refl }), record { line = refl; carried = refl; kind = refl }), record { line = refl; carried = refl; kind = refl }); ended = refl }, tt)); display = ((tt, record { line = refl; carried = refl; kind = refl }), record { line = refl; carried = refl; kind = refl }); all_read = refl }
+cycle_of_links_is_never_reached-reading : Interleaves cycle_of_links_is_never_reached-setup 22 cycle_of_links_is_never_reached-lines
+    cycle_of_links_is_never_reached-history
+cycle_of_links_is_never_reached-reading = record {
+  sessions = (
+    record {
+      follows = (
+        (
+          ((tt, record { line = refl; carried = refl; kind = refl }), record { line = refl; carried = refl; kind = refl }),
+          record { line = refl; carried = refl; kind = refl },
+        ),
+        record { line = refl; carried = refl; kind = refl },
+      );
+      ended = refl;
+    },
+    (
+      record {
+        follows = (
+          (
+            ((tt, record { line = refl; carried = refl; kind = refl }), record { line = refl; carried = refl; kind = refl }),
+            record { line = refl; carried = refl; kind = refl },
+          ),
+          record { line = refl; carried = refl; kind = refl },
+        );
+        ended = refl;
+      },
+      tt,
+    ),
+  );
+  display =
+      ((tt, record { line = refl; carried = refl; kind = refl }), record { line = refl; carried = refl; kind = refl });
+  all_read = refl;
+}
 
 -- closed inside a frame
 
@@ -263,7 +420,8 @@ closed_inside_a_frame-setup = record {
 abbrev pub closed_inside_a_frame-history : List Entry
 closed_inside_a_frame-history = []
     ▹ by (Session (s 1)) 6 ((call.CreateView (p 0)) ∷ []) (kind.View (p 0)) reply.Done
-    ▹ by (Session (s 1)) 12 ((call.CreateTransform (t 1)) ∷ (call.SetRootTransform (t 1)) ∷ (call.CreateFilledRect (c 2)) ∷ (call.SetSolidFill (c 2) 255 0 0 255 10 10) ∷ (call.SetContent (t 1) (c 2)) ∷ []) (kind.Present (present 0 [] [])) (reply.Presented 1 0)
+    ▹ by (Session (s 1)) 12 ((call.CreateTransform (t 1)) ∷ (call.SetRootTransform (t 1)) ∷ (call.CreateFilledRect (c 2))
+    ∷ (call.SetSolidFill (c 2) 255 0 0 255 10 10) ∷ (call.SetContent (t 1) (c 2)) ∷ []) (kind.Present (present 0 [] [])) (reply.Presented 1 0)
     ▹ by Display 13 [] (kind.Begin 1000) reply.Done
     ▹ by (Session (s 1)) 14 [] (kind.Close None) (reply.Closed None None)
     ▹ by Display 15 [] kind.Finish reply.Done
@@ -272,7 +430,8 @@ closed_inside_a_frame-history = []
     ▹ by (Session (s 1)) 18 [] (kind.End 0) reply.Done
 
 pub closed_inside_a_frame-legal : Legal closed_inside_a_frame-setup closed_inside_a_frame-history
-closed_inside_a_frame-legal = legal-by-tests closed_inside_a_frame-setup closed_inside_a_frame-history refl ((((((((tt, refl), refl), refl), refl), refl), refl), refl), refl)
+closed_inside_a_frame-legal = legal-by-tests closed_inside_a_frame-setup closed_inside_a_frame-history refl
+    ((((((((tt, refl), refl), refl), refl), refl), refl), refl), refl)
 
 closed_inside_a_frame-posts : posts closed_inside_a_frame-setup closed_inside_a_frame-history ≡ (post 2 1 (event.Credits 5) ∷ [])
 closed_inside_a_frame-posts = refl
@@ -294,7 +453,29 @@ closed_inside_a_frame-lines =
     ∷ []
 
 closed_inside_a_frame-reading : Interleaves closed_inside_a_frame-setup 17 closed_inside_a_frame-lines closed_inside_a_frame-history
-closed_inside_a_frame-reading = record { sessions = (record { follows = ((((tt, record { line = refl; carried = refl; kind = refl }), record { line = refl; carried = refl; kind = refl }), record { line = refl; carried = refl; kind = refl }), record { line = refl; carried = refl; kind = refl }); ended = refl }, tt); display = ((((tt, record { line = refl; carried = refl; kind = refl }), record { line = refl; carried = refl; kind = refl }), record { line = refl; carried = refl; kind = refl }), record { line = refl; carried = refl; kind = refl }); all_read = refl }
+closed_inside_a_frame-reading = record {
+  sessions = (
+    record {
+      follows = (
+        (
+          ((tt, record { line = refl; carried = refl; kind = refl }), record { line = refl; carried = refl; kind = refl }),
+          record { line = refl; carried = refl; kind = refl },
+        ),
+        record { line = refl; carried = refl; kind = refl },
+      );
+      ended = refl;
+    },
+    tt,
+  );
+  display = (
+    (
+      ((tt, record { line = refl; carried = refl; kind = refl }), record { line = refl; carried = refl; kind = refl }),
+      record { line = refl; carried = refl; kind = refl },
+    ),
+    record { line = refl; carried = refl; kind = refl },
+  );
+  all_read = refl;
+}
 
 -- token comes back
 
@@ -313,21 +494,26 @@ token_comes_back-setup = record {
 abbrev pub token_comes_back-history : List Entry
 token_comes_back-history = []
     ▹ by (Session (s 1)) 8 ((call.CreateView (p 0)) ∷ []) (kind.View (p 0)) reply.Done
-    ▹ by (Session (s 1)) 9 ((call.CreateViewport (c 1) (p 1) 60 40 no_inset) ∷ []) (kind.Viewport (p 1) (record { w = 60; h = 40; inset = no_inset })) reply.Done
+    ▹ by (Session (s 1)) 9 ((call.CreateViewport (c 1) (p 1) 60 40 no_inset) ∷ []) (kind.Viewport (p 1) (record { w = 60; h = 40; inset = no_inset }))
+    reply.Done
     ▹ by (Session (s 1)) 10 [] (kind.Present (present 0 [] [])) (reply.Presented 1 0)
     ▹ by Display 11 [] (kind.Begin 1) reply.Done
     ▹ by Display 12 [] kind.Finish reply.Done
     ▹ by (Session (s 1)) 14 ((call.ReleaseViewport (c 1)) ∷ []) (kind.Present (present 0 [] [])) (reply.Presented 2 4)
     ▹ by Display 15 [] (kind.Begin 2) reply.Done
     ▹ by Display 16 [] kind.Finish reply.Done
-    ▹ by (Session (s 1)) 17 ((call.CreateViewport (c 1) (p 1) 30 30 no_inset) ∷ []) (kind.Viewport (p 1) (record { w = 30; h = 30; inset = no_inset })) reply.Done
+    ▹ by (Session (s 1)) 17 ((call.CreateViewport (c 1) (p 1) 30 30 no_inset) ∷ []) (kind.Viewport (p 1) (record { w = 30; h = 30; inset = no_inset }))
+    reply.Done
     ▹ by (Session (s 1)) 18 [] (kind.End 0) reply.Done
     ▹ by (Session (s 2)) 18 [] (kind.End 0) reply.Done
 
 pub token_comes_back-legal : Legal token_comes_back-setup token_comes_back-history
-token_comes_back-legal = legal-by-tests token_comes_back-setup token_comes_back-history refl (((((((((((tt, refl), refl), refl), refl), refl), refl), refl), refl), refl), refl), refl)
+token_comes_back-legal = legal-by-tests token_comes_back-setup token_comes_back-history refl
+    (((((((((((tt, refl), refl), refl), refl), refl), refl), refl), refl), refl), refl), refl)
 
-token_comes_back-posts : posts token_comes_back-setup token_comes_back-history ≡ (post 3 1 (event.Credits 5) ∷ post 4 1 (event.FramePresented 1) ∷ post 6 1 (event.Credits 1) ∷ post 7 1 (event.FramePresented 1) ∷ post 7 1 (event.TokenBack (p 1)) ∷ [])
+token_comes_back-posts : posts token_comes_back-setup token_comes_back-history
+    ≡ (post 3 1 (event.Credits 5) ∷ post 4 1 (event.FramePresented 1) ∷ post 6 1 (event.Credits 1) ∷ post 7 1 (event.FramePresented 1)
+    ∷ post 7 1 (event.TokenBack (p 1)) ∷ [])
 token_comes_back-posts = refl
 
 abbrev pub token_comes_back-lines : List ScriptLine
@@ -345,7 +531,35 @@ token_comes_back-lines =
     ∷ []
 
 token_comes_back-reading : Interleaves token_comes_back-setup 17 token_comes_back-lines token_comes_back-history
-token_comes_back-reading = record { sessions = (record { follows = ((((((tt, record { line = refl; carried = refl; kind = refl }), record { line = refl; carried = refl; kind = refl }), record { line = refl; carried = refl; kind = refl }), record { line = refl; carried = refl; kind = refl }), record { line = refl; carried = refl; kind = refl }), record { line = refl; carried = refl; kind = refl }); ended = refl }, (record { follows = (tt, record { line = refl; carried = refl; kind = refl }); ended = refl }, tt)); display = ((((tt, record { line = refl; carried = refl; kind = refl }), record { line = refl; carried = refl; kind = refl }), record { line = refl; carried = refl; kind = refl }), record { line = refl; carried = refl; kind = refl }); all_read = refl }
+token_comes_back-reading = record {
+  sessions = (
+    record {
+      follows = (
+        (
+          (
+            (
+              ((tt, record { line = refl; carried = refl; kind = refl }), record { line = refl; carried = refl; kind = refl }),
+              record { line = refl; carried = refl; kind = refl },
+            ),
+            record { line = refl; carried = refl; kind = refl },
+          ),
+          record { line = refl; carried = refl; kind = refl },
+        ),
+        record { line = refl; carried = refl; kind = refl },
+      );
+      ended = refl;
+    },
+    (record { follows = (tt, record { line = refl; carried = refl; kind = refl }); ended = refl }, tt),
+  );
+  display = (
+    (
+      ((tt, record { line = refl; carried = refl; kind = refl }), record { line = refl; carried = refl; kind = refl }),
+      record { line = refl; carried = refl; kind = refl },
+    ),
+    record { line = refl; carried = refl; kind = refl },
+  );
+  all_read = refl;
+}
 
 -- app gone before all
 
@@ -357,7 +571,8 @@ app_gone_before_all-setup = record {
   probes = 0;
   pairs = (record { viewport = Display; view = s 1 } ∷ record { viewport = Session (s 1); view = s 2 } ∷ record { viewport = Session (s 1); view = s 3 } ∷ []);
   buffers = (record { owner = s 2; count = 2; w = 640; h = 760 } ∷ []);
-  fences = (record { owners = (Session (s 2) ∷ []) } ∷ record { owners = (Session (s 2) ∷ []) } ∷ record { owners = (Session (s 2) ∷ []) } ∷ record { owners = (Session (s 2) ∷ []) } ∷ []);
+  fences = (record { owners = (Session (s 2) ∷ []) } ∷ record { owners = (Session (s 2) ∷ []) } ∷ record { owners = (Session (s 2) ∷ []) }
+      ∷ record { owners = (Session (s 2) ∷ []) } ∷ []);
   ratio = 65536;
 }
 
@@ -367,11 +582,15 @@ app_gone_before_all-history = []
     ▹ by (Session (s 3)) 18 ((call.CreateView (p 2)) ∷ []) (kind.View (p 2)) reply.Done
     ▹ by (Session (s 3)) 19 [] (kind.Get watch.Status) reply.Held
     ▹ by (Session (s 1)) 20 ((call.CreateView (p 0)) ∷ []) (kind.View (p 0)) reply.Done
-    ▹ by (Session (s 1)) 28 ((call.CreateTransform (t 1)) ∷ (call.SetRootTransform (t 1)) ∷ (call.CreateTransform (t 2)) ∷ (call.SetTranslation (t 2) (pos 0) (pos 40)) ∷ (call.CreateTransform (t 3)) ∷ (call.AddChild (t 1) (t 2)) ∷ (call.AddChild (t 1) (t 3)) ∷ (call.CreateViewport (c 1) (p 1) 640 760 no_inset) ∷ []) (kind.Viewport (p 1) (record { w = 640; h = 760; inset = no_inset })) reply.Done
-    ▹ by (Session (s 1)) 30 ((call.SetContent (t 2) (c 1)) ∷ (call.CreateViewport (c 2) (p 2) 1280 40 no_inset) ∷ []) (kind.Viewport (p 2) (record { w = 1280; h = 40; inset = no_inset })) reply.Done
+    ▹ by (Session (s 1)) 28 ((call.CreateTransform (t 1)) ∷ (call.SetRootTransform (t 1)) ∷ (call.CreateTransform (t 2))
+    ∷ (call.SetTranslation (t 2) (pos 0) (pos 40)) ∷ (call.CreateTransform (t 3)) ∷ (call.AddChild (t 1) (t 2)) ∷ (call.AddChild (t 1) (t 3))
+    ∷ (call.CreateViewport (c 1) (p 1) 640 760 no_inset) ∷ []) (kind.Viewport (p 1) (record { w = 640; h = 760; inset = no_inset })) reply.Done
+    ▹ by (Session (s 1)) 30 ((call.SetContent (t 2) (c 1)) ∷ (call.CreateViewport (c 2) (p 2) 1280 40 no_inset) ∷ [])
+    (kind.Viewport (p 2) (record { w = 1280; h = 40; inset = no_inset })) reply.Done
     ▹ by (Session (s 1)) 32 ((call.SetContent (t 3) (c 2)) ∷ []) (kind.Get (watch.Child (c 1))) reply.Held
     ▹ by (Session (s 1)) 33 [] (kind.Present (present 0 [] [])) (reply.Presented 1 0)
-    ▹ by (Session (s 3)) 46 ((call.CreateTransform (t 1)) ∷ (call.SetRootTransform (t 1)) ∷ (call.CreateFilledRect (c 1)) ∷ (call.SetSolidFill (c 1) 0 0 0 128 1280 40) ∷ (call.SetContent (t 1) (c 1)) ∷ []) (kind.Present (present 0 [] [])) (reply.Presented 1 0)
+    ▹ by (Session (s 3)) 46 ((call.CreateTransform (t 1)) ∷ (call.SetRootTransform (t 1)) ∷ (call.CreateFilledRect (c 1))
+    ∷ (call.SetSolidFill (c 1) 0 0 0 128 1280 40) ∷ (call.SetContent (t 1) (c 1)) ∷ []) (kind.Present (present 0 [] [])) (reply.Presented 1 0)
     ▹ by (Session (s 3)) 47 [] (kind.Get watch.Status) reply.Held
     ▹ by Display 48 [] (kind.Begin 16) reply.Done
     ▹ by Display 49 [] kind.Finish reply.Done
@@ -384,9 +603,13 @@ app_gone_before_all-history = []
     ▹ by (Session (s 3)) 59 [] (kind.End 0) reply.Done
 
 pub app_gone_before_all-legal : Legal app_gone_before_all-setup app_gone_before_all-history
-app_gone_before_all-legal = legal-by-tests app_gone_before_all-setup app_gone_before_all-history refl (((((((((((((((((((tt, refl), refl), refl), refl), refl), refl), refl), refl), refl), refl), refl), refl), refl), refl), refl), refl), refl), refl), refl)
+app_gone_before_all-legal = legal-by-tests app_gone_before_all-setup app_gone_before_all-history refl
+    (((((((((((((((((((tt, refl), refl), refl), refl), refl), refl), refl), refl), refl), refl), refl), refl), refl), refl), refl), refl), refl), refl), refl)
 
-app_gone_before_all-posts : posts app_gone_before_all-setup app_gone_before_all-history ≡ (post 5 3 (event.Told (p 2) watch.Status tell.Disconnected) ∷ post 10 1 (event.Credits 5) ∷ post 10 3 (event.Credits 5) ∷ post 11 1 (event.Told (p 1) (watch.Child (c 1)) tell.Gone) ∷ post 11 1 (event.FramePresented 1) ∷ post 11 3 (event.Told (p 2) watch.Status tell.Connected) ∷ post 11 3 (event.FramePresented 1) ∷ [])
+app_gone_before_all-posts : posts app_gone_before_all-setup app_gone_before_all-history
+    ≡ (post 5 3 (event.Told (p 2) watch.Status tell.Disconnected) ∷ post 10 1 (event.Credits 5) ∷ post 10 3 (event.Credits 5)
+    ∷ post 11 1 (event.Told (p 1) (watch.Child (c 1)) tell.Gone) ∷ post 11 1 (event.FramePresented 1) ∷ post 11 3 (event.Told (p 2) watch.Status tell.Connected)
+    ∷ post 11 3 (event.FramePresented 1) ∷ [])
 app_gone_before_all-posts = refl
 
 abbrev pub app_gone_before_all-lines : List ScriptLine
@@ -438,7 +661,59 @@ app_gone_before_all-lines =
     ∷ []
 
 app_gone_before_all-reading : Interleaves app_gone_before_all-setup 58 app_gone_before_all-lines app_gone_before_all-history
-app_gone_before_all-reading = record { sessions = (record { follows = ((((((tt, record { line = refl; carried = refl; kind = refl }), record { line = refl; carried = refl; kind = refl }), record { line = refl; carried = refl; kind = refl }), record { line = refl; carried = refl; kind = refl }), record { line = refl; carried = refl; kind = refl }), record { line = refl; carried = refl; kind = refl }); ended = refl }, (record { follows = ((tt, record { line = refl; carried = refl; kind = refl }), record { line = refl; carried = refl; kind = refl }); ended = refl }, (record { follows = (((((tt, record { line = refl; carried = refl; kind = refl }), record { line = refl; carried = refl; kind = refl }), record { line = refl; carried = refl; kind = refl }), record { line = refl; carried = refl; kind = refl }), record { line = refl; carried = refl; kind = refl }); ended = refl }, tt))); display = ((((((tt, record { line = refl; carried = refl; kind = refl }), record { line = refl; carried = refl; kind = refl }), record { line = refl; carried = refl; kind = refl }), record { line = refl; carried = refl; kind = refl }), record { line = refl; carried = refl; kind = refl }), record { line = refl; carried = refl; kind = refl }); all_read = refl }
+app_gone_before_all-reading = record {
+  sessions = (
+    record {
+      follows = (
+        (
+          (
+            (
+              ((tt, record { line = refl; carried = refl; kind = refl }), record { line = refl; carried = refl; kind = refl }),
+              record { line = refl; carried = refl; kind = refl },
+            ),
+            record { line = refl; carried = refl; kind = refl },
+          ),
+          record { line = refl; carried = refl; kind = refl },
+        ),
+        record { line = refl; carried = refl; kind = refl },
+      );
+      ended = refl;
+    },
+    (
+      record { follows = ((tt, record { line = refl; carried = refl; kind = refl }), record { line = refl; carried = refl; kind = refl }); ended = refl },
+      (
+        record {
+          follows = (
+            (
+              (
+                ((tt, record { line = refl; carried = refl; kind = refl }), record { line = refl; carried = refl; kind = refl }),
+                record { line = refl; carried = refl; kind = refl },
+              ),
+              record { line = refl; carried = refl; kind = refl },
+            ),
+            record { line = refl; carried = refl; kind = refl },
+          );
+          ended = refl;
+        },
+        tt,
+      ),
+    ),
+  );
+  display = (
+    (
+      (
+        (
+          ((tt, record { line = refl; carried = refl; kind = refl }), record { line = refl; carried = refl; kind = refl }),
+          record { line = refl; carried = refl; kind = refl },
+        ),
+        record { line = refl; carried = refl; kind = refl },
+      ),
+      record { line = refl; carried = refl; kind = refl },
+    ),
+    record { line = refl; carried = refl; kind = refl },
+  );
+  all_read = refl;
+}
 
 -- parent gone
 
@@ -480,7 +755,28 @@ parent_gone-lines =
     ∷ []
 
 parent_gone-reading : Interleaves parent_gone-setup 12 parent_gone-lines parent_gone-history
-parent_gone-reading = record { sessions = (record { follows = ((tt, record { line = refl; carried = refl; kind = refl }), record { line = refl; carried = refl; kind = refl }); ended = refl }, (record { follows = (((tt, record { line = refl; carried = refl; kind = refl }), record { line = refl; carried = refl; kind = refl }), record { line = refl; carried = refl; kind = refl }); ended = refl }, tt)); display = ((tt, record { line = refl; carried = refl; kind = refl }), record { line = refl; carried = refl; kind = refl }); all_read = refl }
+parent_gone-reading = record {
+  sessions = (
+    record {
+      follows =
+          ((tt, record { line = refl; carried = refl; kind = refl }), record { line = refl; carried = refl; kind = refl });
+      ended = refl;
+    },
+    (
+      record {
+        follows = (
+          ((tt, record { line = refl; carried = refl; kind = refl }), record { line = refl; carried = refl; kind = refl }),
+          record { line = refl; carried = refl; kind = refl },
+        );
+        ended = refl;
+      },
+      tt,
+    ),
+  );
+  display =
+      ((tt, record { line = refl; carried = refl; kind = refl }), record { line = refl; carried = refl; kind = refl });
+  all_read = refl;
+}
 
 -- release fence signalled at done
 
@@ -507,9 +803,11 @@ release_fence_signalled_at_done-history = []
     ▹ by (Session (s 1)) 13 [] (kind.End 0) reply.Done
 
 pub release_fence_signalled_at_done-legal : Legal release_fence_signalled_at_done-setup release_fence_signalled_at_done-history
-release_fence_signalled_at_done-legal = legal-by-tests release_fence_signalled_at_done-setup release_fence_signalled_at_done-history refl (((((((tt, refl), refl), refl), refl), refl), refl), refl)
+release_fence_signalled_at_done-legal = legal-by-tests release_fence_signalled_at_done-setup release_fence_signalled_at_done-history refl
+    (((((((tt, refl), refl), refl), refl), refl), refl), refl)
 
-release_fence_signalled_at_done-posts : posts release_fence_signalled_at_done-setup release_fence_signalled_at_done-history ≡ (post 2 1 (event.Credits 5) ∷ post 4 1 (event.FramePresented 1) ∷ [])
+release_fence_signalled_at_done-posts : posts release_fence_signalled_at_done-setup release_fence_signalled_at_done-history
+    ≡ (post 2 1 (event.Credits 5) ∷ post 4 1 (event.FramePresented 1) ∷ [])
 release_fence_signalled_at_done-posts = refl
 
 abbrev pub release_fence_signalled_at_done-lines : List ScriptLine
@@ -522,5 +820,26 @@ release_fence_signalled_at_done-lines =
     ∷ session_line 12 1 (line.Wait (asks.Fence (f 0)))
     ∷ []
 
-release_fence_signalled_at_done-reading : Interleaves release_fence_signalled_at_done-setup 12 release_fence_signalled_at_done-lines release_fence_signalled_at_done-history
-release_fence_signalled_at_done-reading = record { sessions = (record { follows = (((((tt, record { line = refl; carried = refl; kind = refl }), record { line = refl; carried = refl; kind = refl }), record { line = refl; carried = refl; kind = refl }), record { line = refl; carried = refl; kind = refl }), record { line = refl; carried = refl; kind = refl }); ended = refl }, tt); display = ((tt, record { line = refl; carried = refl; kind = refl }), record { line = refl; carried = refl; kind = refl }); all_read = refl }
+release_fence_signalled_at_done-reading : Interleaves release_fence_signalled_at_done-setup 12 release_fence_signalled_at_done-lines
+    release_fence_signalled_at_done-history
+release_fence_signalled_at_done-reading = record {
+  sessions = (
+    record {
+      follows = (
+        (
+          (
+            ((tt, record { line = refl; carried = refl; kind = refl }), record { line = refl; carried = refl; kind = refl }),
+            record { line = refl; carried = refl; kind = refl },
+          ),
+          record { line = refl; carried = refl; kind = refl },
+        ),
+        record { line = refl; carried = refl; kind = refl },
+      );
+      ended = refl;
+    },
+    tt,
+  );
+  display =
+      ((tt, record { line = refl; carried = refl; kind = refl }), record { line = refl; carried = refl; kind = refl });
+  all_read = refl;
+}

@@ -7,7 +7,9 @@ use Rattle.flat_base.specs.declared.ids.PairNo.{PairNo}
 use Rattle.flat_base.specs.declared.errors.Reason.{Reason}
 use Rattle.flat_base.specs.declared.ids.SessionNo.{SessionNo}
 use Rattle.flat_scene.specs.declared.calls.Call.{Call}
-use Rattle.flat_scene.specs.declared.calls.Call.TheVariants.{CreateView, ReleaseView, CreateViewport, SetViewportProperties, CreateImage, SetImageSampleRegion, SetImageDestinationSize, SetImageBlendingFunction, SetImageFlip, SetImageOpacity, CreateFilledRect, SetSolidFill, Clear}
+use Rattle.flat_scene.specs.declared.calls.Call.TheVariants.{CreateView, ReleaseView, CreateViewport, SetViewportProperties, CreateImage, SetImageSampleRegion}
+use Rattle.flat_scene.specs.declared.calls.Call.TheVariants.{SetImageDestinationSize, SetImageBlendingFunction, SetImageFlip, SetImageOpacity, CreateFilledRect}
+use Rattle.flat_scene.specs.declared.calls.Call.TheVariants.{SetSolidFill, Clear}
 use Rattle.flat_scene.specs.declared.setup.Setup.{Setup}
 use Rattle.flat_scene.specs.Draft.{Draft, Made, an_image, a_fill, a_viewport, changed_at, content_of, empty_draft}
 use Rattle.flat_scene.specs.Effect.{effect, changed_if, on_image, on_viewport, on_fill, after_call, after_calls, draft_of, unless}
@@ -27,11 +29,13 @@ module _ (setup : Setup) (s : SessionNo) where
     pub view : view_owned draft.view ≡ true
     pub contents : list_all made_owned draft.contents ≡ true
 
-  changed-at : (n : ℕ) (f : Made → Made) → ((m : Made) → made_owned (f m) ≡ made_owned m) → (ms : List Made) → list_all made_owned (changed_at n f ms) ≡ list_all made_owned ms
+  changed-at : (n : ℕ) (f : Made → Made) → ((m : Made) → made_owned (f m) ≡ made_owned m) → (ms : List Made)
+      → list_all made_owned (changed_at n f ms) ≡ list_all made_owned ms
   changed-at n f same [] = refl
   changed-at n f same (m ∷ ms) = grind (arith, same m, changed-at (n - 1) f same ms)
 
-  changed-if : (n : Option ℕ) (f : Made → Made) → ((m : Made) → made_owned (f m) ≡ made_owned m) → (ms : List Made) → list_all made_owned ms ≡ true → list_all made_owned (changed_if n f ms) ≡ true
+  changed-if : (n : Option ℕ) (f : Made → Made) → ((m : Made) → made_owned (f m) ≡ made_owned m) → (ms : List Made) → list_all made_owned ms ≡ true
+      → list_all made_owned (changed_if n f ms) ≡ true
   changed-if None f same ms all = all
   changed-if (Some n) f same ms all = rw (changed-at n f same ms) all
 
@@ -57,13 +61,18 @@ module _ (setup : Setup) (s : SessionNo) where
   effect-owned draft (CreateViewport c pair w h inset) owned own = record { view = owned.view; contents = rw (list_all-append, owned.contents, own) refl }
   effect-owned draft (CreateImage c buffers i w h) owned own = record { view = owned.view; contents = rw (list_all-append, owned.contents) refl }
   effect-owned draft (CreateFilledRect c) owned own = record { view = owned.view; contents = rw (list_all-append, owned.contents) refl }
-  effect-owned draft (SetViewportProperties c w h inset) owned own = record { view = owned.view; contents = changed-if (content_of draft c) _ (on-viewport _) _ owned.contents }
-  effect-owned draft (SetImageSampleRegion c rect) owned own = record { view = owned.view; contents = changed-if (content_of draft c) _ (on-image _) _ owned.contents }
-  effect-owned draft (SetImageDestinationSize c w h) owned own = record { view = owned.view; contents = changed-if (content_of draft c) _ (on-image _) _ owned.contents }
-  effect-owned draft (SetImageBlendingFunction c m) owned own = record { view = owned.view; contents = changed-if (content_of draft c) _ (on-image _) _ owned.contents }
+  effect-owned draft (SetViewportProperties c w h inset) owned own =
+      record { view = owned.view; contents = changed-if (content_of draft c) _ (on-viewport _) _ owned.contents }
+  effect-owned draft (SetImageSampleRegion c rect) owned own =
+      record { view = owned.view; contents = changed-if (content_of draft c) _ (on-image _) _ owned.contents }
+  effect-owned draft (SetImageDestinationSize c w h) owned own =
+      record { view = owned.view; contents = changed-if (content_of draft c) _ (on-image _) _ owned.contents }
+  effect-owned draft (SetImageBlendingFunction c m) owned own =
+      record { view = owned.view; contents = changed-if (content_of draft c) _ (on-image _) _ owned.contents }
   effect-owned draft (SetImageFlip c f) owned own = record { view = owned.view; contents = changed-if (content_of draft c) _ (on-image _) _ owned.contents }
   effect-owned draft (SetImageOpacity c v) owned own = record { view = owned.view; contents = changed-if (content_of draft c) _ (on-image _) _ owned.contents }
-  effect-owned draft (SetSolidFill c r g b a w h) owned own = record { view = owned.view; contents = changed-if (content_of draft c) _ (on-fill _) _ owned.contents }
+  effect-owned draft (SetSolidFill c r g b a w h) owned own =
+      record { view = owned.view; contents = changed-if (content_of draft c) _ (on-fill _) _ owned.contents }
   effect-owned draft _ owned own = record { view = owned.view; contents = owned.contents }
 
   unless-owned : (reason : Option Reason) (e d : Draft) → IsOwned e → unless reason e ≡ Ok d → IsOwned d
@@ -83,4 +92,5 @@ module _ (setup : Setup) (s : SessionNo) where
       after-owned (after_call setup before call) calls (call-owned before call owned (grind arith)) (grind arith) d is
 
   pub draft-owned : (calls : List Call) → list_all (owns_in_call setup s) calls ≡ true → (d : Draft) → draft_of setup calls ≡ Ok d → IsOwned d
-  draft-owned calls all = after-owned (Ok empty_draft) calls (λ d is. let same : empty_draft ≡ d = cc in subst IsOwned same (record { view = refl; contents = refl })) all
+  draft-owned calls all = after-owned (Ok empty_draft) calls
+      (λ d is. let same : empty_draft ≡ d = cc in subst IsOwned same (record { view = refl; contents = refl })) all

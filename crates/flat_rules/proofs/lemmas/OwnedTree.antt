@@ -53,7 +53,8 @@ module _ (setup : Setup) (s : SessionNo) where
       list_all-append owns (pair_in n.content ++ pairs_in n.children) (pairs_in rest)
       ∙ (rw (list_all-append owns (pair_in n.content) (pairs_in n.children), after) (grind arith))
 
-  each-owned : (f : ℕ → Option Node) → ((k : ℕ) (n : Node) → f k ≡ Some n → node_owned n ≡ true) → (ks : List ℕ) (all : Children) → each f ks ≡ Some all → list_all owns (pairs_in all) ≡ true
+  each-owned : (f : ℕ → Option Node) → ((k : ℕ) (n : Node) → f k ≡ Some n → node_owned n ≡ true) → (ks : List ℕ) (all : Children) → each f ks ≡ Some all
+      → list_all owns (pairs_in all) ≡ true
   each-owned f owned [] all is = let empty : Empty ≡ all = cc in subst (λ (c : Children). list_all owns (pairs_in c) ≡ true) empty refl
   each-owned f owned (k ∷ ks) all is = one-more (owned k) (λ rest e. each-owned f owned ks rest e) (f k) refl (each f ks) refl is
     where
@@ -66,10 +67,12 @@ module _ (setup : Setup) (s : SessionNo) where
           let same : more n rest ≡ all = cc in
           subst (λ (c : Children). list_all owns (pairs_in c) ≡ true) same (pairs-more n rest (first n e) (later rest e2))
 
-  within-owned : (levels : ℕ) (draft : Draft) → IsOwned setup s draft → (is_root : Bool) (k : ℕ) (n : Node) → node_within levels draft is_root k ≡ Some n → node_owned n ≡ true
+  within-owned : (levels : ℕ) (draft : Draft) → IsOwned setup s draft → (is_root : Bool) (k : ℕ) (n : Node) → node_within levels draft is_root k ≡ Some n
+      → node_owned n ≡ true
   within-owned zero draft owned is_root k n is = cc
   within-owned (suc levels) draft owned is_root k n is =
-      of_transform (λ ks all e. each-owned (node_within levels draft false) (λ k' n' e'. within-owned levels draft owned false k' n' e') ks all e) (of_serial draft.transforms k) is
+      of_transform (λ ks all e. each-owned (node_within levels draft false) (λ k' n' e'. within-owned levels draft owned false k' n' e') ks all e)
+      (of_serial draft.transforms k) is
     where
       of_children : (t : Transform) → (all : Option Children) → ((c : Children) → all ≡ Some c → list_all owns (pairs_in c) ≡ true)
           → option_map (node draft is_root k t) all ≡ Some n → node_owned n ≡ true
@@ -79,7 +82,8 @@ module _ (setup : Setup) (s : SessionNo) where
           subst (λ (m : Node). node_owned m ≡ true) same (rw (held-owned draft owned t.content) (below all refl))
 
       of_transform : ((ks : List ℕ) (all : Children) → each (node_within levels draft false) ks ≡ Some all → list_all owns (pairs_in all) ≡ true)
-          → (t : Option Transform) → option_and_then (λ t. option_map (node draft is_root k t) (each (node_within levels draft false) t.children)) t ≡ Some n → node_owned n ≡ true
+          → (t : Option Transform) → option_and_then (λ t. option_map (node draft is_root k t) (each (node_within levels draft false) t.children)) t ≡ Some n
+          → node_owned n ≡ true
       of_transform below None h = cc
       of_transform below (Some t) h = of_children t (each (node_within levels draft false) t.children) (below t.children) h
 

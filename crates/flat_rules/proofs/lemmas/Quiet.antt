@@ -29,7 +29,8 @@ publish-skip true e xs none = rw (none (carried (xs ▹ e))) (append-nil _)
 publish-skip false e xs none = refl
 
 -- an entry that publishes nothing adds no present
-pub presents-quiet : (h : List Entry) (e : Entry) (s : SessionNo) → ((made : List Call) → published e.kind e.reply made ≡ []) → presents s (h ▹ e) ≡ presents s h
+pub presents-quiet : (h : List Entry) (e : Entry) (s : SessionNo) → ((made : List Call) → published e.kind e.reply made ≡ [])
+    → presents s (h ▹ e) ≡ presents s h
 presents-quiet h e s none = publish-skip (is_session s e.actor) e (own s h) none
 
 pub takes-none : (kind : Kind) (signalled : FenceNo → Bool) (closed : Bool) (w : List Published) → is_begin kind ≡ false → takes kind signalled closed w ≡ []

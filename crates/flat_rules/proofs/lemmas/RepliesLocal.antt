@@ -18,7 +18,8 @@ use Rattle.flat_scene.specs.Family.{only, is_kept, keeps}
 use Rattle.flat_scene.specs.Laws.{IsClosedFamily}
 use Rattle.flat_scene.specs.Frames.{credits, taken, sessions_to}
 use Rattle.flat_scene.specs.History.{◌▹◌, is_closed, is_session, is_begin, is_finish}
-use Rattle.flat_rules.specs.Legal.{Legal, is_token_back, is_told, is_poll, is_now, number_if, owns_viewport, has_token, sent_to, unread, unread_events, answers, frames, is_frame_open, begin_time}
+use Rattle.flat_rules.specs.Legal.{Legal, is_token_back, is_told, is_poll, is_now, number_if, owns_viewport, has_token, sent_to, unread, unread_events, answers}
+use Rattle.flat_rules.specs.Legal.{frames, is_frame_open, begin_time}
 use Rattle.flat_rules.specs.Posts.{Sent, told_event, tokens_back, at_finish, at_begin, news_for, events_to, posted, up_to, frame_took, event_of}
 use Rattle.flat_rules.specs.Watch.{Watcher, layout_of, status_of, child_of, watching, told}
 use Rattle.flat_watch.specs.Told.{answer}
@@ -82,7 +83,8 @@ answers-still mine now m n more other same none = rw (other, same, none) (omega 
 
 -- ---- where a token comes back
 
-any-flat-none : {X : Type 0} (o : X → Bool) (test : Event → Bool) (f : X → List Event) → ((x : X) → o x ≡ true → list_any test (f x) ≡ false) → (xs : List X) → list_all o xs ≡ true
+any-flat-none : {X : Type 0} (o : X → Bool) (test : Event → Bool) (f : X → List Event) → ((x : X) → o x ≡ true → list_any test (f x) ≡ false) → (xs : List X)
+    → list_all o xs ≡ true
     → list_any test (flat_map f xs) ≡ false
 any-flat-none o test f none [] all = refl
 any-flat-none o test f none (x ∷ xs) all =
@@ -90,7 +92,8 @@ any-flat-none o test f none (x ∷ xs) all =
     let rest : list_any test (flat_map f xs) ≡ false = any-flat-none o test f none xs (grind arith) in
     rw (list_any-append test (f x) (flat_map f xs), first, rest) refl
 
-pub any-flat-nothing : {X : Type 0} (test : Event → Bool) (f : X → List Event) → ((x : X) → list_any test (f x) ≡ false) → (xs : List X) → list_any test (flat_map f xs) ≡ false
+pub any-flat-nothing : {X : Type 0} (test : Event → Bool) (f : X → List Event) → ((x : X) → list_any test (f x) ≡ false) → (xs : List X)
+    → list_any test (flat_map f xs) ≡ false
 any-flat-nothing test f none [] = refl
 any-flat-nothing test f none (x ∷ xs) = rw (list_any-append test (f x) (flat_map f xs), none x, any-flat-nothing test f none xs) refl
 
@@ -98,10 +101,21 @@ replicate-no-token : (p q : PairNo) → (q.0 == p.0) ≡ false → (n : ℕ) →
 replicate-no-token p q other zero = refl
 replicate-no-token p q other (suc n) = rw (other, replicate-no-token p q other n) refl
 
-pub five-none : (test : Event → Bool) (a b c d e : List Event) → list_any test a ≡ false → list_any test b ≡ false → list_any test c ≡ false → list_any test d ≡ false → list_any test e ≡ false
+pub five-none : (test : Event → Bool) (a b c d e : List Event) → list_any test a ≡ false → list_any test b ≡ false → list_any test c ≡ false
+    → list_any test d ≡ false → list_any test e ≡ false
     → list_any test (a ++ b ++ c ++ d ++ e) ≡ false
 five-none test a b c d e na nb nc nd ne =
-    rw (list_any-append test (a ++ b ++ c ++ d) e, list_any-append test (a ++ b ++ c) d, list_any-append test (a ++ b) c, list_any-append test a b, na, nb, nc, nd, ne) refl
+    rw (
+      list_any-append test (a ++ b ++ c ++ d) e,
+      list_any-append test (a ++ b ++ c) d,
+      list_any-append test (a ++ b) c,
+      list_any-append test a b,
+      na,
+      nb,
+      nc,
+      nd,
+      ne,
+    ) refl
 
 -- where there is none, there is none under a condition
 pub none-if : (test : Event → Bool) (b : Bool) (es : List Event) → list_any test es ≡ false → list_any test (cond b es []) ≡ false
@@ -114,7 +128,8 @@ none-unless test false es none = none refl
 
 module _ (setup : Setup) where
   -- tokens come back at the end of a frame
-  pub token-at-finish : (p : PairNo) (s : SessionNo) (before : List Entry) (e : Entry) → list_any (is_token_back p) (cond (is_finish e.kind) (at_finish setup before s) []) ≡ false
+  pub token-at-finish : (p : PairNo) (s : SessionNo) (before : List Entry) (e : Entry)
+      → list_any (is_token_back p) (cond (is_finish e.kind) (at_finish setup before s) []) ≡ false
       → list_any (is_token_back p) (events_to setup before e s) ≡ false
   token-at-finish p s before e none =
       let layouts : PairNo → List Event = λ q. told_event setup q (layout_of q) before e in
@@ -127,15 +142,19 @@ module _ (setup : Setup) where
       (cond (is_finish e.kind) (at_finish setup before s) []) (cond (is_begin e.kind) (at_begin setup before e s) [])
       (any-flat-nothing (is_token_back p) layouts (λ q. told_none q (layout_of q)) (views_of setup s))
       (any-flat-nothing (is_token_back p) statuses (λ q. told_none q (status_of q)) (views_of setup s))
-      (any-flat-nothing (is_token_back p) children (λ q. any-flat-nothing (is_token_back p) (child q) (λ n. told_none q (child_of q n)) (up_to (length (viewport_uses q before)))) (viewports_of setup s))
+      (any-flat-nothing (is_token_back p) children (λ q. any-flat-nothing (is_token_back p) (child q) (λ n. told_none q (child_of q n))
+      (up_to (length (viewport_uses q before)))) (viewports_of setup s))
       none
-      (none-if (is_token_back p) (is_begin e.kind) (at_begin setup before e s) (none-if (is_token_back p) (nat_lt (taken setup before s) (taken setup (before ▹ e) s)) (event.Credits (credits setup (before ▹ e) s - credits setup before s) ∷ []) refl)))
+      (none-if (is_token_back p) (is_begin e.kind) (at_begin setup before e s)
+      (none-if (is_token_back p) (nat_lt (taken setup before s) (taken setup (before ▹ e) s))
+      (event.Credits (credits setup (before ▹ e) s - credits setup before s) ∷ []) refl)))
     where
       told_none : (q : PairNo) (watcher : Watcher) → list_any (is_token_back p) (told_event setup q watcher before e) ≡ false
       told_none q watcher = no-told p q (watching setup watcher before).waits (answer (told setup (before ▹ e) watcher) (watching setup watcher before))
 
   -- a session is sent back only the tokens of its own pairs
-  pub token-elsewhere : (p : PairNo) (s : SessionNo) → owns_viewport setup s p ≡ false → (before : List Entry) (e : Entry) → list_any (is_token_back p) (events_to setup before e s) ≡ false
+  pub token-elsewhere : (p : PairNo) (s : SessionNo) → owns_viewport setup s p ≡ false → (before : List Entry) (e : Entry)
+      → list_any (is_token_back p) (events_to setup before e s) ≡ false
   token-elsewhere p s not_its before e = token-at-finish p s before e (none-if (is_token_back p) (is_finish e.kind) (at_finish setup before s) finish_none)
     where
       other_pair : (q : PairNo) → owns_viewport setup s q ≡ true → (q.0 == p.0) ≡ false
@@ -146,11 +165,18 @@ module _ (setup : Setup) where
 
       finish_none : list_any (is_token_back p) (at_finish setup before s) ≡ false
       finish_none =
-          let shown : list_any (is_token_back p) (cond (nat_lt 0 (frame_took setup before s)) (event.FramePresented (frame_took setup before s) ∷ []) []) ≡ false =
+          let shown : list_any (is_token_back p) (cond (nat_lt 0 (frame_took setup before s)) (event.FramePresented (frame_took setup before s) ∷ []) [])
+          ≡ false =
           none-if (is_token_back p) (nat_lt 0 (frame_took setup before s)) (event.FramePresented (frame_took setup before s) ∷ []) refl in
           let back : list_any (is_token_back p) (tokens_back setup before s) ≡ false =
-          any-flat-none (owns_viewport setup s) (is_token_back p) _ (λ q owns. replicate-no-token p q (other_pair q owns) _) (viewports_of setup s) (viewports-owned setup s) in
-          rw (list_any-append (is_token_back p) (cond (nat_lt 0 (frame_took setup before s)) (event.FramePresented (frame_took setup before s) ∷ []) []) (tokens_back setup before s), shown, back) refl
+          any-flat-none (owns_viewport setup s) (is_token_back p) _ (λ q owns. replicate-no-token p q (other_pair q owns) _) (viewports_of setup s)
+          (viewports-owned setup s) in
+          rw (
+            list_any-append (is_token_back p) (cond (nat_lt 0 (frame_took setup before s)) (event.FramePresented (frame_took setup before s) ∷ []) [])
+                (tokens_back setup before s),
+            shown,
+            back,
+          ) refl
 
 module _ (setup : Setup) (of_family : SessionNo → Bool) (closed : IsClosedFamily setup of_family) where
   -- ---- frames
@@ -159,15 +185,21 @@ module _ (setup : Setup) (of_family : SessionNo → Bool) (closed : IsClosedFami
   frame-open-only [] legal = refl
   frame-open-only (before ▹ e) legal = by_side (frame-open-only before legal.0) (is_kept of_family e) refl
     where
-      by_side : is_frame_open (only of_family before) ≡ is_frame_open before → (k : Bool) → is_kept of_family e ≡ k → is_frame_open (only of_family (before ▹ e)) ≡ is_frame_open (before ▹ e)
+      by_side : is_frame_open (only of_family before) ≡ is_frame_open before → (k : Bool) → is_kept of_family e ≡ k
+          → is_frame_open (only of_family (before ▹ e)) ≡ is_frame_open (before ▹ e)
       by_side earlier true kept = rw (kept, earlier) refl
-      by_side earlier false out = rw (out, (no-frame setup of_family closed e.kind e.actor out legal.1.may.acts).0, (no-frame setup of_family closed e.kind e.actor out legal.1.may.acts).1) earlier
+      by_side earlier false out = rw (
+        out,
+        (no-frame setup of_family closed e.kind e.actor out legal.1.may.acts).0,
+        (no-frame setup of_family closed e.kind e.actor out legal.1.may.acts).1,
+      ) earlier
 
   pub begin-time-only : (history : List Entry) → Legal setup history → begin_time (only of_family history) ≡ begin_time history
   begin-time-only [] legal = refl
   begin-time-only (before ▹ e) legal = by_side (begin-time-only before legal.0) (is_kept of_family e) refl
     where
-      by_side : begin_time (only of_family before) ≡ begin_time before → (k : Bool) → is_kept of_family e ≡ k → begin_time (only of_family (before ▹ e)) ≡ begin_time (before ▹ e)
+      by_side : begin_time (only of_family before) ≡ begin_time before → (k : Bool) → is_kept of_family e ≡ k
+          → begin_time (only of_family (before ▹ e)) ≡ begin_time (before ▹ e)
       by_side earlier true kept = rw (kept, earlier) refl
       by_side earlier false out = rw (out, (no-frame setup of_family closed e.kind e.actor out legal.1.may.acts).0) earlier
 
@@ -175,7 +207,8 @@ module _ (setup : Setup) (of_family : SessionNo → Bool) (closed : IsClosedFami
   frames-only [] legal = refl
   frames-only (before ▹ e) legal = by_side (frames-only before legal.0) (is_kept of_family e) refl (is_finish e.kind) refl
     where
-      by_side : frames (only of_family before) ≡ frames before → (k : Bool) → is_kept of_family e ≡ k → (b : Bool) → is_finish e.kind ≡ b → frames (only of_family (before ▹ e)) ≡ frames (before ▹ e)
+      by_side : frames (only of_family before) ≡ frames before → (k : Bool) → is_kept of_family e ≡ k → (b : Bool) → is_finish e.kind ≡ b
+          → frames (only of_family (before ▹ e)) ≡ frames (before ▹ e)
       by_side earlier true kept true ends = rw (kept, ends) (ap suc earlier)
       by_side earlier true kept false other = rw (kept, other) earlier
       by_side earlier false out b is = rw (out, (no-frame setup of_family closed e.kind e.actor out legal.1.may.acts).1) earlier
@@ -186,15 +219,20 @@ module _ (setup : Setup) (of_family : SessionNo → Bool) (closed : IsClosedFami
   not-outside p pair s out = false_from_ne_true (owns_viewport setup s p) (λ owns. let inside : of_family s ≡ true = pair.viewport s owns in cc)
 
   back-kept : (p : PairNo) → IsFamilyPair setup of_family closed p → (before : List Entry) (e : Entry) → Legal setup (before ▹ e) → is_kept of_family e ≡ true
-      → list_any (λ sent. is_token_back p sent.event) (posted setup (only of_family before) e) ≡ list_any (λ sent. is_token_back p sent.event) (posted setup before e)
+      → list_any (λ sent. is_token_back p sent.event) (posted setup (only of_family before) e)
+      ≡ list_any (λ sent. is_token_back p sent.event) (posted setup before e)
   back-kept p pair before e legal kept =
-      any-sent-same (is_token_back p) (events_to setup (only of_family before) e) (events_to setup before e) (λ s. by_side s (of_family s) refl) (sessions_to setup.sessions)
+      any-sent-same (is_token_back p) (events_to setup (only of_family before) e) (events_to setup before e) (λ s. by_side s (of_family s) refl)
+      (sessions_to setup.sessions)
     where
-      by_side : (s : SessionNo) (b : Bool) → of_family s ≡ b → list_any (is_token_back p) (events_to setup (only of_family before) e s) ≡ list_any (is_token_back p) (events_to setup before e s)
+      by_side : (s : SessionNo) (b : Bool) → of_family s ≡ b
+          → list_any (is_token_back p) (events_to setup (only of_family before) e s) ≡ list_any (is_token_back p) (events_to setup before e s)
       by_side s true mine = ap (list_any (is_token_back p)) (events-kept setup of_family closed before e legal kept s mine)
-      by_side s false out = token-elsewhere setup p s (not-outside p pair s out) (only of_family before) e ∙ sym (token-elsewhere setup p s (not-outside p pair s out) before e)
+      by_side s false out = token-elsewhere setup p s (not-outside p pair s out) (only of_family before) e
+          ∙ sym (token-elsewhere setup p s (not-outside p pair s out) before e)
 
-  back-dropped : (p : PairNo) → IsFamilyPair setup of_family closed p → (before : List Entry) (e : Entry) → Legal setup (before ▹ e) → is_kept of_family e ≡ false
+  back-dropped : (p : PairNo) → IsFamilyPair setup of_family closed p → (before : List Entry) (e : Entry) → Legal setup (before ▹ e)
+      → is_kept of_family e ≡ false
       → list_any (λ sent. is_token_back p sent.event) (posted setup before e) ≡ false
   back-dropped p pair before e legal out =
       any-sent-none (is_token_back p) (events_to setup before e) (λ s. by_side s (of_family s) refl) (sessions_to setup.sessions)
@@ -203,25 +241,34 @@ module _ (setup : Setup) (of_family : SessionNo → Bool) (closed : IsClosedFami
       by_side s true mine = ap (list_any (is_token_back p)) (events-dropped setup of_family closed before e legal out s mine)
       by_side s false far = token-elsewhere setup p s (not-outside p pair s far) before e
 
-  pub token-only : (p : PairNo) → IsFamilyPair setup of_family closed p → (history : List Entry) → Legal setup history → has_token setup p (only of_family history) ≡ has_token setup p history
+  pub token-only : (p : PairNo) → IsFamilyPair setup of_family closed p → (history : List Entry) → Legal setup history
+      → has_token setup p (only of_family history) ≡ has_token setup p history
   token-only p pair [] legal = refl
   token-only p pair (before ▹ e) legal = by_side (token-only p pair before legal.0) (is_kept of_family e) refl
     where
-      by_side : has_token setup p (only of_family before) ≡ has_token setup p before → (k : Bool) → is_kept of_family e ≡ k → has_token setup p (only of_family (before ▹ e)) ≡ has_token setup p (before ▹ e)
+      by_side : has_token setup p (only of_family before) ≡ has_token setup p before → (k : Bool) → is_kept of_family e ≡ k
+          → has_token setup p (only of_family (before ▹ e)) ≡ has_token setup p (before ▹ e)
       by_side earlier true kept = rw (kept, earlier, back-kept p pair before e legal kept) refl
       by_side earlier false out =
-          rw (out, no-viewport setup of_family closed p pair e.kind e.actor out legal.1.may.acts (entry-owned setup before e legal.1), back-dropped p pair before e legal out)
+          rw (
+            out,
+            no-viewport setup of_family closed p pair e.kind e.actor out legal.1.may.acts (entry-owned setup before e legal.1),
+            back-dropped p pair before e legal out,
+          )
           (grind (arith, earlier))
 
   -- ---- counts of events
 
-  sent-kept : (s : SessionNo) → of_family s ≡ true → (test : Event → Bool) (before : List Entry) (e : Entry) → Legal setup (before ▹ e) → is_kept of_family e ≡ true
+  sent-kept : (s : SessionNo) → of_family s ≡ true → (test : Event → Bool) (before : List Entry) (e : Entry) → Legal setup (before ▹ e)
+      → is_kept of_family e ≡ true
       → sent_to setup s test (only of_family before) e ≡ sent_to setup s test before e
   sent-kept s mine test before e legal kept = ap (λ (es : List Event). length (filter test es)) (events-kept setup of_family closed before e legal kept s mine)
 
-  sent-dropped : (s : SessionNo) → of_family s ≡ true → (test : Event → Bool) (before : List Entry) (e : Entry) → Legal setup (before ▹ e) → is_kept of_family e ≡ false
+  sent-dropped : (s : SessionNo) → of_family s ≡ true → (test : Event → Bool) (before : List Entry) (e : Entry) → Legal setup (before ▹ e)
+      → is_kept of_family e ≡ false
       → sent_to setup s test before e ≡ 0
-  sent-dropped s mine test before e legal out = ap (λ (es : List Event). length (filter test es)) (events-dropped setup of_family closed before e legal out s mine)
+  sent-dropped s mine test before e legal out = ap (λ (es : List Event). length (filter test es))
+      (events-dropped setup of_family closed before e legal out s mine)
 
   -- a dropped entry is none of the family's
   not-its : (s : SessionNo) → of_family s ≡ true → (kind : Kind) (actor : Actor) → keeps of_family kind actor ≡ false → is_session s actor ≡ false
@@ -229,7 +276,8 @@ module _ (setup : Setup) (of_family : SessionNo → Bool) (closed : IsClosedFami
   not-its s mine kind (Probe p) out = refl
   not-its s mine kind (Session t) out = false_from_ne_true (t.0 == s.0) (λ is. let same : of_family t ≡ of_family s = ap of_family (same-session s t is) in cc)
 
-  unread-same : (s : SessionNo) → of_family s ≡ true → (history : List Entry) → Legal setup history → unread_events setup s (only of_family history) ≡ unread_events setup s history
+  unread-same : (s : SessionNo) → of_family s ≡ true → (history : List Entry) → Legal setup history
+      → unread_events setup s (only of_family history) ≡ unread_events setup s history
   unread-same s mine [] legal = refl
   unread-same s mine (before ▹ e) legal = by_side (unread-same s mine before legal.0) (is_kept of_family e) refl
     where
@@ -237,18 +285,23 @@ module _ (setup : Setup) (of_family : SessionNo → Bool) (closed : IsClosedFami
           → unread_events setup s (only of_family (before ▹ e)) ≡ unread_events setup s (before ▹ e)
       by_side earlier true kept = rw (kept, earlier, events-kept setup of_family closed before e legal kept s mine) refl
       by_side earlier false out =
-          rw out (unread-still (is_session s e.actor) (is_poll e.kind) (unread_events setup s (only of_family before)) (unread_events setup s before) (events_to setup before e s)
+          rw out (unread-still (is_session s e.actor) (is_poll e.kind) (unread_events setup s (only of_family before)) (unread_events setup s before)
+          (events_to setup before e s)
           (not-its s mine e.kind e.actor out) earlier (events-dropped setup of_family closed before e legal out s mine))
 
-  pub unread-only : (s : SessionNo) → of_family s ≡ true → (history : List Entry) → Legal setup history → unread setup s (only of_family history) ≡ unread setup s history
+  pub unread-only : (s : SessionNo) → of_family s ≡ true → (history : List Entry) → Legal setup history
+      → unread setup s (only of_family history) ≡ unread setup s history
   unread-only s mine history legal = ap length (unread-same s mine history legal)
 
-  pub answers-only : (s : SessionNo) → of_family s ≡ true → (history : List Entry) → Legal setup history → answers setup s (only of_family history) ≡ answers setup s history
+  pub answers-only : (s : SessionNo) → of_family s ≡ true → (history : List Entry) → Legal setup history
+      → answers setup s (only of_family history) ≡ answers setup s history
   answers-only s mine [] legal = refl
   answers-only s mine (before ▹ e) legal = by_side (answers-only s mine before legal.0) (is_kept of_family e) refl
     where
-      by_side : answers setup s (only of_family before) ≡ answers setup s before → (k : Bool) → is_kept of_family e ≡ k → answers setup s (only of_family (before ▹ e)) ≡ answers setup s (before ▹ e)
+      by_side : answers setup s (only of_family before) ≡ answers setup s before → (k : Bool) → is_kept of_family e ≡ k
+          → answers setup s (only of_family (before ▹ e)) ≡ answers setup s (before ▹ e)
       by_side earlier true kept = rw kept (omega (arith, earlier, sent-kept s mine is_told before e legal kept))
       by_side earlier false out =
-          rw out (answers-still (is_session s e.actor) (is_now e.reply) (answers setup s (only of_family before)) (answers setup s before) (sent_to setup s is_told before e)
+          rw out (answers-still (is_session s e.actor) (is_now e.reply) (answers setup s (only of_family before)) (answers setup s before)
+          (sent_to setup s is_told before e)
           (not-its s mine e.kind e.actor out) earlier (sent-dropped s mine is_told before e legal out))

@@ -38,7 +38,8 @@ one_fill_one_frame-setup = record {
 abbrev pub one_fill_one_frame-history : List Entry
 one_fill_one_frame-history = []
     ▹ by (Session (s 1)) 6 ((call.CreateView (p 0)) ∷ []) (kind.View (p 0)) reply.Done
-    ▹ by (Session (s 1)) 12 ((call.CreateTransform (t 1)) ∷ (call.SetRootTransform (t 1)) ∷ (call.CreateFilledRect (c 2)) ∷ (call.SetSolidFill (c 2) 255 0 0 255 10 10) ∷ (call.SetContent (t 1) (c 2)) ∷ []) (kind.Present (present 0 [] [])) (reply.Presented 1 0)
+    ▹ by (Session (s 1)) 12 ((call.CreateTransform (t 1)) ∷ (call.SetRootTransform (t 1)) ∷ (call.CreateFilledRect (c 2))
+    ∷ (call.SetSolidFill (c 2) 255 0 0 255 10 10) ∷ (call.SetContent (t 1) (c 2)) ∷ []) (kind.Present (present 0 [] [])) (reply.Presented 1 0)
     ▹ by Display 13 [] (kind.Begin 1000) reply.Done
     ▹ by Display 14 [] kind.Finish reply.Done
     ▹ by (Session (s 1)) 15 [] (kind.End 0) reply.Done
@@ -63,7 +64,21 @@ one_fill_one_frame-lines =
     ∷ []
 
 one_fill_one_frame-reading : Interleaves one_fill_one_frame-setup 14 one_fill_one_frame-lines one_fill_one_frame-history
-one_fill_one_frame-reading = record { sessions = (record { follows = (((tt, record { line = refl; carried = refl; kind = refl }), record { line = refl; carried = refl; kind = refl }), record { line = refl; carried = refl; kind = refl }); ended = refl }, tt); display = ((tt, record { line = refl; carried = refl; kind = refl }), record { line = refl; carried = refl; kind = refl }); all_read = refl }
+one_fill_one_frame-reading = record {
+  sessions = (
+    record {
+      follows = (
+        ((tt, record { line = refl; carried = refl; kind = refl }), record { line = refl; carried = refl; kind = refl }),
+        record { line = refl; carried = refl; kind = refl },
+      );
+      ended = refl;
+    },
+    tt,
+  );
+  display =
+      ((tt, record { line = refl; carried = refl; kind = refl }), record { line = refl; carried = refl; kind = refl });
+  all_read = refl;
+}
 
 -- no lines no frames
 
@@ -93,7 +108,11 @@ abbrev pub no_lines_no_frames-lines : List ScriptLine
 no_lines_no_frames-lines = []
 
 no_lines_no_frames-reading : Interleaves no_lines_no_frames-setup 5 no_lines_no_frames-lines no_lines_no_frames-history
-no_lines_no_frames-reading = record { sessions = (record { follows = (tt, record { line = refl; carried = refl; kind = refl }); ended = refl }, tt); display = tt; all_read = refl }
+no_lines_no_frames-reading = record {
+  sessions = (record { follows = (tt, record { line = refl; carried = refl; kind = refl }); ended = refl }, tt);
+  display = tt;
+  all_read = refl;
+}
 
 -- view without root then poll
 
@@ -119,13 +138,16 @@ view_without_root_then_poll-history = []
     ▹ by (Session (s 1)) 11 [] (kind.End 0) reply.Done
 
 pub view_without_root_then_poll-legal : Legal view_without_root_then_poll-setup view_without_root_then_poll-history
-view_without_root_then_poll-legal = legal-by-tests view_without_root_then_poll-setup view_without_root_then_poll-history refl ((((((tt, refl), refl), refl), refl), refl), refl)
+view_without_root_then_poll-legal = legal-by-tests view_without_root_then_poll-setup view_without_root_then_poll-history refl
+    ((((((tt, refl), refl), refl), refl), refl), refl)
 
-view_without_root_then_poll-posts : posts view_without_root_then_poll-setup view_without_root_then_poll-history ≡ (post 2 1 (event.Credits 5) ∷ post 3 1 (event.FramePresented 1) ∷ [])
+view_without_root_then_poll-posts : posts view_without_root_then_poll-setup view_without_root_then_poll-history
+    ≡ (post 2 1 (event.Credits 5) ∷ post 3 1 (event.FramePresented 1) ∷ [])
 view_without_root_then_poll-posts = refl
 
 -- its poll is handed both events, and at the end none is unread
-view_without_root_then_poll-handed : unread_events view_without_root_then_poll-setup (s 1) (drop 2 view_without_root_then_poll-history) ≡ event.Credits 5 ∷ event.FramePresented 1 ∷ []
+view_without_root_then_poll-handed : unread_events view_without_root_then_poll-setup (s 1) (drop 2 view_without_root_then_poll-history) ≡ event.Credits 5
+    ∷ event.FramePresented 1 ∷ []
 view_without_root_then_poll-handed = refl
 
 view_without_root_then_poll-unread : unread_events view_without_root_then_poll-setup (s 1) view_without_root_then_poll-history ≡ []
@@ -141,7 +163,24 @@ view_without_root_then_poll-lines =
     ∷ []
 
 view_without_root_then_poll-reading : Interleaves view_without_root_then_poll-setup 10 view_without_root_then_poll-lines view_without_root_then_poll-history
-view_without_root_then_poll-reading = record { sessions = (record { follows = ((((tt, record { line = refl; carried = refl; kind = refl }), record { line = refl; carried = refl; kind = refl }), record { line = refl; carried = refl; kind = refl }), record { line = refl; carried = refl; kind = refl }); ended = refl }, tt); display = ((tt, record { line = refl; carried = refl; kind = refl }), record { line = refl; carried = refl; kind = refl }); all_read = refl }
+view_without_root_then_poll-reading = record {
+  sessions = (
+    record {
+      follows = (
+        (
+          ((tt, record { line = refl; carried = refl; kind = refl }), record { line = refl; carried = refl; kind = refl }),
+          record { line = refl; carried = refl; kind = refl },
+        ),
+        record { line = refl; carried = refl; kind = refl },
+      );
+      ended = refl;
+    },
+    tt,
+  );
+  display =
+      ((tt, record { line = refl; carried = refl; kind = refl }), record { line = refl; carried = refl; kind = refl });
+  all_read = refl;
+}
 
 -- fence signalled between frames
 
@@ -160,7 +199,8 @@ fence_signalled_between_frames-setup = record {
 abbrev pub fence_signalled_between_frames-history : List Entry
 fence_signalled_between_frames-history = []
     ▹ by (Session (s 1)) 7 ((call.CreateView (p 0)) ∷ []) (kind.View (p 0)) reply.Done
-    ▹ by (Session (s 1)) 13 ((call.CreateTransform (t 1)) ∷ (call.SetRootTransform (t 1)) ∷ (call.CreateFilledRect (c 1)) ∷ (call.SetSolidFill (c 1) 0 0 255 128 20 10) ∷ (call.SetContent (t 1) (c 1)) ∷ []) (kind.Present (present 0 ((f 0) ∷ []) [])) (reply.Presented 1 0)
+    ▹ by (Session (s 1)) 13 ((call.CreateTransform (t 1)) ∷ (call.SetRootTransform (t 1)) ∷ (call.CreateFilledRect (c 1))
+    ∷ (call.SetSolidFill (c 1) 0 0 255 128 20 10) ∷ (call.SetContent (t 1) (c 1)) ∷ []) (kind.Present (present 0 ((f 0) ∷ []) [])) (reply.Presented 1 0)
     ▹ by Display 14 [] (kind.Begin 100) reply.Done
     ▹ by Display 15 [] kind.Finish reply.Done
     ▹ by Display 16 [] (kind.Signal (f 0)) reply.Done
@@ -169,9 +209,11 @@ fence_signalled_between_frames-history = []
     ▹ by (Session (s 1)) 19 [] (kind.End 0) reply.Done
 
 pub fence_signalled_between_frames-legal : Legal fence_signalled_between_frames-setup fence_signalled_between_frames-history
-fence_signalled_between_frames-legal = legal-by-tests fence_signalled_between_frames-setup fence_signalled_between_frames-history refl ((((((((tt, refl), refl), refl), refl), refl), refl), refl), refl)
+fence_signalled_between_frames-legal = legal-by-tests fence_signalled_between_frames-setup fence_signalled_between_frames-history refl
+    ((((((((tt, refl), refl), refl), refl), refl), refl), refl), refl)
 
-fence_signalled_between_frames-posts : posts fence_signalled_between_frames-setup fence_signalled_between_frames-history ≡ (post 5 1 (event.Credits 5) ∷ post 6 1 (event.FramePresented 1) ∷ [])
+fence_signalled_between_frames-posts : posts fence_signalled_between_frames-setup fence_signalled_between_frames-history
+    ≡ (post 5 1 (event.Credits 5) ∷ post 6 1 (event.FramePresented 1) ∷ [])
 fence_signalled_between_frames-posts = refl
 
 abbrev pub fence_signalled_between_frames-lines : List ScriptLine
@@ -190,8 +232,31 @@ fence_signalled_between_frames-lines =
     ∷ display_line 18 display.Done
     ∷ []
 
-fence_signalled_between_frames-reading : Interleaves fence_signalled_between_frames-setup 18 fence_signalled_between_frames-lines fence_signalled_between_frames-history
-fence_signalled_between_frames-reading = record { sessions = (record { follows = (((tt, record { line = refl; carried = refl; kind = refl }), record { line = refl; carried = refl; kind = refl }), record { line = refl; carried = refl; kind = refl }); ended = refl }, tt); display = (((((tt, record { line = refl; carried = refl; kind = refl }), record { line = refl; carried = refl; kind = refl }), record { line = refl; carried = refl; kind = refl }), record { line = refl; carried = refl; kind = refl }), record { line = refl; carried = refl; kind = refl }); all_read = refl }
+fence_signalled_between_frames-reading : Interleaves fence_signalled_between_frames-setup 18 fence_signalled_between_frames-lines
+    fence_signalled_between_frames-history
+fence_signalled_between_frames-reading = record {
+  sessions = (
+    record {
+      follows = (
+        ((tt, record { line = refl; carried = refl; kind = refl }), record { line = refl; carried = refl; kind = refl }),
+        record { line = refl; carried = refl; kind = refl },
+      );
+      ended = refl;
+    },
+    tt,
+  );
+  display = (
+    (
+      (
+        ((tt, record { line = refl; carried = refl; kind = refl }), record { line = refl; carried = refl; kind = refl }),
+        record { line = refl; carried = refl; kind = refl },
+      ),
+      record { line = refl; carried = refl; kind = refl },
+    ),
+    record { line = refl; carried = refl; kind = refl },
+  );
+  all_read = refl;
+}
 
 -- unready present holds back later ones
 
@@ -224,9 +289,12 @@ unready_present_holds_back_later_ones-history = []
     ▹ by (Session (s 1)) 19 [] (kind.End 0) reply.Done
 
 pub unready_present_holds_back_later_ones-legal : Legal unready_present_holds_back_later_ones-setup unready_present_holds_back_later_ones-history
-unready_present_holds_back_later_ones-legal = legal-by-tests unready_present_holds_back_later_ones-setup unready_present_holds_back_later_ones-history refl (((((((((((((tt, refl), refl), refl), refl), refl), refl), refl), refl), refl), refl), refl), refl), refl)
+unready_present_holds_back_later_ones-legal = legal-by-tests unready_present_holds_back_later_ones-setup unready_present_holds_back_later_ones-history refl
+    (((((((((((((tt, refl), refl), refl), refl), refl), refl), refl), refl), refl), refl), refl), refl), refl)
 
-unready_present_holds_back_later_ones-posts : posts unready_present_holds_back_later_ones-setup unready_present_holds_back_later_ones-history ≡ (post 2 1 (event.Credits 5) ∷ post 3 1 (event.FramePresented 1) ∷ post 7 1 (event.Credits 1) ∷ post 8 1 (event.FramePresented 1) ∷ post 10 1 (event.Credits 2) ∷ post 11 1 (event.FramePresented 2) ∷ [])
+unready_present_holds_back_later_ones-posts : posts unready_present_holds_back_later_ones-setup unready_present_holds_back_later_ones-history
+    ≡ (post 2 1 (event.Credits 5) ∷ post 3 1 (event.FramePresented 1) ∷ post 7 1 (event.Credits 1) ∷ post 8 1 (event.FramePresented 1)
+    ∷ post 10 1 (event.Credits 2) ∷ post 11 1 (event.FramePresented 2) ∷ [])
 unready_present_holds_back_later_ones-posts = refl
 
 abbrev pub unready_present_holds_back_later_ones-lines : List ScriptLine
@@ -245,8 +313,46 @@ unready_present_holds_back_later_ones-lines =
     ∷ display_line 18 display.Done
     ∷ []
 
-unready_present_holds_back_later_ones-reading : Interleaves unready_present_holds_back_later_ones-setup 18 unready_present_holds_back_later_ones-lines unready_present_holds_back_later_ones-history
-unready_present_holds_back_later_ones-reading = record { sessions = (record { follows = ((((((tt, record { line = refl; carried = refl; kind = refl }), record { line = refl; carried = refl; kind = refl }), record { line = refl; carried = refl; kind = refl }), record { line = refl; carried = refl; kind = refl }), record { line = refl; carried = refl; kind = refl }), record { line = refl; carried = refl; kind = refl }); ended = refl }, tt); display = (((((((tt, record { line = refl; carried = refl; kind = refl }), record { line = refl; carried = refl; kind = refl }), record { line = refl; carried = refl; kind = refl }), record { line = refl; carried = refl; kind = refl }), record { line = refl; carried = refl; kind = refl }), record { line = refl; carried = refl; kind = refl }), record { line = refl; carried = refl; kind = refl }); all_read = refl }
+unready_present_holds_back_later_ones-reading : Interleaves unready_present_holds_back_later_ones-setup 18 unready_present_holds_back_later_ones-lines
+    unready_present_holds_back_later_ones-history
+unready_present_holds_back_later_ones-reading = record {
+  sessions = (
+    record {
+      follows = (
+        (
+          (
+            (
+              ((tt, record { line = refl; carried = refl; kind = refl }), record { line = refl; carried = refl; kind = refl }),
+              record { line = refl; carried = refl; kind = refl },
+            ),
+            record { line = refl; carried = refl; kind = refl },
+          ),
+          record { line = refl; carried = refl; kind = refl },
+        ),
+        record { line = refl; carried = refl; kind = refl },
+      );
+      ended = refl;
+    },
+    tt,
+  );
+  display = (
+    (
+      (
+        (
+          (
+            ((tt, record { line = refl; carried = refl; kind = refl }), record { line = refl; carried = refl; kind = refl }),
+            record { line = refl; carried = refl; kind = refl },
+          ),
+          record { line = refl; carried = refl; kind = refl },
+        ),
+        record { line = refl; carried = refl; kind = refl },
+      ),
+      record { line = refl; carried = refl; kind = refl },
+    ),
+    record { line = refl; carried = refl; kind = refl },
+  );
+  all_read = refl;
+}
 
 -- present waits for its time
 
@@ -274,9 +380,11 @@ present_waits_for_its_time-history = []
     ▹ by (Session (s 1)) 13 [] (kind.End 0) reply.Done
 
 pub present_waits_for_its_time-legal : Legal present_waits_for_its_time-setup present_waits_for_its_time-history
-present_waits_for_its_time-legal = legal-by-tests present_waits_for_its_time-setup present_waits_for_its_time-history refl ((((((((tt, refl), refl), refl), refl), refl), refl), refl), refl)
+present_waits_for_its_time-legal = legal-by-tests present_waits_for_its_time-setup present_waits_for_its_time-history refl
+    ((((((((tt, refl), refl), refl), refl), refl), refl), refl), refl)
 
-present_waits_for_its_time-posts : posts present_waits_for_its_time-setup present_waits_for_its_time-history ≡ (post 5 1 (event.Credits 5) ∷ post 6 1 (event.FramePresented 1) ∷ [])
+present_waits_for_its_time-posts : posts present_waits_for_its_time-setup present_waits_for_its_time-history
+    ≡ (post 5 1 (event.Credits 5) ∷ post 6 1 (event.FramePresented 1) ∷ [])
 present_waits_for_its_time-posts = refl
 
 abbrev pub present_waits_for_its_time-lines : List ScriptLine
@@ -291,7 +399,29 @@ present_waits_for_its_time-lines =
     ∷ []
 
 present_waits_for_its_time-reading : Interleaves present_waits_for_its_time-setup 12 present_waits_for_its_time-lines present_waits_for_its_time-history
-present_waits_for_its_time-reading = record { sessions = (record { follows = ((((tt, record { line = refl; carried = refl; kind = refl }), record { line = refl; carried = refl; kind = refl }), record { line = refl; carried = refl; kind = refl }), record { line = refl; carried = refl; kind = refl }); ended = refl }, tt); display = ((((tt, record { line = refl; carried = refl; kind = refl }), record { line = refl; carried = refl; kind = refl }), record { line = refl; carried = refl; kind = refl }), record { line = refl; carried = refl; kind = refl }); all_read = refl }
+present_waits_for_its_time-reading = record {
+  sessions = (
+    record {
+      follows = (
+        (
+          ((tt, record { line = refl; carried = refl; kind = refl }), record { line = refl; carried = refl; kind = refl }),
+          record { line = refl; carried = refl; kind = refl },
+        ),
+        record { line = refl; carried = refl; kind = refl },
+      );
+      ended = refl;
+    },
+    tt,
+  );
+  display = (
+    (
+      ((tt, record { line = refl; carried = refl; kind = refl }), record { line = refl; carried = refl; kind = refl }),
+      record { line = refl; carried = refl; kind = refl },
+    ),
+    record { line = refl; carried = refl; kind = refl },
+  );
+  all_read = refl;
+}
 
 -- second present before a frame closes
 
@@ -315,7 +445,8 @@ second_present_before_a_frame_closes-history = []
     ▹ by (Session (s 1)) 10 [] (kind.End 1) reply.Done
 
 pub second_present_before_a_frame_closes-legal : Legal second_present_before_a_frame_closes-setup second_present_before_a_frame_closes-history
-second_present_before_a_frame_closes-legal = legal-by-tests second_present_before_a_frame_closes-setup second_present_before_a_frame_closes-history refl ((((tt, refl), refl), refl), refl)
+second_present_before_a_frame_closes-legal = legal-by-tests second_present_before_a_frame_closes-setup second_present_before_a_frame_closes-history refl
+    ((((tt, refl), refl), refl), refl)
 
 second_present_before_a_frame_closes-posts : posts second_present_before_a_frame_closes-setup second_present_before_a_frame_closes-history ≡ []
 second_present_before_a_frame_closes-posts = refl
@@ -328,8 +459,26 @@ second_present_before_a_frame_closes-lines =
     ∷ session_line 9 1 (line.Poll)
     ∷ []
 
-second_present_before_a_frame_closes-reading : Interleaves second_present_before_a_frame_closes-setup 9 second_present_before_a_frame_closes-lines second_present_before_a_frame_closes-history
-second_present_before_a_frame_closes-reading = record { sessions = (record { follows = ((((tt, record { line = refl; carried = refl; kind = refl }), record { line = refl; carried = refl; kind = refl }), record { line = refl; carried = refl; kind = refl }), record { line = refl; carried = refl; kind = refl }); ended = refl }, tt); display = tt; all_read = refl }
+second_present_before_a_frame_closes-reading : Interleaves second_present_before_a_frame_closes-setup 9 second_present_before_a_frame_closes-lines
+    second_present_before_a_frame_closes-history
+second_present_before_a_frame_closes-reading = record {
+  sessions = (
+    record {
+      follows = (
+        (
+          ((tt, record { line = refl; carried = refl; kind = refl }), record { line = refl; carried = refl; kind = refl }),
+          record { line = refl; carried = refl; kind = refl },
+        ),
+        record { line = refl; carried = refl; kind = refl },
+      );
+      ended = refl;
+    },
+    tt,
+  );
+  display = tt;
+  all_read =
+      refl;
+}
 
 -- misuse b01 zero id
 
@@ -362,4 +511,15 @@ b01_zero_id-lines =
     ∷ []
 
 b01_zero_id-reading : Interleaves b01_zero_id-setup 6 b01_zero_id-lines b01_zero_id-history
-b01_zero_id-reading = record { sessions = (record { follows = ((tt, record { line = refl; carried = refl; kind = refl }), record { line = refl; carried = refl; kind = refl }); ended = refl }, tt); display = tt; all_read = refl }
+b01_zero_id-reading = record {
+  sessions = (
+    record {
+      follows =
+          ((tt, record { line = refl; carried = refl; kind = refl }), record { line = refl; carried = refl; kind = refl });
+      ended = refl;
+    },
+    tt,
+  );
+  display = tt;
+  all_read = refl;
+}

@@ -31,7 +31,8 @@ shell_with_two_apps-setup = record {
   probes = 0;
   pairs = (record { viewport = Display; view = s 1 } ∷ record { viewport = Session (s 1); view = s 2 } ∷ record { viewport = Session (s 1); view = s 3 } ∷ []);
   buffers = (record { owner = s 2; count = 2; w = 640; h = 760 } ∷ []);
-  fences = (record { owners = (Session (s 2) ∷ []) } ∷ record { owners = (Session (s 2) ∷ []) } ∷ record { owners = (Session (s 2) ∷ []) } ∷ record { owners = (Session (s 2) ∷ []) } ∷ []);
+  fences = (record { owners = (Session (s 2) ∷ []) } ∷ record { owners = (Session (s 2) ∷ []) } ∷ record { owners = (Session (s 2) ∷ []) }
+      ∷ record { owners = (Session (s 2) ∷ []) } ∷ []);
   ratio = 65536;
 }
 
@@ -42,13 +43,19 @@ shell_with_two_apps-history = []
     ▹ by (Session (s 3)) 17 ((call.CreateView (p 2)) ∷ []) (kind.View (p 2)) reply.Done
     ▹ by (Session (s 3)) 18 [] (kind.Get watch.Status) reply.Held
     ▹ by (Session (s 1)) 19 ((call.CreateView (p 0)) ∷ []) (kind.View (p 0)) reply.Done
-    ▹ by (Session (s 1)) 27 ((call.CreateTransform (t 1)) ∷ (call.SetRootTransform (t 1)) ∷ (call.CreateTransform (t 2)) ∷ (call.SetTranslation (t 2) (pos 0) (pos 40)) ∷ (call.CreateTransform (t 3)) ∷ (call.AddChild (t 1) (t 2)) ∷ (call.AddChild (t 1) (t 3)) ∷ (call.CreateViewport (c 1) (p 1) 640 760 no_inset) ∷ []) (kind.Viewport (p 1) (record { w = 640; h = 760; inset = no_inset })) reply.Done
-    ▹ by (Session (s 1)) 29 ((call.SetContent (t 2) (c 1)) ∷ (call.CreateViewport (c 2) (p 2) 1280 40 no_inset) ∷ []) (kind.Viewport (p 2) (record { w = 1280; h = 40; inset = no_inset })) reply.Done
+    ▹ by (Session (s 1)) 27 ((call.CreateTransform (t 1)) ∷ (call.SetRootTransform (t 1)) ∷ (call.CreateTransform (t 2))
+    ∷ (call.SetTranslation (t 2) (pos 0) (pos 40)) ∷ (call.CreateTransform (t 3)) ∷ (call.AddChild (t 1) (t 2)) ∷ (call.AddChild (t 1) (t 3))
+    ∷ (call.CreateViewport (c 1) (p 1) 640 760 no_inset) ∷ []) (kind.Viewport (p 1) (record { w = 640; h = 760; inset = no_inset })) reply.Done
+    ▹ by (Session (s 1)) 29 ((call.SetContent (t 2) (c 1)) ∷ (call.CreateViewport (c 2) (p 2) 1280 40 no_inset) ∷ [])
+    (kind.Viewport (p 2) (record { w = 1280; h = 40; inset = no_inset })) reply.Done
     ▹ by (Session (s 1)) 31 ((call.SetContent (t 3) (c 2)) ∷ []) (kind.Get (watch.Child (c 1))) reply.Held
     ▹ by (Session (s 1)) 32 [] (kind.Present (present 0 [] [])) (reply.Presented 1 0)
     ▹ by (Session (s 2)) 33 [] (kind.Wait (asks.Answers 1)) (reply.Met 1)
-    ▹ by (Session (s 2)) 39 ((call.CreateTransform (t 1)) ∷ (call.SetRootTransform (t 1)) ∷ (call.CreateImage (c 1) (record { 0 = 0 }) 0 640 760) ∷ (call.CreateImage (c 2) (record { 0 = 0 }) 1 640 760) ∷ (call.SetContent (t 1) (c 1)) ∷ []) (kind.Present (present 0 ((f 0) ∷ []) ((f 2) ∷ []))) (reply.Presented 1 0)
-    ▹ by (Session (s 3)) 45 ((call.CreateTransform (t 1)) ∷ (call.SetRootTransform (t 1)) ∷ (call.CreateFilledRect (c 1)) ∷ (call.SetSolidFill (c 1) 0 0 0 128 1280 40) ∷ (call.SetContent (t 1) (c 1)) ∷ []) (kind.Present (present 0 [] [])) (reply.Presented 1 0)
+    ▹ by (Session (s 2)) 39 ((call.CreateTransform (t 1)) ∷ (call.SetRootTransform (t 1)) ∷ (call.CreateImage (c 1) (record { 0 = 0 }) 0 640 760)
+    ∷ (call.CreateImage (c 2) (record { 0 = 0 }) 1 640 760) ∷ (call.SetContent (t 1) (c 1)) ∷ []) (kind.Present (present 0 ((f 0) ∷ []) ((f 2) ∷ [])))
+    (reply.Presented 1 0)
+    ▹ by (Session (s 3)) 45 ((call.CreateTransform (t 1)) ∷ (call.SetRootTransform (t 1)) ∷ (call.CreateFilledRect (c 1))
+    ∷ (call.SetSolidFill (c 1) 0 0 0 128 1280 40) ∷ (call.SetContent (t 1) (c 1)) ∷ []) (kind.Present (present 0 [] [])) (reply.Presented 1 0)
     ▹ by (Session (s 3)) 46 [] (kind.Get watch.Status) reply.Held
     ▹ by Display 47 [] (kind.Begin 16) reply.Done
     ▹ by Display 48 [] kind.Finish reply.Done
@@ -65,9 +72,40 @@ shell_with_two_apps-history = []
     ▹ by (Session (s 3)) 58 [] (kind.End 0) reply.Done
 
 pub shell_with_two_apps-legal : Legal shell_with_two_apps-setup shell_with_two_apps-history
-shell_with_two_apps-legal = legal-by-tests shell_with_two_apps-setup shell_with_two_apps-history refl ((((((((((((((((((((((((((tt, refl), refl), refl), refl), refl), refl), refl), refl), refl), refl), refl), refl), refl), refl), refl), refl), refl), refl), refl), refl), refl), refl), refl), refl), refl), refl)
+shell_with_two_apps-legal = legal-by-tests shell_with_two_apps-setup shell_with_two_apps-history refl (
+  (
+    (
+      (
+        (
+          (
+            (
+              (
+                (
+                  (((((((((((((((((tt, refl), refl), refl), refl), refl), refl), refl), refl), refl), refl), refl), refl), refl), refl), refl), refl), refl),
+                  refl,
+                ),
+                refl,
+              ),
+              refl,
+            ),
+            refl,
+          ),
+          refl,
+        ),
+        refl,
+      ),
+      refl,
+    ),
+    refl,
+  ),
+  refl,
+)
 
-shell_with_two_apps-posts : posts shell_with_two_apps-setup shell_with_two_apps-history ≡ (post 5 2 (event.Told (p 1) watch.Layout (tell.Layout (layout 640 760 0 0 0 0))) ∷ post 6 3 (event.Told (p 2) watch.Status tell.Disconnected) ∷ post 13 1 (event.Credits 5) ∷ post 13 3 (event.Credits 5) ∷ post 14 1 (event.FramePresented 1) ∷ post 14 3 (event.Told (p 2) watch.Status tell.Connected) ∷ post 14 3 (event.FramePresented 1) ∷ post 16 2 (event.Credits 5) ∷ post 17 1 (event.Told (p 1) (watch.Child (c 1)) tell.HasPresented) ∷ post 17 2 (event.FramePresented 1) ∷ post 21 2 (event.Credits 1) ∷ post 22 2 (event.FramePresented 1) ∷ [])
+shell_with_two_apps-posts : posts shell_with_two_apps-setup shell_with_two_apps-history
+    ≡ (post 5 2 (event.Told (p 1) watch.Layout (tell.Layout (layout 640 760 0 0 0 0))) ∷ post 6 3 (event.Told (p 2) watch.Status tell.Disconnected)
+    ∷ post 13 1 (event.Credits 5) ∷ post 13 3 (event.Credits 5) ∷ post 14 1 (event.FramePresented 1) ∷ post 14 3 (event.Told (p 2) watch.Status tell.Connected)
+    ∷ post 14 3 (event.FramePresented 1) ∷ post 16 2 (event.Credits 5) ∷ post 17 1 (event.Told (p 1) (watch.Child (c 1)) tell.HasPresented)
+    ∷ post 17 2 (event.FramePresented 1) ∷ post 21 2 (event.Credits 1) ∷ post 22 2 (event.FramePresented 1) ∷ [])
 shell_with_two_apps-posts = refl
 
 abbrev pub shell_with_two_apps-lines : List ScriptLine
@@ -118,4 +156,80 @@ shell_with_two_apps-lines =
     ∷ []
 
 shell_with_two_apps-reading : Interleaves shell_with_two_apps-setup 57 shell_with_two_apps-lines shell_with_two_apps-history
-shell_with_two_apps-reading = record { sessions = (record { follows = ((((((tt, record { line = refl; carried = refl; kind = refl }), record { line = refl; carried = refl; kind = refl }), record { line = refl; carried = refl; kind = refl }), record { line = refl; carried = refl; kind = refl }), record { line = refl; carried = refl; kind = refl }), record { line = refl; carried = refl; kind = refl }); ended = refl }, (record { follows = (((((((((tt, record { line = refl; carried = refl; kind = refl }), record { line = refl; carried = refl; kind = refl }), record { line = refl; carried = refl; kind = refl }), record { line = refl; carried = refl; kind = refl }), record { line = refl; carried = refl; kind = refl }), record { line = refl; carried = refl; kind = refl }), record { line = refl; carried = refl; kind = refl }), record { line = refl; carried = refl; kind = refl }), record { line = refl; carried = refl; kind = refl }); ended = refl }, (record { follows = (((((tt, record { line = refl; carried = refl; kind = refl }), record { line = refl; carried = refl; kind = refl }), record { line = refl; carried = refl; kind = refl }), record { line = refl; carried = refl; kind = refl }), record { line = refl; carried = refl; kind = refl }); ended = refl }, tt))); display = ((((((tt, record { line = refl; carried = refl; kind = refl }), record { line = refl; carried = refl; kind = refl }), record { line = refl; carried = refl; kind = refl }), record { line = refl; carried = refl; kind = refl }), record { line = refl; carried = refl; kind = refl }), record { line = refl; carried = refl; kind = refl }); all_read = refl }
+shell_with_two_apps-reading = record {
+  sessions = (
+    record {
+      follows = (
+        (
+          (
+            (
+              ((tt, record { line = refl; carried = refl; kind = refl }), record { line = refl; carried = refl; kind = refl }),
+              record { line = refl; carried = refl; kind = refl },
+            ),
+            record { line = refl; carried = refl; kind = refl },
+          ),
+          record { line = refl; carried = refl; kind = refl },
+        ),
+        record { line = refl; carried = refl; kind = refl },
+      );
+      ended = refl;
+    },
+    (
+      record {
+        follows = (
+          (
+            (
+              (
+                (
+                  (
+                    (
+                      ((tt, record { line = refl; carried = refl; kind = refl }), record { line = refl; carried = refl; kind = refl }),
+                      record { line = refl; carried = refl; kind = refl },
+                    ),
+                    record { line = refl; carried = refl; kind = refl },
+                  ),
+                  record { line = refl; carried = refl; kind = refl },
+                ),
+                record { line = refl; carried = refl; kind = refl },
+              ),
+              record { line = refl; carried = refl; kind = refl },
+            ),
+            record { line = refl; carried = refl; kind = refl },
+          ),
+          record { line = refl; carried = refl; kind = refl },
+        );
+        ended = refl;
+      },
+      (
+        record {
+          follows = (
+            (
+              (
+                ((tt, record { line = refl; carried = refl; kind = refl }), record { line = refl; carried = refl; kind = refl }),
+                record { line = refl; carried = refl; kind = refl },
+              ),
+              record { line = refl; carried = refl; kind = refl },
+            ),
+            record { line = refl; carried = refl; kind = refl },
+          );
+          ended = refl;
+        },
+        tt,
+      ),
+    ),
+  );
+  display = (
+    (
+      (
+        (
+          ((tt, record { line = refl; carried = refl; kind = refl }), record { line = refl; carried = refl; kind = refl }),
+          record { line = refl; carried = refl; kind = refl },
+        ),
+        record { line = refl; carried = refl; kind = refl },
+      ),
+      record { line = refl; carried = refl; kind = refl },
+    ),
+    record { line = refl; carried = refl; kind = refl },
+  );
+  all_read = refl;
+}

@@ -42,42 +42,50 @@ view_at pairs n s = unwrap_or (option_map (λ t. t.0 == s.0) (option_map (λ pai
 abbrev pub viewport_at : List PairDecl → ℕ → SessionNo → Bool
 viewport_at pairs n s = unwrap_or (option_map (is_session s) (option_map (λ pair. pair.viewport) (slice_get pairs n))) false
 
-pub joined-at : (pairs : List PairDecl) (n : ℕ) (s c : SessionNo) → viewport_at pairs n s ≡ true → view_at pairs n c ≡ true → list_any (λ pair. joins s c pair || joins c s pair) pairs ≡ true
+pub joined-at : (pairs : List PairDecl) (n : ℕ) (s c : SessionNo) → viewport_at pairs n s ≡ true → view_at pairs n c ≡ true
+    → list_any (λ pair. joins s c pair || joins c s pair) pairs ≡ true
 joined-at [] n s c over under = cc
 joined-at (pair ∷ pairs) zero s c over under = grind arith
 joined-at (pair ∷ pairs) (suc n) s c over under = grind (arith, joined-at pairs n s c)
 
-pub joined-back : (pairs : List PairDecl) (n : ℕ) (s c : SessionNo) → viewport_at pairs n s ≡ true → view_at pairs n c ≡ true → list_any (λ pair. joins c s pair || joins s c pair) pairs ≡ true
+pub joined-back : (pairs : List PairDecl) (n : ℕ) (s c : SessionNo) → viewport_at pairs n s ≡ true → view_at pairs n c ≡ true
+    → list_any (λ pair. joins c s pair || joins s c pair) pairs ≡ true
 joined-back [] n s c over under = cc
 joined-back (pair ∷ pairs) zero s c over under = grind arith
 joined-back (pair ∷ pairs) (suc n) s c over under = grind (arith, joined-back pairs n s c)
 
 module _ (setup : Setup) where
-  calls-owned-by : (s : SessionNo) (carries : List Call) (kind : Kind) (actor : Actor) → is_session s actor ≡ true → owns_all setup actor carries kind ≡ true → list_all (owns_in_call setup s) carries ≡ true
-  calls-owned-by s carries kind (Session t) is owned = subst (λ (u : SessionNo). list_all (owns_in_call setup u) carries ≡ true) (same-session s t is) (grind arith)
+  calls-owned-by : (s : SessionNo) (carries : List Call) (kind : Kind) (actor : Actor) → is_session s actor ≡ true → owns_all setup actor carries kind ≡ true
+      → list_all (owns_in_call setup s) carries ≡ true
+  calls-owned-by s carries kind (Session t) is owned =
+      subst (λ (u : SessionNo). list_all (owns_in_call setup u) carries ≡ true) (same-session s t is) (grind arith)
   calls-owned-by s carries kind Display is owned = cc
   calls-owned-by s carries kind (Probe p) is owned = cc
 
   -- the calls of a legal entry of a session name only what it owns
-  pub carries-owned : (before : List Entry) (e : Entry) → LegalEntry setup before e → (s : SessionNo) → is_session s e.actor ≡ true → list_all (owns_in_call setup s) e.calls ≡ true
+  pub carries-owned : (before : List Entry) (e : Entry) → LegalEntry setup before e → (s : SessionNo) → is_session s e.actor ≡ true
+      → list_all (owns_in_call setup s) e.calls ≡ true
   carries-owned before e legal s mine = calls-owned-by s e.calls e.kind e.actor mine legal.may.owned
 
   pub calls-owned : (s : SessionNo) (history : List Entry) → Legal setup history → list_all (owns_in_call setup s) (calls s history) ≡ true
   calls-owned s [] legal = refl
   calls-owned s (before ▹ e) legal = one-more (calls-owned s before legal.0) (is_session s e.actor) refl
     where
-      one-more : list_all (owns_in_call setup s) (calls s before) ≡ true → (b : Bool) → is_session s e.actor ≡ b → list_all (owns_in_call setup s) (calls s (before ▹ e)) ≡ true
+      one-more : list_all (owns_in_call setup s) (calls s before) ≡ true → (b : Bool) → is_session s e.actor ≡ b
+          → list_all (owns_in_call setup s) (calls s (before ▹ e)) ≡ true
       one-more earlier true mine = rw (mine, list_all-append, earlier, carries-owned before e legal.1 s mine) refl
       one-more earlier false other = rw other earlier
 
-  pub all-calls-owned : (before : List Entry) (e : Entry) → Legal setup (before ▹ e) → (s : SessionNo) → is_session s e.actor ≡ true → list_all (owns_in_call setup s) (calls s before ++ e.calls) ≡ true
+  pub all-calls-owned : (before : List Entry) (e : Entry) → Legal setup (before ▹ e) → (s : SessionNo) → is_session s e.actor ≡ true
+      → list_all (owns_in_call setup s) (calls s before ++ e.calls) ≡ true
   all-calls-owned before e legal s mine = rw (list_all-append, calls-owned s before legal.0, carries-owned before e legal.1 s mine) refl
 
   -- the presents of a session carry only calls that name what it owns
   abbrev made_of_owned : SessionNo → Published → Bool
   made_of_owned s present = list_all (owns_in_call setup s) present.made
 
-  published-made : (s : SessionNo) (kind : Kind) (reply : Reply) (made : List Call) → list_all (owns_in_call setup s) made ≡ true → list_all (made_of_owned s) (published kind reply made) ≡ true
+  published-made : (s : SessionNo) (kind : Kind) (reply : Reply) (made : List Call) → list_all (owns_in_call setup s) made ≡ true
+      → list_all (made_of_owned s) (published kind reply made) ≡ true
   published-made s (Present args) (Presented number credits) made owned = rw owned refl
   published-made s _ _ made owned = refl
 
@@ -85,9 +93,15 @@ module _ (setup : Setup) where
   made-owned s [] legal = refl
   made-owned s (before ▹ e) legal = one-more (made-owned s before legal.0) (is_session s e.actor) refl
     where
-      one-more : list_all (made_of_owned s) (presents s before) ≡ true → (b : Bool) → is_session s e.actor ≡ b → list_all (made_of_owned s) (presents s (before ▹ e)) ≡ true
+      one-more : list_all (made_of_owned s) (presents s before) ≡ true → (b : Bool) → is_session s e.actor ≡ b
+          → list_all (made_of_owned s) (presents s (before ▹ e)) ≡ true
       one-more earlier true mine =
-          rw (presents-own s before e mine, list_all-append, earlier, published-made s e.kind e.reply (calls s before ++ e.calls) (all-calls-owned before e legal s mine)) refl
+          rw (
+            presents-own s before e mine,
+            list_all-append,
+            earlier,
+            published-made s e.kind e.reply (calls s before ++ e.calls) (all-calls-owned before e legal s mine),
+          ) refl
       one-more earlier false other = rw (presents-other s before e other) earlier
 
   -- What is shown of a session names only what it owns.
@@ -95,7 +109,8 @@ module _ (setup : Setup) where
     pub view : view_owned setup s t.view ≡ true
     pub pairs : list_all (owns setup s) (pairs_in (nodes_of (Some t))) ≡ true
 
-  root-owned : (s : SessionNo) (all : Children) → list_all (owns setup s) (pairs_in all) ≡ true → list_all (owns setup s) (pairs_in (root_alone (head_of all))) ≡ true
+  root-owned : (s : SessionNo) (all : Children) → list_all (owns setup s) (pairs_in all) ≡ true
+      → list_all (owns setup s) (pairs_in (root_alone (head_of all))) ≡ true
   root-owned s Empty owned = refl
   root-owned s (first serial scale turn place clip opacity hits content children rest) owned =
       let both : (list_all (owns setup s) (pair_in content ++ pairs_in children) && list_all (owns setup s) (pairs_in rest)) ≡ true
@@ -132,4 +147,5 @@ module _ (setup : Setup) where
           → cond b None (option_and_then (tree_of setup) p) ≡ Some t → IsShownOwned s t
       by_open true e p e2 h = cc
       by_open false e None e2 h = cc
-      by_open false e (Some p) e2 h = tree-of-owned s p t (at-serial (made_of_owned s) (presents s history) (taken setup history s) p (made-owned s history legal) e2) h
+      by_open false e (Some p) e2 h = tree-of-owned s p t
+          (at-serial (made_of_owned s) (presents s history) (taken setup history s) p (made-owned s history legal) e2) h

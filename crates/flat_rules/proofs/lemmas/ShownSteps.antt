@@ -1,5 +1,6 @@
 -- What is shown after a begin.
-use Rattle.std.proofs.Common.{◌≡◌, ℕ, zero, suc, ◌+◌, ◌-◌, ◌<◌, ◌≤◌, Bool, true, false, List, [], ◌∷◌, ◌++◌, length, refl, arith, sym, ◌∙◌, ap, map, take, drop, Some, None, zero-add, suc-add, slice_get}
+use Rattle.std.proofs.Common.{◌≡◌, ℕ, zero, suc, ◌+◌, ◌-◌, ◌<◌, ◌≤◌, Bool, true, false, List, [], ◌∷◌, ◌++◌, length, refl, arith, sym, ◌∙◌, ap, map, take, drop}
+use Rattle.std.proofs.Common.{Some, None, zero-add, suc-add, slice_get}
 use Rattle.std.specs.Prelude.{cond, ◌==◌, Option, option_map, option_and_then}
 use Rattle.std.specs.List.{list_any}
 use Rattle.std.proofs.lemmas.Grind.{common_steps}
@@ -66,18 +67,22 @@ last-none (x ∷ xs) none = sym (last-some x xs none)
 
 -- ---- what is shown stays until the next begin
 
-pub closed-before : (b : Bool) (e : Entry) (xs : List Entry) → list_any (λ entry. closes entry.reply) (cond b (e ∷ xs) xs) ≡ false → list_any (λ entry. closes entry.reply) xs ≡ false
+pub closed-before : (b : Bool) (e : Entry) (xs : List Entry) → list_any (λ entry. closes entry.reply) (cond b (e ∷ xs) xs) ≡ false
+    → list_any (λ entry. closes entry.reply) xs ≡ false
 closed-before true e xs opened = (or_parts (closes e.reply) _ opened).1
 closed-before false e xs opened = opened
 
-serial-more : (b : Bool) (e : Entry) (xs : List Entry) (n : ℕ) → n ≤ length (published_all xs) → of_serial (published_all (cond b (e ∷ xs) xs)) n ≡ of_serial (published_all xs) n
+serial-more : (b : Bool) (e : Entry) (xs : List Entry) (n : ℕ) → n ≤ length (published_all xs)
+    → of_serial (published_all (cond b (e ∷ xs) xs)) n ≡ of_serial (published_all xs) n
 serial-more true e xs n fits = serial-append (published_all xs) (published e.kind e.reply (carried (xs ▹ e))) n fits
 serial-more false e xs n fits = refl
 
 last-quiet : (setup : Setup) (h : List Entry) (e : Entry) (s : SessionNo) → is_begin e.kind ≡ false → last_taken setup (h ▹ e) s ≡ last_taken setup h s
-last-quiet setup h e s no_begin = rw (taken-quiet setup h e s no_begin) (serial-more (is_session s e.actor) e (own s h) (taken setup h s) (taken-made setup s h))
+last-quiet setup h e s no_begin = rw (taken-quiet setup h e s no_begin)
+    (serial-more (is_session s e.actor) e (own s h) (taken setup h s) (taken-made setup s h))
 
-shown-opened : (setup : Setup) (h : List Entry) (s : SessionNo) → is_closed s h ≡ false → shown setup h s ≡ option_and_then (tree_of setup) (last_taken setup h s)
+shown-opened : (setup : Setup) (h : List Entry) (s : SessionNo) → is_closed s h ≡ false
+    → shown setup h s ≡ option_and_then (tree_of setup) (last_taken setup h s)
 shown-opened setup h s opened = rw opened refl
 
 mutual-step : (setup : Setup) (h : List Entry) (e : Entry) (s : SessionNo) (b : Bool) → is_begin e.kind ≡ b → is_closed s (h ▹ e) ≡ false
@@ -86,7 +91,8 @@ mutual-step : (setup : Setup) (h : List Entry) (e : Entry) (s : SessionNo) (b : 
 mutual-step setup h e s true begins opened before = shown-opened setup (h ▹ e) s opened
 mutual-step setup h e s false begins opened before = before ∙ ap (option_and_then (tree_of setup)) (sym (last-quiet setup h e s begins))
 
-pub shown-kept : (setup : Setup) (h : List Entry) (s : SessionNo) → is_closed s h ≡ false → shown setup (to_begin h) s ≡ option_and_then (tree_of setup) (last_taken setup h s)
+pub shown-kept : (setup : Setup) (h : List Entry) (s : SessionNo) → is_closed s h ≡ false
+    → shown setup (to_begin h) s ≡ option_and_then (tree_of setup) (last_taken setup h s)
 shown-kept setup [] s opened = refl
 shown-kept setup (h ▹ e) s opened =
     mutual-step setup h e s (is_begin e.kind) refl opened (shown-kept setup h s (closed-before (is_session s e.actor) e (own s h) opened))

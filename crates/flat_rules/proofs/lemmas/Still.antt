@@ -15,7 +15,8 @@ use Rattle.flat_rules.specs.Ends.{viewport_uses, uses_view, uses_viewport, is_do
 use Rattle.flat_rules.specs.Legal.{owns_view, owns_viewport}
 use Rattle.flat_rules.specs.Local.{pair_watched}
 use Rattle.flat_rules.specs.Posts.{told_event, event_of, news_for, at_begin, up_to}
-use Rattle.flat_rules.specs.Watch.{Watcher, layout_of, status_of, child_of, watching, told, props_told, asked, props_seen, props_given, is_open, is_used, listener}
+use Rattle.flat_rules.specs.Watch.{Watcher, layout_of, status_of, child_of, watching, told, props_told, asked, props_seen, props_given, is_open, is_used}
+use Rattle.flat_rules.specs.Watch.{listener}
 use Rattle.flat_watch.specs.Told.{Watching, asking, settled, answer}
 use Rattle.std.specs.Option.{option_or}
 use Rattle.flat_rules.proofs.lemmas.EventsLocal.{rest-none, hears-view, hears-viewport, flat-none, views-owned, viewports-owned}
@@ -30,7 +31,8 @@ pub record IsStill (p : PairNo) (entry : Entry) : Type 0 where
   pub no_viewport : (uses_viewport p entry.kind && is_done entry.reply) ≡ false
 
 -- an actor that is open was open before
-pub open-before : (setup : Setup) (actor : Option Actor) (before : List Entry) (e : Entry) → is_open setup actor (before ▹ e) ≡ true → is_open setup actor before ≡ true
+pub open-before : (setup : Setup) (actor : Option Actor) (before : List Entry) (e : Entry) → is_open setup actor (before ▹ e) ≡ true
+    → is_open setup actor before ≡ true
 open-before setup None before e is = is
 open-before setup (Some Display) before e is = is
 open-before setup (Some (Probe n)) before e is = is
@@ -39,7 +41,8 @@ open-before setup (Some (Session s)) before e is = rw (closed-before (is_session
 module _ (setup : Setup) where
   -- ---- what is told
 
-  props-same : (owner : Option Actor) (p : PairNo) (before : List Entry) (e : Entry) → IsStill p e → props_told setup owner (before ▹ e) p ≡ props_told setup owner before p
+  props-same : (owner : Option Actor) (p : PairNo) (before : List Entry) (e : Entry) → IsStill p e
+      → props_told setup owner (before ▹ e) p ≡ props_told setup owner before p
   props-same None p before e still = refl
   props-same (Some Display) p before e still = rw still.no_finish refl
   props-same (Some (Probe n)) p before e still = refl
@@ -47,25 +50,34 @@ module _ (setup : Setup) where
       let uses : viewport_uses p (before ▹ e) ≡ viewport_uses p before = rw still.no_viewport refl in
       ap (λ (us : List Entry). option_or (props_seen setup p (length us) s (before ▹ e)) (props_given setup us)) uses ∙ rw still.no_finish refl
 
-  used-same : (owner : Option Actor) (p : PairNo) (before : List Entry) (e : Entry) → IsStill p e → is_used setup owner p (before ▹ e) ≡ is_used setup owner p before
+  used-same : (owner : Option Actor) (p : PairNo) (before : List Entry) (e : Entry) → IsStill p e
+      → is_used setup owner p (before ▹ e) ≡ is_used setup owner p before
   used-same None p before e still = rw still.no_viewport refl
   used-same (Some Display) p before e still = refl
   used-same (Some (Probe n)) p before e still = rw still.no_viewport refl
   used-same (Some (Session s)) p before e still = rw still.no_viewport refl
 
-  pub told-same : (watcher : Watcher) (before : List Entry) (e : Entry) → IsStill (pair_watched watcher) e → told setup (before ▹ e) watcher ≡ told setup before watcher
-  told-same (layout_of p) before e still = rw (still.no_finish, still.no_view, used-same (viewport_owner setup p) p before e still, props-same (viewport_owner setup p) p before e still) refl
+  pub told-same : (watcher : Watcher) (before : List Entry) (e : Entry) → IsStill (pair_watched watcher) e
+      → told setup (before ▹ e) watcher ≡ told setup before watcher
+  told-same (layout_of p) before e still = rw (
+    still.no_finish,
+    still.no_view,
+    used-same (viewport_owner setup p) p before e still,
+    props-same (viewport_owner setup p) p before e still,
+  ) refl
   told-same (status_of p) before e still = rw (still.no_finish, still.no_view, used-same (viewport_owner setup p) p before e still) refl
   told-same (child_of p n) before e still = rw still.no_finish refl
 
   -- what a child watcher tells changes with frames alone
-  pub child-same : (p : PairNo) (n : ℕ) (before : List Entry) (e : Entry) → is_finish e.kind ≡ false → told setup (before ▹ e) (child_of p n) ≡ told setup before (child_of p n)
+  pub child-same : (p : PairNo) (n : ℕ) (before : List Entry) (e : Entry) → is_finish e.kind ≡ false
+      → told setup (before ▹ e) (child_of p n) ≡ told setup before (child_of p n)
   child-same p n before e no_finish = rw no_finish refl
 
   -- ---- watchers
 
   -- a watcher that isn't asked and hears nothing new stays as it is
-  pub rests : (watcher : Watcher) (before : List Entry) (e : Entry) → told setup (before ▹ e) watcher ≡ told setup before watcher → asked setup watcher before e ≡ None
+  pub rests : (watcher : Watcher) (before : List Entry) (e : Entry) → told setup (before ▹ e) watcher ≡ told setup before watcher
+      → asked setup watcher before e ≡ None
       → watching setup watcher (before ▹ e) ≡ watching setup watcher before
   rests watcher before e same unasked =
       let w : Watching = watching setup watcher before in
@@ -75,7 +87,8 @@ module _ (setup : Setup) where
       ∙ ap (λ (v : Watching). settled listens (told setup before watcher) v) (asking-none w)
       ∙ by_open listens refl
     where
-      by_open : (b : Bool) → is_open setup (listener setup watcher) (before ▹ e) ≡ b → settled b (told setup before watcher) (watching setup watcher before) ≡ watching setup watcher before
+      by_open : (b : Bool) → is_open setup (listener setup watcher) (before ▹ e) ≡ b
+          → settled b (told setup before watcher) (watching setup watcher before) ≡ watching setup watcher before
       by_open false is = refl
       by_open true is =
           let open_then : is_open setup (listener setup watcher) before ≡ true = open-before setup (listener setup watcher) before e is in
@@ -92,26 +105,32 @@ module _ (setup : Setup) where
   -- ---- events
 
   -- a watcher whose session listened before, and that hears nothing new, posts nothing
-  pub told-nothing : (p : PairNo) (watcher : Watcher) (before : List Entry) (e : Entry) → told setup (before ▹ e) watcher ≡ told setup before watcher → is_open setup (listener setup watcher) before ≡ true
+  pub told-nothing : (p : PairNo) (watcher : Watcher) (before : List Entry) (e : Entry) → told setup (before ▹ e) watcher ≡ told setup before watcher
+      → is_open setup (listener setup watcher) before ≡ true
       → told_event setup p watcher before e ≡ []
   told-nothing p watcher before e same listens =
-      let resting : settled true (told setup before watcher) (watching setup watcher before) ≡ watching setup watcher before = rw listens at (at-rest setup watcher before) in
+      let resting : settled true (told setup before watcher) (watching setup watcher before) ≡ watching setup watcher before =
+      rw listens at (at-rest setup watcher before) in
       ap (λ (now : Option Told). event_of p (watching setup watcher before).waits (answer now (watching setup watcher before))) same
       ∙ rest-none p (answer (told setup before watcher) (watching setup watcher before)) (watching setup watcher before) resting
 
   -- a watcher of which no get is held posts nothing
-  pub told-unheld : (p : PairNo) (watcher : Watcher) (before : List Entry) (e : Entry) → (watching setup watcher before).waits ≡ None → told_event setup p watcher before e ≡ []
+  pub told-unheld : (p : PairNo) (watcher : Watcher) (before : List Entry) (e : Entry) → (watching setup watcher before).waits ≡ None
+      → told_event setup p watcher before e ≡ []
   told-unheld p watcher before e none = rw none refl
 
   -- An entry at which the layouts and statuses of a session's views say nothing new to a held get.
   abbrev pub IsSilent : SessionNo → List Entry → Entry → Type 0
-  IsSilent s before e = (p : PairNo) → owns_view setup s p ≡ true → (told_event setup p (layout_of p) before e ≡ []) × (told_event setup p (status_of p) before e ≡ [])
+  IsSilent s before e = (p : PairNo) → owns_view setup s p ≡ true
+      → (told_event setup p (layout_of p) before e ≡ []) × (told_event setup p (status_of p) before e ≡ [])
 
-  children-silent : (s : SessionNo) (before : List Entry) (e : Entry) → is_finish e.kind ≡ false → is_closed s before ≡ false → (p : PairNo) → owns_viewport setup s p ≡ true
+  children-silent : (s : SessionNo) (before : List Entry) (e : Entry) → is_finish e.kind ≡ false → is_closed s before ≡ false → (p : PairNo)
+      → owns_viewport setup s p ≡ true
       → flat_map (λ n. told_event setup p (child_of p n) before e) (up_to (length (viewport_uses p before))) ≡ []
   children-silent s before e no_finish opened p owned =
       nothing (λ n. told_event setup p (child_of p n) before e)
-      (λ n. told-nothing p (child_of p n) before e (child-same p n before e no_finish) (hears-viewport setup (viewport_owner setup p) s before owned opened)) (up_to (length (viewport_uses p before)))
+      (λ n. told-nothing p (child_of p n) before e (child-same p n before e no_finish) (hears-viewport setup (viewport_owner setup p) s before owned opened))
+      (up_to (length (viewport_uses p before)))
     where
       nothing : (f : ℕ → List Event) → ((n : ℕ) → f n ≡ []) → (xs : List ℕ) → flat_map f xs ≡ []
       nothing f none [] = refl
@@ -120,7 +139,8 @@ module _ (setup : Setup) where
   -- the news of an entry that ends no frame: what it tells of layouts and statuses, and credits
   pub news-between : (s : SessionNo) (before : List Entry) (e : Entry) → is_finish e.kind ≡ false → is_closed s before ≡ false
       → news_for setup before e s
-      ≡ (flat_map (λ p. told_event setup p (layout_of p) before e) (views_of setup s) ++ flat_map (λ p. told_event setup p (status_of p) before e) (views_of setup s)
+      ≡ (flat_map (λ p. told_event setup p (layout_of p) before e) (views_of setup s)
+      ++ flat_map (λ p. told_event setup p (status_of p) before e) (views_of setup s)
       ++ [] ++ [] ++ cond (is_begin e.kind) (at_begin setup before e s) [])
   news-between s before e no_finish opened =
       rw (
@@ -140,7 +160,8 @@ module _ (setup : Setup) where
       ) refl
 
   -- views are silent at an entry that uses none of their ends
-  pub still-silent : (s : SessionNo) (before : List Entry) (e : Entry) → is_closed s before ≡ false → ((p : PairNo) → owns_view setup s p ≡ true → IsStill p e) → IsSilent s before e
+  pub still-silent : (s : SessionNo) (before : List Entry) (e : Entry) → is_closed s before ≡ false → ((p : PairNo) → owns_view setup s p ≡ true → IsStill p e)
+      → IsSilent s before e
   still-silent s before e opened still p owned =
       let listens : is_open setup (option_map Session (view_owner setup p)) before ≡ true = hears-view setup (view_owner setup p) s before owned opened in (
         told-nothing p (layout_of p) before e (told-same (layout_of p) before e (still p owned)) listens,

@@ -23,7 +23,8 @@ use Rattle.flat_scene.specs.History.{◌▹◌, is_session, calls}
 use Rattle.flat_rules.specs.Legal.{Legal, owns_view, owns_viewport}
 use Rattle.std.specs.Result.{result_ok}
 use Rattle.flat_rules.specs.Local.{pair_watched}
-use Rattle.flat_rules.specs.Watch.{Watcher, layout_of, status_of, child_of, watching, told, asked, asked_in, is_open, listener, watcher_of, watcher_in, watcher_of_made, is_watcher, same_watcher}
+use Rattle.flat_rules.specs.Watch.{Watcher, layout_of, status_of, child_of, watching, told, asked, asked_in, is_open, listener, watcher_of, watcher_in}
+use Rattle.flat_rules.specs.Watch.{watcher_of_made, is_watcher, same_watcher}
 use Rattle.flat_watch.specs.Told.{Watching, asking, answer, answered_by, settled}
 use Rattle.std.specs.Option.{option_or}
 use Rattle.flat_rules.proofs.lemmas.ShownOwned.{all-calls-owned, ok-is, joined-at}
@@ -56,17 +57,20 @@ settled-twice true now w = by_answer (answer now w) refl
 pub at-rest : (setup : Setup) (watcher : Watcher) (history : List Entry)
     → settled (is_open setup (listener setup watcher) history) (told setup history watcher) (watching setup watcher history) ≡ watching setup watcher history
 at-rest setup watcher [] = nothing-settled (is_open setup (listener setup watcher) []) (told setup [] watcher)
-at-rest setup watcher (before ▹ e) = settled-twice (is_open setup (listener setup watcher) (before ▹ e)) (told setup (before ▹ e) watcher) (asking (asked setup watcher before e) (watching setup watcher before))
+at-rest setup watcher (before ▹ e) = settled-twice (is_open setup (listener setup watcher) (before ▹ e)) (told setup (before ▹ e) watcher)
+    (asking (asked setup watcher before e) (watching setup watcher before))
 
 -- ---- one owner
 
-pub one-viewport : (o : Option Actor) (s t : SessionNo) → unwrap_or (option_map (is_session s) o) false ≡ true → unwrap_or (option_map (is_session t) o) false ≡ true → s ≡ t
+pub one-viewport : (o : Option Actor) (s t : SessionNo) → unwrap_or (option_map (is_session s) o) false ≡ true
+    → unwrap_or (option_map (is_session t) o) false ≡ true → s ≡ t
 one-viewport None s t a b = cc
 one-viewport (Some Display) s t a b = cc
 one-viewport (Some (Probe n)) s t a b = cc
 one-viewport (Some (Session u)) s t a b = sym (same-session s u a) ∙ same-session t u b
 
-pub one-view : (o : Option SessionNo) (s t : SessionNo) → unwrap_or (option_map (λ u. u.0 == s.0) o) false ≡ true → unwrap_or (option_map (λ u. u.0 == t.0) o) false ≡ true → s ≡ t
+pub one-view : (o : Option SessionNo) (s t : SessionNo) → unwrap_or (option_map (λ u. u.0 == s.0) o) false ≡ true
+    → unwrap_or (option_map (λ u. u.0 == t.0) o) false ≡ true → s ≡ t
 one-view None s t a b = cc
 one-view (Some u) s t a b = sym (same-session s u a) ∙ same-session t u b
 
@@ -99,13 +103,15 @@ module _ (setup : Setup) (of_family : SessionNo → Bool) (closed : IsClosedFami
       by_serial (Some n) h = at-serial (made_owned setup s) draft.contents n m owned.contents h
 
   -- the watcher of a get is the same in either history
-  pub watcher-in-only : (before : List Entry) → Legal setup before → (s : SessionNo) → of_family s ≡ true → (draft : Draft) → IsOwned setup s draft → (get : Watch)
+  pub watcher-in-only : (before : List Entry) → Legal setup before → (s : SessionNo) → of_family s ≡ true → (draft : Draft) → IsOwned setup s draft
+      → (get : Watch)
       → watcher_in setup (only of_family before) draft get ≡ watcher_in setup before draft get
   watcher-in-only before legal s mine draft owned watch.Layout = refl
   watcher-in-only before legal s mine draft owned watch.Status = refl
   watcher-in-only before legal s mine draft owned (watch.Child c) = by_made (made_of draft c) refl
     where
-      by_made : (o : Option Made) → made_of draft c ≡ o → option_and_then (watcher_of_made setup (only of_family before)) o ≡ option_and_then (watcher_of_made setup before) o
+      by_made : (o : Option Made) → made_of draft c ≡ o → option_and_then (watcher_of_made setup (only of_family before)) o
+          ≡ option_and_then (watcher_of_made setup before) o
       by_made None is = refl
       by_made (Some (an_image i)) is = refl
       by_made (Some (a_fill x)) is = refl
@@ -113,7 +119,8 @@ module _ (setup : Setup) (of_family : SessionNo → Bool) (closed : IsClosedFami
           let pair : IsFamilyPair setup of_family closed p = pair-of-viewport p s mine (made-is-owned s draft c (a_viewport p props) owned is) in
           rw (viewports-only setup of_family closed p pair before legal) refl
 
-  pub asked-kept-by : (before : List Entry) (e : Entry) → Legal setup (before ▹ e) → (actor : Actor) → e.actor ≡ actor → keeps of_family e.kind actor ≡ true → (get : Watch)
+  pub asked-kept-by : (before : List Entry) (e : Entry) → Legal setup (before ▹ e) → (actor : Actor) → e.actor ≡ actor → keeps of_family e.kind actor ≡ true
+      → (get : Watch)
       → watcher_of setup (only of_family before) actor e.calls get ≡ watcher_of setup before actor e.calls get
   asked-kept-by before e legal Display is kept get = refl
   asked-kept-by before e legal (Probe p) is kept get = refl
@@ -125,10 +132,12 @@ module _ (setup : Setup) (of_family : SessionNo → Bool) (closed : IsClosedFami
       by_draft None h = refl
       by_draft (Some d) h =
           watcher-in-only before legal.0 s kept d
-          (draft-owned setup s (calls s before ++ e.calls) (all-calls-owned setup before e legal s (rw is (same-number s.0))) d (ok-is setup (draft_of setup (calls s before ++ e.calls)) d h)) get
+          (draft-owned setup s (calls s before ++ e.calls) (all-calls-owned setup before e legal s (rw is (same-number s.0))) d
+          (ok-is setup (draft_of setup (calls s before ++ e.calls)) d h)) get
 
   -- the pair of a watcher that the family can ask is the family's
-  pub watcher-pair : (before : List Entry) (e : Entry) → Legal setup (before ▹ e) → (actor : Actor) → e.actor ≡ actor → (get : Watch) → keeps of_family e.kind actor ≡ true
+  pub watcher-pair : (before : List Entry) (e : Entry) → Legal setup (before ▹ e) → (actor : Actor) → e.actor ≡ actor → (get : Watch)
+      → keeps of_family e.kind actor ≡ true
       → (w : Watcher) → watcher_of setup before actor e.calls get ≡ Some w → IsFamilyPair setup of_family closed (pair_watched w)
   watcher-pair before e legal Display is get kept w asked = cc
   watcher-pair before e legal (Probe p) is get kept w asked = cc
@@ -142,7 +151,8 @@ module _ (setup : Setup) (of_family : SessionNo → Bool) (closed : IsClosedFami
       by_view None owns f its h = cc
       by_view (Some p) owns f its h = moved (f p) w (cc) (rw (its p) (pair-of-view p s kept owns))
 
-      by_made : (draft : Draft) → IsOwned setup s draft → (c : ContentId) → (o : Option Made) → made_of draft c ≡ o → option_and_then (watcher_of_made setup before) o ≡ Some w
+      by_made : (draft : Draft) → IsOwned setup s draft → (c : ContentId) → (o : Option Made) → made_of draft c ≡ o
+          → option_and_then (watcher_of_made setup before) o ≡ Some w
           → IsFamilyPair setup of_family closed (pair_watched w)
       by_made draft owned c None m h = cc
       by_made draft owned c (Some (an_image i)) m h = cc
@@ -150,16 +160,19 @@ module _ (setup : Setup) (of_family : SessionNo → Bool) (closed : IsClosedFami
       by_made draft owned c (Some (a_viewport p props)) m h =
           moved (child_of p (length (viewport_uses p before))) w (cc) (pair-of-viewport p s kept (made-is-owned s draft c (a_viewport p props) owned m))
 
-      in_draft : (draft : Draft) → IsOwned setup s draft → (get : Watch) → watcher_in setup before draft get ≡ Some w → IsFamilyPair setup of_family closed (pair_watched w)
+      in_draft : (draft : Draft) → IsOwned setup s draft → (get : Watch) → watcher_in setup before draft get ≡ Some w
+          → IsFamilyPair setup of_family closed (pair_watched w)
       in_draft draft owned watch.Layout h = by_view draft.view owned.view layout_of (λ p. refl) h
       in_draft draft owned watch.Status h = by_view draft.view owned.view status_of (λ p. refl) h
       in_draft draft owned (watch.Child c) h = by_made draft owned c (made_of draft c) refl h
 
-      by_draft : (o : Option Draft) → result_ok (draft_of setup (calls s before ++ e.calls)) ≡ o → option_and_then (λ d. watcher_in setup before d get) o ≡ Some w
+      by_draft : (o : Option Draft) → result_ok (draft_of setup (calls s before ++ e.calls)) ≡ o
+          → option_and_then (λ d. watcher_in setup before d get) o ≡ Some w
           → IsFamilyPair setup of_family closed (pair_watched w)
       by_draft None h asks = cc
       by_draft (Some d) h asks =
-          in_draft d (draft-owned setup s (calls s before ++ e.calls) (all-calls-owned setup before e legal s (rw is (same-number s.0))) d (ok-is setup (draft_of setup (calls s before ++ e.calls)) d h)) get asks
+          in_draft d (draft-owned setup s (calls s before ++ e.calls) (all-calls-owned setup before e legal s (rw is (same-number s.0))) d
+          (ok-is setup (draft_of setup (calls s before ++ e.calls)) d h)) get asks
 
   pub asked-kept : (watcher : Watcher) (before : List Entry) (e : Entry) → Legal setup (before ▹ e) → is_kept of_family e ≡ true → (kind : Kind)
       → asked_in setup watcher (only of_family before) e kind ≡ asked_in setup watcher before e kind
@@ -167,19 +180,23 @@ module _ (setup : Setup) (of_family : SessionNo → Bool) (closed : IsClosedFami
   asked-kept watcher before e legal kept _ = refl
 
   -- a get from outside has a watcher of another pair
-  outside-view : (watcher : Watcher) → IsFamilyPair setup of_family closed (pair_watched watcher) → (t : SessionNo) → of_family t ≡ false → (p : PairNo) → owns_view setup t p ≡ true
+  outside-view : (watcher : Watcher) → IsFamilyPair setup of_family closed (pair_watched watcher) → (t : SessionNo) → of_family t ≡ false → (p : PairNo)
+      → owns_view setup t p ≡ true
       → ((pair_watched watcher).0 == p.0) ≡ false
   outside-view watcher pair t out p owns = false_from_ne_true ((pair_watched watcher).0 == p.0) (λ is.
       let same : (pair_watched watcher).0 ≡ p.0 = grind (arith, common_steps) in
-      let moved : owns_view setup t (pair_watched watcher) ≡ owns_view setup t p = ap (λ (n : ℕ). let r : PairNo = record { 0 = n } in owns_view setup t r) same in
+      let moved : owns_view setup t (pair_watched watcher) ≡ owns_view setup t p =
+      ap (λ (n : ℕ). let r : PairNo = record { 0 = n } in owns_view setup t r) same in
       let inside : of_family t ≡ true = pair.view t (moved ∙ owns) in
       let both : true ≡ false = sym inside ∙ out in cc)
 
-  outside-viewport : (watcher : Watcher) → IsFamilyPair setup of_family closed (pair_watched watcher) → (t : SessionNo) → of_family t ≡ false → (p : PairNo) → owns_viewport setup t p ≡ true
+  outside-viewport : (watcher : Watcher) → IsFamilyPair setup of_family closed (pair_watched watcher) → (t : SessionNo) → of_family t ≡ false → (p : PairNo)
+      → owns_viewport setup t p ≡ true
       → ((pair_watched watcher).0 == p.0) ≡ false
   outside-viewport watcher pair t out p owns = false_from_ne_true ((pair_watched watcher).0 == p.0) (λ is.
       let same : (pair_watched watcher).0 ≡ p.0 = grind (arith, common_steps) in
-      let moved : owns_viewport setup t (pair_watched watcher) ≡ owns_viewport setup t p = ap (λ (n : ℕ). let r : PairNo = record { 0 = n } in owns_viewport setup t r) same in
+      let moved : owns_viewport setup t (pair_watched watcher) ≡ owns_viewport setup t p =
+      ap (λ (n : ℕ). let r : PairNo = record { 0 = n } in owns_viewport setup t r) same in
       let inside : of_family t ≡ true = pair.viewport t (moved ∙ owns) in
       let both : true ≡ false = sym inside ∙ out in cc)
 
@@ -198,7 +215,8 @@ module _ (setup : Setup) (of_family : SessionNo → Bool) (closed : IsClosedFami
   other-child (status_of q) p m other = refl
   other-child (child_of q n) p m other = rw other refl
 
-  not-asked-in : (watcher : Watcher) → IsFamilyPair setup of_family closed (pair_watched watcher) → (t : SessionNo) → of_family t ≡ false → (before : List Entry) (draft : Draft) → IsOwned setup t draft → (get : Watch)
+  not-asked-in : (watcher : Watcher) → IsFamilyPair setup of_family closed (pair_watched watcher) → (t : SessionNo) → of_family t ≡ false
+      → (before : List Entry) (draft : Draft) → IsOwned setup t draft → (get : Watch)
       → is_watcher setup watcher (watcher_in setup before draft get) ≡ false
   not-asked-in watcher pair t out before draft owned watch.Layout = by_view draft.view owned.view
     where
@@ -217,34 +235,42 @@ module _ (setup : Setup) (of_family : SessionNo → Bool) (closed : IsClosedFami
       by_made (Some (an_image i)) is = refl
       by_made (Some (a_fill x)) is = refl
       by_made (Some (a_viewport p props)) is =
-          other-child watcher p (length (viewport_uses p before)) (outside-viewport watcher pair t out p (made-is-owned t draft c (a_viewport p props) owned is))
+          other-child watcher p (length (viewport_uses p before))
+          (outside-viewport watcher pair t out p (made-is-owned t draft c (a_viewport p props) owned is))
 
-  not-asked-by : (watcher : Watcher) → IsFamilyPair setup of_family closed (pair_watched watcher) → (before : List Entry) (e : Entry) → Legal setup (before ▹ e) → (get : Watch)
-      → (actor : Actor) → e.actor ≡ actor → keeps of_family (Get get) actor ≡ false → is_watcher setup watcher (watcher_of setup before actor e.calls get) ≡ false
+  not-asked-by : (watcher : Watcher) → IsFamilyPair setup of_family closed (pair_watched watcher) → (before : List Entry) (e : Entry) → Legal setup (before ▹ e)
+      → (get : Watch)
+      → (actor : Actor) → e.actor ≡ actor → keeps of_family (Get get) actor ≡ false
+      → is_watcher setup watcher (watcher_of setup before actor e.calls get) ≡ false
   not-asked-by watcher pair before e legal get Display is out = refl
   not-asked-by watcher pair before e legal get (Probe p) is out = refl
   not-asked-by watcher pair before e legal get (Session t) is out = by_draft (result_ok (draft_of setup (calls t before ++ e.calls))) refl
     where
-      by_draft : (o : Option Draft) → result_ok (draft_of setup (calls t before ++ e.calls)) ≡ o → is_watcher setup watcher (option_and_then (λ d. watcher_in setup before d get) o) ≡ false
+      by_draft : (o : Option Draft) → result_ok (draft_of setup (calls t before ++ e.calls)) ≡ o
+          → is_watcher setup watcher (option_and_then (λ d. watcher_in setup before d get) o) ≡ false
       by_draft None h = refl
       by_draft (Some d) h =
           not-asked-in watcher pair t out before d
-          (draft-owned setup t (calls t before ++ e.calls) (all-calls-owned setup before e legal t (rw is (same-number t.0))) d (ok-is setup (draft_of setup (calls t before ++ e.calls)) d h)) get
+          (draft-owned setup t (calls t before ++ e.calls) (all-calls-owned setup before e legal t (rw is (same-number t.0))) d
+          (ok-is setup (draft_of setup (calls t before ++ e.calls)) d h)) get
 
-  pub not-asked : (watcher : Watcher) → IsFamilyPair setup of_family closed (pair_watched watcher) → (before : List Entry) (e : Entry) → Legal setup (before ▹ e) → (kind : Kind) → keeps of_family kind e.actor ≡ false
+  pub not-asked : (watcher : Watcher) → IsFamilyPair setup of_family closed (pair_watched watcher) → (before : List Entry) (e : Entry)
+      → Legal setup (before ▹ e) → (kind : Kind) → keeps of_family kind e.actor ≡ false
       → asked_in setup watcher before e kind ≡ None
   not-asked watcher pair before e legal (Get get) out = rw (not-asked-by watcher pair before e legal get e.actor refl out) refl
   not-asked watcher pair before e legal _ out = refl
 
   -- ---- answers
 
-  open-only : (o : Option Actor) → ((v : SessionNo) → o ≡ Some (Session v) → of_family v ≡ true) → (history : List Entry) → is_open setup o (only of_family history) ≡ is_open setup o history
+  open-only : (o : Option Actor) → ((v : SessionNo) → o ≡ Some (Session v) → of_family v ≡ true) → (history : List Entry)
+      → is_open setup o (only of_family history) ≡ is_open setup o history
   open-only None inside history = refl
   open-only (Some Display) inside history = refl
   open-only (Some (Probe n)) inside history = refl
   open-only (Some (Session v)) inside history = rw (own-only setup of_family v (inside v refl) history) refl
 
-  listener-in : (watcher : Watcher) → IsFamilyPair setup of_family closed (pair_watched watcher) → (v : SessionNo) → listener setup watcher ≡ Some (Session v) → of_family v ≡ true
+  listener-in : (watcher : Watcher) → IsFamilyPair setup of_family closed (pair_watched watcher) → (v : SessionNo) → listener setup watcher ≡ Some (Session v)
+      → of_family v ≡ true
   listener-in (layout_of p) pair v is = view-in setup of_family closed p pair v (session-of (view_owner setup p) v is)
   listener-in (status_of p) pair v is = view-in setup of_family closed p pair v (session-of (view_owner setup p) v is)
   listener-in (child_of p n) pair v is = viewport-in setup of_family closed p pair v is
@@ -267,14 +293,18 @@ module _ (setup : Setup) (of_family : SessionNo → Bool) (closed : IsClosedFami
           → watching setup watcher (only of_family (before ▹ e)) ≡ watching setup watcher (before ▹ e)
       by_side earlier true kept =
           let now : told setup (only of_family before ▹ e) watcher ≡ told setup (before ▹ e) watcher = rw kept at tells in
-          let listens : is_open setup (listener setup watcher) (only of_family before ▹ e) ≡ is_open setup (listener setup watcher) (before ▹ e) = rw kept at (hears (before ▹ e)) in
+          let listens : is_open setup (listener setup watcher) (only of_family before ▹ e) ≡ is_open setup (listener setup watcher) (before ▹ e) =
+          rw kept at (hears (before ▹ e)) in
           rw (kept, now, listens, asked-kept watcher before e legal kept e.kind, earlier) refl
       by_side earlier false out =
           let now : told setup (only of_family before) watcher ≡ told setup (before ▹ e) watcher = rw out at tells in
-          let listens : is_open setup (listener setup watcher) (only of_family before) ≡ is_open setup (listener setup watcher) (before ▹ e) = rw out at (hears (before ▹ e)) in
+          let listens : is_open setup (listener setup watcher) (only of_family before) ≡ is_open setup (listener setup watcher) (before ▹ e) =
+          rw out at (hears (before ▹ e)) in
           let still : told setup (before ▹ e) watcher ≡ told setup before watcher = sym now ∙ told_before in
           let same_open : is_open setup (listener setup watcher) (before ▹ e) ≡ is_open setup (listener setup watcher) before = sym listens ∙ hears before in
           let idle : asking (asked setup watcher before e) (watching setup watcher before) ≡ watching setup watcher before =
-          ap (λ (a : Option Watch). asking a (watching setup watcher before)) (not-asked watcher pair before e legal e.kind out) ∙ asking-none (watching setup watcher before) in
+          ap (λ (a : Option Watch). asking a (watching setup watcher before)) (not-asked watcher pair before e legal e.kind out)
+          ∙ asking-none (watching setup watcher before) in
           rw (out, earlier, still, same_open)
-          (sym (ap (λ (w : Watching). settled (is_open setup (listener setup watcher) before) (told setup before watcher) w) idle ∙ at-rest setup watcher before))
+          (sym (ap (λ (w : Watching). settled (is_open setup (listener setup watcher) before) (told setup before watcher) w) idle
+          ∙ at-rest setup watcher before))

@@ -14,7 +14,8 @@ use Rattle.flat_scene.specs.declared.setup.Setup.{Setup}
 use Rattle.flat_scene.specs.History.{◌▹◌}
 use Rattle.flat_rules.specs.Ends.{views_of, viewport_uses}
 use Rattle.flat_rules.specs.Posts.{told_event, event_of, up_to}
-use Rattle.flat_rules.specs.Watch.{Watcher, layout_of, status_of, child_of, watching, told, asked, asked_in, is_open, listener, watcher_of, is_watcher, same_watcher}
+use Rattle.flat_rules.specs.Watch.{Watcher, layout_of, status_of, child_of, watching, told, asked, asked_in, is_open, listener, watcher_of, is_watcher}
+use Rattle.flat_rules.specs.Watch.{same_watcher}
 use Rattle.flat_watch.specs.Told.{Watching, asking, settled, answer, answered_by, news}
 use Rattle.std.specs.Option.{option_or}
 use Rattle.flat_rules.proofs.lemmas.WatchLocal.{asking-none}
@@ -27,7 +28,8 @@ abbrev pub after_get : Watch → Option Told → Option Told → Watching
 after_get get (Some value) last = record { last = Some value; waits = None }
 after_get get None last = record { last = last; waits = Some get }
 
-get-answered : (get : Watch) (now : Option Told) (last : Option Told) → settled true now (asking (Some get) (record { last = last; waits = None })) ≡ after_get get (news now last) last
+get-answered : (get : Watch) (now : Option Told) (last : Option Told)
+    → settled true now (asking (Some get) (record { last = last; waits = None })) ≡ after_get get (news now last) last
 get-answered get now last = by_news (news now last)
   where
     by_news : (o : Option Told) → answered_by o (record { last = last; waits = Some get }) ≡ after_get get o last
@@ -46,7 +48,9 @@ same-itself (child_of p n) = grind (arith, nat_tests)
 
 module _ (setup : Setup) where
   -- nothing is asked but by a get
-  pub unasked : (watcher : Watcher) (before : List Entry) (e : Entry) → ((get : Watch) → e.kind ≡ Get get → is_watcher setup watcher (watcher_of setup before e.actor e.calls get) ≡ false) → asked setup watcher before e ≡ None
+  pub unasked : (watcher : Watcher) (before : List Entry) (e : Entry)
+      → ((get : Watch) → e.kind ≡ Get get → is_watcher setup watcher (watcher_of setup before e.actor e.calls get) ≡ false)
+      → asked setup watcher before e ≡ None
   unasked watcher before e others = by_kind e.kind refl
     where
       by_kind : (kind : Kind) → e.kind ≡ kind → asked_in setup watcher before e kind ≡ None
@@ -65,7 +69,8 @@ module _ (setup : Setup) where
 
   -- a watcher that isn't asked is settled by what it tells now
   pub settled-now : (watcher : Watcher) (before : List Entry) (e : Entry) → asked setup watcher before e ≡ None
-      → watching setup watcher (before ▹ e) ≡ settled (is_open setup (listener setup watcher) (before ▹ e)) (told setup (before ▹ e) watcher) (watching setup watcher before)
+      → watching setup watcher (before ▹ e) ≡ settled (is_open setup (listener setup watcher) (before ▹ e)) (told setup (before ▹ e) watcher)
+      (watching setup watcher before)
   settled-now watcher before e idle =
       let listens : Bool = is_open setup (listener setup watcher) (before ▹ e) in
       let now : Option Told = told setup (before ▹ e) watcher in
@@ -75,15 +80,19 @@ module _ (setup : Setup) where
   -- ---- a get
 
   -- the get of this watcher
-  asked-itself : (watcher : Watcher) (before : List Entry) (e : Entry) (get : Watch) → e.kind ≡ Get get → watcher_of setup before e.actor e.calls get ≡ Some watcher → asked setup watcher before e ≡ Some get
+  asked-itself : (watcher : Watcher) (before : List Entry) (e : Entry) (get : Watch) → e.kind ≡ Get get
+      → watcher_of setup before e.actor e.calls get ≡ Some watcher → asked setup watcher before e ≡ Some get
   asked-itself watcher before e get is means =
       let K : Kind → Type 0 = λ kind. asked_in setup watcher before e kind ≡ Some get in
       subst K (sym is) (rw (means, same-itself watcher) refl)
 
   -- where none is held: it is answered at once, or held
-  pub got-one : (watcher : Watcher) (before : List Entry) (e : Entry) (get : Watch) → e.kind ≡ Get get → watcher_of setup before e.actor e.calls get ≡ Some watcher
-      → told setup (before ▹ e) watcher ≡ told setup before watcher → is_open setup (listener setup watcher) (before ▹ e) ≡ true → (watching setup watcher before).waits ≡ None
-      → watching setup watcher (before ▹ e) ≡ after_get get (news (told setup before watcher) (watching setup watcher before).last) (watching setup watcher before).last
+  pub got-one : (watcher : Watcher) (before : List Entry) (e : Entry) (get : Watch) → e.kind ≡ Get get
+      → watcher_of setup before e.actor e.calls get ≡ Some watcher
+      → told setup (before ▹ e) watcher ≡ told setup before watcher → is_open setup (listener setup watcher) (before ▹ e) ≡ true
+      → (watching setup watcher before).waits ≡ None
+      → watching setup watcher (before ▹ e) ≡ after_get get (news (told setup before watcher) (watching setup watcher before).last)
+      (watching setup watcher before).last
   got-one watcher before e get is means same listens none =
       let w : Watching = watching setup watcher before in
       let idle : w ≡ record { last = w.last; waits = None } = ap (λ (o : Option Watch). let v : Watching = record w { waits = o } in v) none in
@@ -95,7 +104,8 @@ module _ (setup : Setup) where
       ∙ get-answered get (told setup before watcher) w.last
 
   -- where one is held, the session is closed and all stays
-  pub got-two : (watcher : Watcher) (before : List Entry) (e : Entry) → is_open setup (listener setup watcher) (before ▹ e) ≡ false → is_some (watching setup watcher before).waits ≡ true
+  pub got-two : (watcher : Watcher) (before : List Entry) (e : Entry) → is_open setup (listener setup watcher) (before ▹ e) ≡ false
+      → is_some (watching setup watcher before).waits ≡ true
       → watching setup watcher (before ▹ e) ≡ watching setup watcher before
   got-two watcher before e shut held =
       ap (λ (b : Bool). settled b (told setup (before ▹ e) watcher) (asking (asked setup watcher before e) (watching setup watcher before))) shut
@@ -111,13 +121,15 @@ module _ (setup : Setup) where
   -- ---- an answer to a held get
 
   -- a held get with news is answered
-  pub held-answered : (p : PairNo) (watcher : Watcher) (before : List Entry) (e : Entry) (get : Watch) (value : Told) → (watching setup watcher before).waits ≡ Some get
+  pub held-answered : (p : PairNo) (watcher : Watcher) (before : List Entry) (e : Entry) (get : Watch) (value : Told)
+      → (watching setup watcher before).waits ≡ Some get
       → news (told setup (before ▹ e) watcher) (watching setup watcher before).last ≡ Some value
       → told_event setup p watcher before e ≡ event.Told p get value ∷ []
   held-answered p watcher before e get value waits new = rw (waits, new) refl
 
   -- and one without stays held
-  pub held-silent : (p : PairNo) (watcher : Watcher) (before : List Entry) (e : Entry) → news (told setup (before ▹ e) watcher) (watching setup watcher before).last ≡ None → told_event setup p watcher before e ≡ []
+  pub held-silent : (p : PairNo) (watcher : Watcher) (before : List Entry) (e : Entry)
+      → news (told setup (before ▹ e) watcher) (watching setup watcher before).last ≡ None → told_event setup p watcher before e ≡ []
   held-silent p watcher before e none = by_waits (watching setup watcher before) none
     where
       by_waits : (w : Watching) → news (told setup (before ▹ e) watcher) w.last ≡ None → event_of p w.waits (answer (told setup (before ▹ e) watcher) w) ≡ []
@@ -128,16 +140,20 @@ module _ (setup : Setup) where
           by_two (Some get) = refl
 
   -- what an answer leaves
-  pub answered-after : (watcher : Watcher) (before : List Entry) (e : Entry) (value : Told) → asked setup watcher before e ≡ None → is_open setup (listener setup watcher) (before ▹ e) ≡ true
+  pub answered-after : (watcher : Watcher) (before : List Entry) (e : Entry) (value : Told) → asked setup watcher before e ≡ None
+      → is_open setup (listener setup watcher) (before ▹ e) ≡ true
       → is_some (watching setup watcher before).waits ≡ true → news (told setup (before ▹ e) watcher) (watching setup watcher before).last ≡ Some value
       → watching setup watcher (before ▹ e) ≡ record { last = Some value; waits = None }
   answered-after watcher before e value idle listens held new = settled-now watcher before e idle ∙ rw (listens, held, new) refl
 
-  pub silent-after : (watcher : Watcher) (before : List Entry) (e : Entry) → asked setup watcher before e ≡ None → news (told setup (before ▹ e) watcher) (watching setup watcher before).last ≡ None
+  pub silent-after : (watcher : Watcher) (before : List Entry) (e : Entry) → asked setup watcher before e ≡ None
+      → news (told setup (before ▹ e) watcher) (watching setup watcher before).last ≡ None
       → watching setup watcher (before ▹ e) ≡ watching setup watcher before
-  silent-after watcher before e idle none = settled-now watcher before e idle ∙ by_open (is_open setup (listener setup watcher) (before ▹ e)) (is_some (watching setup watcher before).waits)
+  silent-after watcher before e idle none = settled-now watcher before e idle
+      ∙ by_open (is_open setup (listener setup watcher) (before ▹ e)) (is_some (watching setup watcher before).waits)
     where
-      by_open : (b c : Bool) → cond b (answered_by (cond c (news (told setup (before ▹ e) watcher) (watching setup watcher before).last) None) (watching setup watcher before)) (watching setup watcher before) ≡ watching setup watcher before
+      by_open : (b c : Bool) → cond b (answered_by (cond c (news (told setup (before ▹ e) watcher) (watching setup watcher before).last) None)
+          (watching setup watcher before)) (watching setup watcher before) ≡ watching setup watcher before
       by_open false c = refl
       by_open true true = rw none refl
       by_open true false = refl
@@ -162,14 +178,19 @@ module _ (setup : Setup) where
   unheld-event p watcher before e none = rw (not-some (watching setup watcher before).waits none) refl
 
   pub layouts-held : (s : SessionNo) (before : List Entry) (e : Entry)
-      → flat_map (λ p. told_event setup p (layout_of p) before e) (views_of setup s) ≡ flat_map (λ p. told_event setup p (layout_of p) before e) (filter (λ p. is_held before (layout_of p)) (views_of setup s))
-  layouts-held s before e = flat-held (λ p. is_held before (layout_of p)) (λ p. told_event setup p (layout_of p) before e) (λ p none. unheld-event p (layout_of p) before e none) (views_of setup s)
+      → flat_map (λ p. told_event setup p (layout_of p) before e) (views_of setup s)
+      ≡ flat_map (λ p. told_event setup p (layout_of p) before e) (filter (λ p. is_held before (layout_of p)) (views_of setup s))
+  layouts-held s before e = flat-held (λ p. is_held before (layout_of p)) (λ p. told_event setup p (layout_of p) before e)
+      (λ p none. unheld-event p (layout_of p) before e none) (views_of setup s)
 
   pub statuses-held : (s : SessionNo) (before : List Entry) (e : Entry)
-      → flat_map (λ p. told_event setup p (status_of p) before e) (views_of setup s) ≡ flat_map (λ p. told_event setup p (status_of p) before e) (filter (λ p. is_held before (status_of p)) (views_of setup s))
-  statuses-held s before e = flat-held (λ p. is_held before (status_of p)) (λ p. told_event setup p (status_of p) before e) (λ p none. unheld-event p (status_of p) before e none) (views_of setup s)
+      → flat_map (λ p. told_event setup p (status_of p) before e) (views_of setup s)
+      ≡ flat_map (λ p. told_event setup p (status_of p) before e) (filter (λ p. is_held before (status_of p)) (views_of setup s))
+  statuses-held s before e = flat-held (λ p. is_held before (status_of p)) (λ p. told_event setup p (status_of p) before e)
+      (λ p none. unheld-event p (status_of p) before e none) (views_of setup s)
 
   pub children-held : (p : PairNo) (before : List Entry) (e : Entry)
       → flat_map (λ n. told_event setup p (child_of p n) before e) (up_to (length (viewport_uses p before)))
       ≡ flat_map (λ n. told_event setup p (child_of p n) before e) (filter (λ n. is_held before (child_of p n)) (up_to (length (viewport_uses p before))))
-  children-held p before e = flat-held (λ n. is_held before (child_of p n)) (λ n. told_event setup p (child_of p n) before e) (λ n none. unheld-event p (child_of p n) before e none) (up_to (length (viewport_uses p before)))
+  children-held p before e = flat-held (λ n. is_held before (child_of p n)) (λ n. told_event setup p (child_of p n) before e)
+      (λ n none. unheld-event p (child_of p n) before e none) (up_to (length (viewport_uses p before)))

@@ -80,7 +80,8 @@ of-within : {A : Type 0} (xs : List A) (serial : ℕ) (x : A) → of_serial xs s
 of-within [] serial x is = absurd (cc)
 of-within {A = A} (y ∷ ys) serial x is = by_first (of-within ys (serial - 1) x) (serial == 1) refl
   where
-    by_first : (of_serial ys (serial - 1) ≡ Some x → (0 < serial - 1) × (serial - 1 ≤ length ys)) → (b : Bool) → (serial == 1) ≡ b → (0 < serial) × (serial ≤ length (y ∷ ys))
+    by_first : (of_serial ys (serial - 1) ≡ Some x → (0 < serial - 1) × (serial - 1 ≤ length ys)) → (b : Bool) → (serial == 1) ≡ b
+        → (0 < serial) × (serial ≤ length (y ∷ ys))
     by_first later true first = let one : serial ≡ 1 = grind (arith, common_steps) in (omega (arith, one), omega (arith, one))
     by_first later false first =
         let there : of_serial ys (serial - 1) ≡ Some x = sym (ap (λ b. cond b (Some y) (of_serial ys (serial - 1))) first) ∙ is in
@@ -142,7 +143,8 @@ long-cycle draft start path =
     let far = path-trail draft (length draft.transforms) start path in
     by_case far (distinct-or-cycle (children_at draft) start far.0 far.1)
   where
-    by_case : (far : (trail : List ℕ) × Trail (children_at draft) start trail × (length trail ≡ length draft.transforms) × AllFromOne (length draft.transforms) (start ∷ trail))
+    by_case : (far : (trail : List ℕ) × Trail (children_at draft) start trail × (length trail ≡ length draft.transforms)
+        × AllFromOne (length draft.transforms) (start ∷ trail))
         → IsDistinct eqb (start ∷ far.0) ⊎ HasCycle (children_at draft) start → HasCycle (children_at draft) start
     by_case far (inl distinct) = absurd (omega (arith, too-many (length draft.transforms) (start ∷ far.0) distinct far.3, far.2))
     by_case far (inr cycle) = cycle
@@ -152,7 +154,8 @@ cycle-path : (draft : Draft) (steps start : ℕ) → HasCycle (children_at draft
 cycle-path draft zero start cycle = refl
 cycle-path draft (suc steps) start cycle =
     let next = cycle-step (children_at draft) start cycle in
-    in-some (has_path steps draft) next.0 (children_at draft start) (contained-in next.0 (children_at draft start) next.1) (cycle-path draft steps next.0 next.2)
+    in-some (has_path steps draft) next.0 (children_at draft start) (contained-in next.0 (children_at draft start) next.1)
+    (cycle-path draft steps next.0 next.2)
 
 more-steps : (draft : Draft) (start : ℕ) → has_path (length draft.transforms + 1) draft start ≡ has_path (suc (length draft.transforms)) draft start
 more-steps draft start =
@@ -166,10 +169,16 @@ cycle-is-reached draft = (there, back)
       where
         by_root : (o : Option ℕ) → draft.root ≡ o → (root : ℕ) × (draft.root ≡ Some root) × HasCycle (children_at draft) root
         by_root None is =
-            absurd (let none : false ≡ true = sym (ap (λ (o : Option ℕ). unwrap_or (option_map (has_path (length draft.transforms + 1) draft) o) false) is) ∙ cyclic in cc)
-        by_root (Some root) is =
-            (root, is, long-cycle draft root (sym (more-steps draft root) ∙ sym (ap (λ (o : Option ℕ). unwrap_or (option_map (has_path (length draft.transforms + 1) draft) o) false) is) ∙ cyclic))
+            absurd (let none : false ≡ true = sym (ap (λ (o : Option ℕ). unwrap_or (option_map (has_path (length draft.transforms + 1) draft) o) false) is)
+            ∙ cyclic in cc)
+        by_root (Some root) is = (
+          root,
+          is,
+          long-cycle draft root (sym (more-steps draft root)
+              ∙ sym (ap (λ (o : Option ℕ). unwrap_or (option_map (has_path (length draft.transforms + 1) draft) o) false) is) ∙ cyclic),
+        )
 
     back : (root : ℕ) × (draft.root ≡ Some root) × HasCycle (children_at draft) root → is_cyclic draft ≡ true
     back (root, is, cycle) =
-        ap (λ (o : Option ℕ). unwrap_or (option_map (has_path (length draft.transforms + 1) draft) o) false) is ∙ cycle-path draft (length draft.transforms + 1) root cycle
+        ap (λ (o : Option ℕ). unwrap_or (option_map (has_path (length draft.transforms + 1) draft) o) false) is
+        ∙ cycle-path draft (length draft.transforms + 1) root cycle

@@ -28,7 +28,8 @@ session-declared setup s (Probe p) mine owns = absurd (cc)
 view-declared : (setup : Setup) (s u : SessionNo) → (u.0 == s.0) ≡ true → is_declared setup u ≡ true → is_declared setup s ≡ true
 view-declared setup s u same declared = grind (arith, common_steps)
 
-pair-declared : (setup : Setup) (s t : SessionNo) (pair : PairDecl) → (joins s t pair || joins t s pair) ≡ true → is_pair_declared setup pair ≡ true → is_declared setup s ≡ true
+pair-declared : (setup : Setup) (s t : SessionNo) (pair : PairDecl) → (joins s t pair || joins t s pair) ≡ true → is_pair_declared setup pair ≡ true
+    → is_declared setup s ≡ true
 pair-declared setup s t pair linked declared = by_end (or-cases (joins s t pair) (joins t s pair) linked)
   where
     by_end : (joins s t pair ≡ true) ⊎ (joins t s pair ≡ true) → is_declared setup s ≡ true
@@ -39,7 +40,8 @@ pair-declared setup s t pair linked declared = by_end (or-cases (joins s t pair)
         view-declared setup s pair.view (and-right (is_session t pair.viewport) (pair.view.0 == s.0) view)
         (and-right (may_own setup pair.viewport) (is_declared setup pair.view) declared)
 
-fence-declared : (setup : Setup) (s t : SessionNo) (fence : FenceDecl) → shares s t fence ≡ true → is_fence_declared setup fence ≡ true → is_declared setup s ≡ true
+fence-declared : (setup : Setup) (s t : SessionNo) (fence : FenceDecl) → shares s t fence ≡ true → is_fence_declared setup fence ≡ true
+    → is_declared setup s ≡ true
 fence-declared setup s t fence shared declared =
     any-with-all (is_session s) (may_own setup) (session-declared setup s) fence.owners
     (and-left (list_any (is_session s) fence.owners) (list_any (is_session t) fence.owners) shared) (grind arith)
@@ -49,7 +51,8 @@ pub linked-declared : (setup : Setup) → owners_declared setup ≡ true → (s 
 linked-declared setup owners s t linked =
     by_link (or-cases (list_any (λ (pair : PairDecl). joins s t pair || joins t s pair) setup.pairs) (list_any (shares s t) setup.fences) linked)
   where
-    by_link : (list_any (λ (pair : PairDecl). joins s t pair || joins t s pair) setup.pairs ≡ true) ⊎ (list_any (shares s t) setup.fences ≡ true) → is_declared setup s ≡ true
+    by_link : (list_any (λ (pair : PairDecl). joins s t pair || joins t s pair) setup.pairs ≡ true) ⊎ (list_any (shares s t) setup.fences ≡ true)
+        → is_declared setup s ≡ true
     by_link (inl paired) =
         any-with-all (λ (pair : PairDecl). joins s t pair || joins t s pair) (is_pair_declared setup) (pair-declared setup s t) setup.pairs paired (grind arith)
     by_link (inr shared) = any-with-all (shares s t) (is_fence_declared setup) (fence-declared setup s t) setup.fences shared (grind arith)

@@ -8,7 +8,8 @@ pub refused_before : (tests more : List Test) (reason : Reason) → first_reason
 refused_before [] more reason e = absurd (cc)
 refused_before (test ∷ tests) more reason e = by_test test.0 (refused_before tests more reason) e
   where
-    by_test : (b : Bool) → (first_reason tests ≡ Some reason → first_reason (tests ++ more) ≡ Some reason) → cond b (Some test.1) (first_reason tests) ≡ Some reason
+    by_test : (b : Bool) → (first_reason tests ≡ Some reason → first_reason (tests ++ more) ≡ Some reason)
+        → cond b (Some test.1) (first_reason tests) ≡ Some reason
         → cond b (Some test.1) (first_reason (tests ++ more)) ≡ Some reason
     by_test true later e = e
     by_test false later e = later e
@@ -24,8 +25,10 @@ passed_on (test ∷ tests) more e = by_test test.0 (passed_on tests more) e
     by_test false later e = later e
 
 -- that one test refuses, or lets pass
-pub refused_by : (tests : List Test) (bad : Bool) (reason : Reason) → first_reason tests ≡ None → bad ≡ true → first_reason (tests ++ (bad, reason) ∷ []) ≡ Some reason
+pub refused_by : (tests : List Test) (bad : Bool) (reason : Reason) → first_reason tests ≡ None → bad ≡ true
+    → first_reason (tests ++ (bad, reason) ∷ []) ≡ Some reason
 refused_by tests bad reason e is = passed_on tests ((bad, reason) ∷ []) e ∙ ap (λ (b : Bool). cond b (Some reason) None) is
 
-pub allowed_by : (tests : List Test) (bad : Bool) (reason : Reason) → first_reason tests ≡ None → bad ≡ false → first_reason (tests ++ (bad, reason) ∷ []) ≡ None
+pub allowed_by : (tests : List Test) (bad : Bool) (reason : Reason) → first_reason tests ≡ None → bad ≡ false
+    → first_reason (tests ++ (bad, reason) ∷ []) ≡ None
 allowed_by tests bad reason e is = passed_on tests ((bad, reason) ∷ []) e ∙ ap (λ (b : Bool). cond b (Some reason) None) is

@@ -1,5 +1,6 @@
 -- What frames take, and in which order.
-use Rattle.std.proofs.Common.{◌≡◌, ◌∙◌, sym, subst, ℕ, ◌+◌, ◌≤◌, Bool, true, false, cond, List, [], ◌∷◌, ◌++◌, length, drop, refl, ap, arith, length-append, suc, ◌||◌, ◌&&◌, not}
+use Rattle.std.proofs.Common.{◌≡◌, ◌∙◌, sym, subst, ℕ, ◌+◌, ◌≤◌, Bool, true, false, cond, List, [], ◌∷◌, ◌++◌, length, drop, refl, ap, arith, length-append}
+use Rattle.std.proofs.Common.{suc, ◌||◌, ◌&&◌, not}
 use Rattle.std.specs.Prelude.{IfSome, slice_get, zero}
 use Rattle.std.specs.List.{take_while, list_all, list_any}
 use Rattle.std.proofs.lemmas.List.{length-drop}
@@ -12,7 +13,8 @@ use Rattle.flat_scene.specs.declared.journal.Entry.{Entry}
 use Rattle.flat_scene.specs.declared.journal.Kind.{Kind}
 use Rattle.flat_scene.specs.declared.journal.Kind.TheVariants as kind
 use Rattle.flat_scene.specs.declared.setup.Setup.{Setup}
-use Rattle.flat_scene.specs.Frames.{is_signalled, is_ready, is_unsquashable, up_to_first, ready_run, ready_prefix, takes, lets_go, signals, going, sessions_to, taken}
+use Rattle.flat_scene.specs.Frames.{is_signalled, is_ready, is_unsquashable, up_to_first, ready_run, ready_prefix, takes, lets_go, signals, going, sessions_to}
+use Rattle.flat_scene.specs.Frames.{taken}
 use Rattle.flat_scene.specs.History.{◌▹◌, is_session, is_closed, presents, published, calls, Published}
 use Rattle.flat_scene.specs.Laws.{IsLongestReady, TakesInOrder, OthersAreSquashed}
 use Rattle.flat_scene.specs.Squashed as squashed
@@ -85,7 +87,8 @@ taken-up-to {A = A} ends p (x ∷ xs) = by_test (taken-up-to ends p xs) (p x) (e
         (record { begins = refl; passes = refl; last = λ earlier y is. nothing-last ends y earlier is; longest = fails; short = omega arith })
     by_test rest true true passes end =
         let e : take_while p (x ∷ xs) ≡ x ∷ take_while p xs = take_while-cons p x xs ∙ ap (λ b. cond b (x ∷ take_while p xs) []) passes in
-        let one : up_to_first ends (take_while p (x ∷ xs)) ≡ x ∷ [] = ap (up_to_first ends) e ∙ ap (λ b. x ∷ cond b [] (up_to_first ends (take_while p xs))) end in
+        let one : up_to_first ends (take_while p (x ∷ xs)) ≡ x ∷ [] =
+        ap (up_to_first ends) e ∙ ap (λ b. x ∷ cond b [] (up_to_first ends (take_while p xs))) end in
         subst (λ (prefix : List A). IsTakenUpTo ends p (x ∷ xs) prefix) (sym one)
         (record {
           begins = refl;
@@ -101,7 +104,8 @@ taken-up-to {A = A} ends p (x ∷ xs) = by_test (taken-up-to ends p xs) (p x) (e
     by_test rest true false passes goes =
         let e : take_while p (x ∷ xs) ≡ x ∷ take_while p xs = take_while-cons p x xs ∙ ap (λ b. cond b (x ∷ take_while p xs) []) passes in
         let prefix : List A = up_to_first ends (take_while p xs) in
-        let more : up_to_first ends (take_while p (x ∷ xs)) ≡ x ∷ prefix = ap (up_to_first ends) e ∙ ap (λ b. x ∷ cond b [] (up_to_first ends (take_while p xs))) goes in
+        let more : up_to_first ends (take_while p (x ∷ xs)) ≡ x ∷ prefix =
+        ap (up_to_first ends) e ∙ ap (λ b. x ∷ cond b [] (up_to_first ends (take_while p xs))) goes in
         let same : list_any ends (x ∷ prefix) ≡ list_any ends prefix = ap (λ b. b || list_any ends prefix) goes in
         subst (λ (prefix : List A). IsTakenUpTo ends p (x ∷ xs) prefix) (sym more)
         (record {
@@ -113,7 +117,8 @@ taken-up-to {A = A} ends p (x ∷ xs) = by_test (taken-up-to ends p xs) (p x) (e
         })
 
 -- the ready prefix is the longest
-pub ready-longest : (time : ℕ) (is_signalled : FenceNo → Bool) (waiting : List Published) → IsLongestReady time is_signalled waiting (ready_prefix time is_signalled waiting)
+pub ready-longest : (time : ℕ) (is_signalled : FenceNo → Bool) (waiting : List Published)
+    → IsLongestReady time is_signalled waiting (ready_prefix time is_signalled waiting)
 ready-longest time is_signalled waiting =
     let taken = taken-up-to is_unsquashable (λ (present : Published). is_ready time is_signalled present.args) waiting in
     record { begins = taken.begins; ready = taken.passes; last = taken.last; longest = taken.longest }
@@ -146,12 +151,15 @@ none-left ends (suc n) (x ∷ xs) none = none-left ends n xs (or_parts (ends x) 
 pub squashed-prefix : (time : ℕ) (is_signalled : FenceNo → Bool) (waiting : List Published) → list_any is_unsquashable waiting ≡ false
     → ready_prefix time is_signalled waiting ≡ ready_run time is_signalled waiting
 squashed-prefix time is_signalled waiting none =
-    up-to-none is_unsquashable (ready_run time is_signalled waiting) (none-while is_unsquashable (λ (present : Published). is_ready time is_signalled present.args) waiting none)
+    up-to-none is_unsquashable (ready_run time is_signalled waiting)
+    (none-while is_unsquashable (λ (present : Published). is_ready time is_signalled present.args) waiting none)
 
 -- no more is taken than waits
-takes-fits : (k : Kind) (is_signalled : FenceNo → Bool) (closed : Bool) (waiting : List Published) → length (takes k is_signalled closed waiting) ≤ length waiting
+takes-fits : (k : Kind) (is_signalled : FenceNo → Bool) (closed : Bool) (waiting : List Published)
+    → length (takes k is_signalled closed waiting) ≤ length waiting
 takes-fits (kind.Begin time) is_signalled true waiting = omega arith
-takes-fits (kind.Begin time) is_signalled false waiting = (taken-up-to is_unsquashable (λ (present : Published). is_ready time is_signalled present.args) waiting).short
+takes-fits (kind.Begin time) is_signalled false waiting =
+    (taken-up-to is_unsquashable (λ (present : Published). is_ready time is_signalled present.args) waiting).short
 takes-fits _ is_signalled closed waiting = omega arith
 
 -- presents are only added
@@ -195,7 +203,8 @@ lets-all-go (kind.Begin time) f closed waiting going none = ap (λ ready. cond c
 lets-all-go _ f closed waiting going none = refl
 
 -- presents that a later history has are among its own
-none-before : (s : SessionNo) (before : List Entry) (e : Entry) → list_any is_unsquashable (presents s (before ▹ e)) ≡ false → list_any is_unsquashable (presents s before) ≡ false
+none-before : (s : SessionNo) (before : List Entry) (e : Entry) → list_any is_unsquashable (presents s (before ▹ e)) ≡ false
+    → list_any is_unsquashable (presents s before) ≡ false
 none-before s before e none = by_owner (is_session s e.actor) refl
   where
     by_owner : (b : Bool) → is_session s e.actor ≡ b → list_any is_unsquashable (presents s before) ≡ false
@@ -216,10 +225,13 @@ is-squashed setup (before ▹ e) none =
       signalled = λ i. λ fence. was.signalled i fence || signals (sessions_to setup.sessions) e.kind (was.going i) fence;
       taken =
           (λ i. λ s. was.taken i s + length (takes e.kind (was.signalled i) (is_closed s before) (drop (was.taken i s) (presents s before))))
-          ∙ (λ i. λ s. squashed.taken setup before s + length (takes-all e.kind (squashed.is_signalled setup before) (is_closed s before) (drop (squashed.taken setup before s) (presents s before)) (left s) i));
+          ∙ (λ i. λ s. squashed.taken setup before s + length
+          (takes-all e.kind (squashed.is_signalled setup before) (is_closed s before) (drop (squashed.taken setup before s) (presents s before)) (left s)
+          i));
       going =
           (λ i. λ s. lets_go e.kind (was.signalled i) (is_closed s before) (drop (was.taken i s) (presents s before)) (was.going i s))
-          ∙ (λ i. λ s. lets-all-go e.kind (squashed.is_signalled setup before) (is_closed s before) (drop (squashed.taken setup before s) (presents s before)) (squashed.going setup before s) (left s) i);
+          ∙ (λ i. λ s. lets-all-go e.kind (squashed.is_signalled setup before) (is_closed s before) (drop (squashed.taken setup before s) (presents s before))
+          (squashed.going setup before s) (left s) i);
     }
 
 pub others-squashed : OthersAreSquashed

@@ -8,7 +8,8 @@ use Rattle.flat_snap.specs.Building.{Building, followed_by, with_children, enter
 
 pub followed-nil : (all : Children) → followed_by all Empty ≡ all
 followed-nil Empty = refl
-followed-nil (first serial scale turn place clip opacity hits content children rest) = ap (first serial scale turn place clip opacity hits content children) (followed-nil rest)
+followed-nil (first serial scale turn place clip opacity hits content children rest) =
+    ap (first serial scale turn place clip opacity hits content children) (followed-nil rest)
 
 pub followed-assoc : (a b c : Children) → followed_by (followed_by a b) c ≡ followed_by a (followed_by b c)
 followed-assoc Empty b c = refl

@@ -45,7 +45,17 @@ pub forest-flat : (all : Children) (rest : List FlatNode) (next to : ℕ) → to
 forest-flat Empty rest next to e = forest-none rest next to (omega arith)
 forest-flat (first serial scale turn place clip opacity hits content children after) rest next to e =
     let end : ℕ = next + 1 + node_count children in
-    let here : FlatNode = record { serial = serial; scale = scale; turn = turn; place = place; clip = clip; opacity = opacity; hits = hits; content = content; end = end } in
+    let here : FlatNode = record {
+      serial = serial;
+      scale = scale;
+      turn = turn;
+      place = place;
+      clip = clip;
+      opacity = opacity;
+      hits = hits;
+      content = content;
+      end = end;
+    } in
     let later : List FlatNode = flat_from end after ++ rest in
     let below : forest_in (flat_from (next + 1) children ++ later) (next + 1) (next + 1) end ≡ children
     = forest-flat children later (next + 1) end refl in

@@ -17,18 +17,27 @@ stretch-trees ns from to s =
     let skipped : forest_in (s.before ++ after) 0 from to ≡ forest_in after (0 + length s.before) from to
     = forest-skips s.before after 0 from to (omega (arith, s.begins)) in
     let at : 0 + length s.before ≡ from = omega (arith, s.begins) in
-    ap (λ (xs : List FlatNode). forest_in xs 0 from to) s.is ∙ skipped ∙ ap (λ (n : ℕ). forest_in after n from to) at ∙ forest-flat s.trees s.rest from to s.ends
+    ap (λ (xs : List FlatNode). forest_in xs 0 from to) s.is ∙ skipped ∙ ap (λ (n : ℕ). forest_in after n from to) at
+    ∙ forest-flat s.trees s.rest from to s.ends
 
 -- a stretch ends within the list
 pub stretch-within : (ns : List FlatNode) (from to : ℕ) → IsStretch ns from to → (from ≤ to) × (to ≤ length ns)
 stretch-within ns from to s =
     let size : length ns ≡ length s.before + (length (flat_from from s.trees) + length s.rest)
-    = ap length s.is ∙ length-append s.before (flat_from from s.trees ++ s.rest) ∙ ap (λ (n : ℕ). length s.before + n) (length-append (flat_from from s.trees) s.rest) in
+    = ap length s.is ∙ length-append s.before (flat_from from s.trees ++ s.rest)
+    ∙ ap (λ (n : ℕ). length s.before + n) (length-append (flat_from from s.trees) s.rest) in
     (omega (arith, s.ends), omega (arith, size, s.begins, s.ends, length-flat from s.trees))
 
 -- the whole list is one
 pub stretch-whole : (all : Children) → IsStretch (flat_from 0 all) 0 (length (flat_from 0 all))
-stretch-whole all = record { trees = all; before = []; rest = []; is = sym (append-nil (flat_from 0 all)); begins = refl; ends = omega (arith, length-flat 0 all) }
+stretch-whole all = record {
+  trees = all;
+  before = [];
+  rest = [];
+  is = sym (append-nil (flat_from 0 all));
+  begins = refl;
+  ends = omega (arith, length-flat 0 all);
+}
 
 -- a stretch without a node has no trees
 pub stretch-none : (ns : List FlatNode) (from to : ℕ) → IsStretch ns from to → to ≤ from → forest_in ns 0 from to ≡ Empty
@@ -50,7 +59,17 @@ first-of : (ns : List FlatNode) (from to : ℕ) (n : FlatNode) (trees : Children
 first-of ns from to n Empty before rest is begins ends some at = absurd (omega (arith, ends))
 first-of ns from to n (first serial scale turn place clip opacity hits content children others) before rest is begins ends some at =
     let end : ℕ = from + 1 + node_count children in
-    let here : FlatNode = record { serial = serial; scale = scale; turn = turn; place = place; clip = clip; opacity = opacity; hits = hits; content = content; end = end } in
+    let here : FlatNode = record {
+      serial = serial;
+      scale = scale;
+      turn = turn;
+      place = place;
+      clip = clip;
+      opacity = opacity;
+      hits = hits;
+      content = content;
+      end = end;
+    } in
     let inner : List FlatNode = flat_from (from + 1) children in
     let outer : List FlatNode = flat_from end others in
     let split : ns ≡ before ++ here ∷ (inner ++ (outer ++ rest))
@@ -64,7 +83,14 @@ first-of ns from to n (first serial scale turn place clip opacity hits content c
     let twice : (before ++ here ∷ []) ++ (inner ++ (outer ++ rest)) ≡ ((before ++ here ∷ []) ++ inner) ++ (outer ++ rest)
     = sym (append_assoc (before ++ here ∷ []) inner (outer ++ rest)) in
     let one : length (before ++ here ∷ []) ≡ from + 1 = length-append before (here ∷ []) ∙ omega (arith, begins) in
-    let below : IsStretch ns (from + 1) end = record { trees = children; before = before ++ here ∷ []; rest = outer ++ rest; is = split ∙ once; begins = one; ends = refl } in
+    let below : IsStretch ns (from + 1) end = record {
+      trees = children;
+      before = before ++ here ∷ [];
+      rest = outer ++ rest;
+      is = split ∙ once;
+      begins = one;
+      ends = refl;
+    } in
     let after : IsStretch ns end to = record {
       trees = others;
       before = (before ++ here ∷ []) ++ inner;

@@ -1,5 +1,6 @@
 -- A begin, session by session.
-use Rattle.std.proofs.Common.{◌≡◌, ◌≢◌, ℕ, zero, suc, ◌+◌, ◌-◌, ◌<◌, ◌≤◌, true, false, List, [], ◌∷◌, ◌++◌, length, refl, arith, sym, ◌∙◌, ap, map, Some, slice_get, slice_set, slice_index_or, add-one, subst, append_assoc}
+use Rattle.std.proofs.Common.{◌≡◌, ◌≢◌, ℕ, zero, suc, ◌+◌, ◌-◌, ◌<◌, ◌≤◌, true, false, List, [], ◌∷◌, ◌++◌, length, refl, arith, sym, ◌∙◌, ap, map, Some}
+use Rattle.std.proofs.Common.{slice_get, slice_set, slice_index_or, add-one, subst, append_assoc}
 use Rattle.std.specs.Prelude.{cond, nat_lt, Option, sum_by, flat_map}
 use Rattle.std.proofs.lemmas.Grind.{common_steps, flat_map-append}
 use Rattle.std.proofs.lemmas.Bool.Decides.{nat_tests}
@@ -35,21 +36,25 @@ same-side i j other = grind (arith, nat_tests)
 pub this-side : (i : ℕ) → nat_lt i (i + 1) ≡ true
 this-side i = grind (arith, nat_tests)
 
-pub kept-on : (setup : Setup) (h : List Entry) (line time i : ℕ) (sessions : List SessionState) (new : SessionState) → AllNumbered (KeptUpTo setup h line time i) sessions → IsKept setup (seen_of setup (begun h line time) (number i)) new
+pub kept-on : (setup : Setup) (h : List Entry) (line time i : ℕ) (sessions : List SessionState) (new : SessionState)
+    → AllNumbered (KeptUpTo setup h line time i) sessions → IsKept setup (seen_of setup (begun h line time) (number i)) new
     → AllNumbered (KeptUpTo setup h line time (i + 1)) (slice_set sessions i new)
 kept-on setup h line time i sessions new each here =
-    changed-one (KeptUpTo setup h line time i) (KeptUpTo setup h line time (i + 1)) sessions i new (λ j x other kept. rw (← same-side i j other) kept) (rw (this-side i) here) each
+    changed-one (KeptUpTo setup h line time i) (KeptUpTo setup h line time (i + 1)) sessions i new (λ j x other kept. rw (← same-side i j other) kept)
+    (rw (this-side i) here) each
 
 pub shown-on : (setup : Setup) (h : List Entry) (line time i : ℕ) (states : List (Option Tree)) → AllNumbered (ShownUpTo setup h line time i) states
     → AllNumbered (ShownUpTo setup h line time (i + 1)) (slice_set states i (shown setup (begun h line time) (number i)))
 shown-on setup h line time i states each =
-    changed-one (ShownUpTo setup h line time i) (ShownUpTo setup h line time (i + 1)) states i (shown setup (begun h line time) (number i)) (λ j x other kept. rw (← same-side i j other) kept) (rw (this-side i) refl) each
+    changed-one (ShownUpTo setup h line time i) (ShownUpTo setup h line time (i + 1)) states i (shown setup (begun h line time) (number i))
+    (λ j x other kept. rw (← same-side i j other) kept) (rw (this-side i) refl) each
 
 pub not-below : (i : ℕ) → nat_lt i i ≡ false
 not-below i = grind (arith, nat_tests)
 
 -- the next session is before it
-pub kept-here : (setup : Setup) (h : List Entry) (line time i : ℕ) (sessions : List SessionState) (state : SessionState) → AllNumbered (KeptUpTo setup h line time i) sessions → i < length sessions → state ≡ slice_index_or sessions i state
+pub kept-here : (setup : Setup) (h : List Entry) (line time i : ℕ) (sessions : List SessionState) (state : SessionState)
+    → AllNumbered (KeptUpTo setup h line time i) sessions → i < length sessions → state ≡ slice_index_or sessions i state
     → IsKept setup (seen_of setup h (number i)) state
 kept-here setup h line time i sessions state each below is =
     let here : IsKept setup (seen_of setup h (number i)) (slice_index_or sessions i state) = rw (not-below i) at (each i state below) in
@@ -60,9 +65,11 @@ get-at [] i x below is = absurd (omega (arith, below))
 get-at (y ∷ xs) zero x below is = ap Some is
 get-at (y ∷ xs) (suc i) x below is = get-at xs i x (grind (arith, common_steps)) is
 
-pub shown-here : (setup : Setup) (h : List Entry) (line time i : ℕ) (states : List (Option Tree)) → AllNumbered (ShownUpTo setup h line time i) states → i < length states
+pub shown-here : (setup : Setup) (h : List Entry) (line time i : ℕ) (states : List (Option Tree)) → AllNumbered (ShownUpTo setup h line time i) states
+    → i < length states
     → slice_get states i ≡ Some (shown setup (to_begin h) (number i))
-shown-here setup h line time i states each below = get-at states i (shown setup (to_begin h) (number i)) below (rw (not-below i) at (each i (shown setup (to_begin h) (number i)) below))
+shown-here setup h line time i states each below = get-at states i (shown setup (to_begin h) (number i)) below
+    (rw (not-below i) at (each i (shown setup (to_begin h) (number i)) below))
 
 pub flat-on : {A B : Type 0} (f : A → List B) (xs : List A) (x : A) → flat_map f (xs ++ x ∷ []) ≡ flat_map f xs ++ f x
 flat-on f xs x = flat_map-append f xs (x ∷ []) ∙ ap (λ ys. flat_map f xs ++ ys) (append-nil (f x))
@@ -71,12 +78,14 @@ pub sessions-on : (i : ℕ) → sessions_to (i + 1) ≡ sessions_to i ++ number 
 sessions-on i = rw add-one refl
 
 -- one session more is posted to
-pub posts-on : (setup : Setup) (h : List Entry) (e : Entry) (i : ℕ) → posts_to setup h e (i + 1) ≡ posts_to setup h e i ++ map (post_of (length h) (number i)) (events_to setup h e (number i))
+pub posts-on : (setup : Setup) (h : List Entry) (e : Entry) (i : ℕ)
+    → posts_to setup h e (i + 1) ≡ posts_to setup h e i ++ map (post_of (length h) (number i)) (events_to setup h e (number i))
 posts-on setup h e i =
     let f : SessionNo → List Post = λ s. map (post_of (length h) s) (events_to setup h e s) in
     ap (flat_map f) (sessions-on i) ∙ flat-on f (sessions_to i) (number i)
 
-pub due-le : (sessions : List SessionState) (i : ℕ) (state : SessionState) → i < length sessions → state ≡ slice_index_or sessions i state → due state ≤ sum_by due sessions
+pub due-le : (sessions : List SessionState) (i : ℕ) (state : SessionState) → i < length sessions → state ≡ slice_index_or sessions i state
+    → due state ≤ sum_by due sessions
 due-le sessions i state below is =
     let le : due (slice_index_or sessions i state) ≤ sum_by due sessions = get_or-le-sum_by due sessions i state below in
     let P : SessionState → Type 0 = λ x. due x ≤ sum_by due sessions in subst P (sym is) le
@@ -84,33 +93,41 @@ due-le sessions i state below is =
 pub none-below : (j : ℕ) → nat_lt j 0 ≡ false
 none-below j = grind (arith, nat_tests)
 
-pub kept-start : (setup : Setup) (h : List Entry) (line time : ℕ) (sessions : List SessionState) → AllNumbered (λ i. IsKept setup (seen_of setup h (number i))) sessions → AllNumbered (KeptUpTo setup h line time 0) sessions
+pub kept-start : (setup : Setup) (h : List Entry) (line time : ℕ) (sessions : List SessionState)
+    → AllNumbered (λ i. IsKept setup (seen_of setup h (number i))) sessions → AllNumbered (KeptUpTo setup h line time 0) sessions
 kept-start setup h line time sessions each j d below = rw (none-below j) (each j d below)
 
-pub shown-start : (setup : Setup) (h : List Entry) (line time : ℕ) (states : List (Option Tree)) → AllNumbered (λ i state. state ≡ shown setup (to_begin h) (number i)) states → AllNumbered (ShownUpTo setup h line time 0) states
+pub shown-start : (setup : Setup) (h : List Entry) (line time : ℕ) (states : List (Option Tree))
+    → AllNumbered (λ i state. state ≡ shown setup (to_begin h) (number i)) states → AllNumbered (ShownUpTo setup h line time 0) states
 shown-start setup h line time states each j d below = rw (none-below j) (each j d below)
 
 pub all-below : (j n m : ℕ) → j < n → n ≡ m → nat_lt j m ≡ true
 all-below j n m below same = grind (arith, nat_tests)
 
-pub kept-end : (setup : Setup) (h : List Entry) (line time n : ℕ) (sessions : List SessionState) → length sessions ≡ n → AllNumbered (KeptUpTo setup h line time n) sessions → AllNumbered (λ i. IsKept setup (seen_of setup (begun h line time) (number i))) sessions
+pub kept-end : (setup : Setup) (h : List Entry) (line time n : ℕ) (sessions : List SessionState) → length sessions ≡ n
+    → AllNumbered (KeptUpTo setup h line time n) sessions → AllNumbered (λ i. IsKept setup (seen_of setup (begun h line time) (number i))) sessions
 kept-end setup h line time n sessions count each j d below = rw (all-below j (length sessions) n below count) at (each j d below)
 
-pub shown-end : (setup : Setup) (h : List Entry) (line time n : ℕ) (states : List (Option Tree)) → length states ≡ n → AllNumbered (ShownUpTo setup h line time n) states → AllNumbered (λ i state. state ≡ shown setup (begun h line time) (number i)) states
+pub shown-end : (setup : Setup) (h : List Entry) (line time n : ℕ) (states : List (Option Tree)) → length states ≡ n
+    → AllNumbered (ShownUpTo setup h line time n) states → AllNumbered (λ i state. state ≡ shown setup (begun h line time) (number i)) states
 shown-end setup h line time n states count each j d below = rw (all-below j (length states) n below count) at (each j d below)
 
 back : (i : ℕ) → i + 1 - 1 ≡ i
 back i = omega arith
 
-pub shown-next : (setup : Setup) (was h : List Entry) (line time i : ℕ) (states after : List (Option Tree)) → was ≡ h → after ≡ slice_set states (i + 1 - 1) (shown setup (begun was line time) (number i))
-    → length states ≡ setup.sessions → AllNumbered (ShownUpTo setup h line time i) states → (length after ≡ setup.sessions) × AllNumbered (ShownUpTo setup h line time (i + 1)) after
+pub shown-next : (setup : Setup) (was h : List Entry) (line time i : ℕ) (states after : List (Option Tree)) → was ≡ h
+    → after ≡ slice_set states (i + 1 - 1) (shown setup (begun was line time) (number i))
+    → length states ≡ setup.sessions → AllNumbered (ShownUpTo setup h line time i) states
+    → (length after ≡ setup.sessions) × AllNumbered (ShownUpTo setup h line time (i + 1)) after
 shown-next setup was h line time i states after same is count each =
     let now : after ≡ slice_set states i (shown setup (begun h line time) (number i)) =
-    is ∙ ap (λ (n : ℕ). slice_set states n (shown setup (begun was line time) (number i))) (back i) ∙ ap (λ (k : List Entry). slice_set states i (shown setup (begun k line time) (number i))) same in
+    is ∙ ap (λ (n : ℕ). slice_set states n (shown setup (begun was line time) (number i))) (back i)
+    ∙ ap (λ (k : List Entry). slice_set states i (shown setup (begun k line time) (number i))) same in
     let P : List (Option Tree) → Type 0 = λ xs. AllNumbered (ShownUpTo setup h line time (i + 1)) xs in
     (ap length now ∙ length-set states i (shown setup (begun h line time) (number i)) ∙ count, subst P (sym now) (shown-on setup h line time i states each))
 
-pub kept-next : (setup : Setup) (was h : List Entry) (line time i : ℕ) (sessions : List SessionState) (new : SessionState) → was ≡ h → AllNumbered (KeptUpTo setup h line time i) sessions
+pub kept-next : (setup : Setup) (was h : List Entry) (line time i : ℕ) (sessions : List SessionState) (new : SessionState) → was ≡ h
+    → AllNumbered (KeptUpTo setup h line time i) sessions
     → IsKept setup (seen_of setup (begun was line time) (number i)) new → AllNumbered (KeptUpTo setup h line time (i + 1)) (slice_set sessions i new)
 kept-next setup was h line time i sessions new same each here =
     let P : List Entry → Type 0 = λ k. IsKept setup (seen_of setup (begun k line time) (number i)) new in
@@ -123,7 +140,9 @@ posts-next setup was h e i first old new same so_far more =
     more ∙ ap (λ xs. xs ++ here was) so_far ∙ ap (λ (k : List Entry). (first ++ posts_to setup h e i) ++ here k) same
     ∙ append_assoc first (posts_to setup h e i) (here h) ∙ ap (λ xs. first ++ xs) (sym (posts-on setup h e i))
 
-pub shown-there : (setup : Setup) (was h : List Entry) (line time i : ℕ) (states : List (Option Tree)) → was ≡ h → AllNumbered (ShownUpTo setup h line time i) states → i < length states
+pub shown-there : (setup : Setup) (was h : List Entry) (line time i : ℕ) (states : List (Option Tree)) → was ≡ h
+    → AllNumbered (ShownUpTo setup h line time i) states → i < length states
     → slice_get states (i + 1 - 1) ≡ Some (shown setup (to_begin was) (number i))
 shown-there setup was h line time i states same each below =
-    ap (λ (n : ℕ). slice_get states n) (back i) ∙ shown-here setup h line time i states each below ∙ ap (λ (k : List Entry). Some (shown setup (to_begin k) (number i))) (sym same)
+    ap (λ (n : ℕ). slice_get states n) (back i) ∙ shown-here setup h line time i states each below
+    ∙ ap (λ (k : List Entry). Some (shown setup (to_begin k) (number i))) (sym same)

@@ -1,5 +1,6 @@
 -- What an entry changes of what is kept of a session.
-use Rattle.std.proofs.Common.{◌≡◌, ◌∙◌, ℕ, zero, suc, ◌+◌, ◌-◌, ◌<◌, ◌≢◌, true, false, List, [], ◌∷◌, length, refl, arith, sym, ap, slice_set, slice_index_or, inl, inr, ◌⊎◌, None}
+use Rattle.std.proofs.Common.{◌≡◌, ◌∙◌, ℕ, zero, suc, ◌+◌, ◌-◌, ◌<◌, ◌≢◌, true, false, List, [], ◌∷◌, length, refl, arith, sym, ap, slice_set, slice_index_or}
+use Rattle.std.proofs.Common.{inl, inr, ◌⊎◌, None}
 use Rattle.std.specs.Prelude.{◌==◌, sum_by}
 use Rattle.std.proofs.lemmas.Bool.Decides.{nat_tests, eqb_tells}
 use Rattle.std.proofs.lemmas.List.{get_or-set_other, get_or-set_same, length-set}
@@ -21,7 +22,8 @@ use Rattle.flat_facts.specs.Views.{view_made}
 use Rattle.flat_rules.proofs.lemmas.Quiet.{closed-quiet, presents-quiet, taken-quiet, going-quiet, took-quiet}
 
 -- another's entry changes nothing
-pub seen-other : (setup : Setup) (h : List Entry) (e : Entry) (s : SessionNo) → is_begin e.kind ≡ false → is_finish e.kind ≡ false → is_session s e.actor ≡ false
+pub seen-other : (setup : Setup) (h : List Entry) (e : Entry) (s : SessionNo) → is_begin e.kind ≡ false → is_finish e.kind ≡ false
+    → is_session s e.actor ≡ false
     → seen_of setup (h ▹ e) s ≡ seen_of setup h s
 seen-other setup h e s no_begin no_finish other =
     rw (other, taken-quiet setup h e s no_begin, going-quiet setup h e s no_begin, took-quiet setup h e s no_begin no_finish) refl
@@ -38,16 +40,35 @@ pub record IsPlainOne (e : Entry) : Type 0 where
 pub seen-plain : (setup : Setup) (h : List Entry) (e : Entry) (s : SessionNo) → IsPlainOne e → closes e.reply ≡ false → is_session s e.actor ≡ true
     → seen_of setup (h ▹ e) s ≡ seen_of setup h s
 seen-plain setup h e s is no_close mine =
-    rw (closed-quiet h e s no_close, presents-quiet h e s is.none, mine, taken-quiet setup h e s is.no_begin, going-quiet setup h e s is.no_begin, took-quiet setup h e s is.no_begin is.no_finish, is.no_poll, is.no_view) refl
+    rw (
+      closed-quiet h e s no_close,
+      presents-quiet h e s is.none,
+      mine,
+      taken-quiet setup h e s is.no_begin,
+      going-quiet setup h e s is.no_begin,
+      took-quiet setup h e s is.no_begin is.no_finish,
+      is.no_poll,
+      is.no_view,
+    ) refl
 
 -- and the one that closes it
 pub seen-closed : (setup : Setup) (h : List Entry) (e : Entry) (s : SessionNo) → IsPlainOne e → closes e.reply ≡ true → is_session s e.actor ≡ true
     → seen_of setup (h ▹ e) s ≡ record (seen_of setup h s) { closed = true }
 seen-closed setup h e s is closes_it mine =
-    rw (presents-quiet h e s is.none, mine, closes_it, taken-quiet setup h e s is.no_begin, going-quiet setup h e s is.no_begin, took-quiet setup h e s is.no_begin is.no_finish, is.no_poll, is.no_view) refl
+    rw (
+      presents-quiet h e s is.none,
+      mine,
+      closes_it,
+      taken-quiet setup h e s is.no_begin,
+      going-quiet setup h e s is.no_begin,
+      took-quiet setup h e s is.no_begin is.no_finish,
+      is.no_poll,
+      is.no_view,
+    ) refl
 
 -- an account that has as many presents
-pub kept-account : (setup : Setup) (seen : Seen) (state : SessionState) (f : Account → Account) → ((a : Account) → (f a).presents ≡ a.presents) → IsKept setup seen state
+pub kept-account : (setup : Setup) (seen : Seen) (state : SessionState) (f : Account → Account) → ((a : Account) → (f a).presents ≡ a.presents)
+    → IsKept setup seen state
     → IsKept setup (record seen { account = f seen.account }) (record state { account = f state.account })
 kept-account setup seen state f same kept = record {
   closed = kept.closed;
@@ -66,7 +87,8 @@ kept-account setup seen state f same kept = record {
   room = kept.room;
 }
 
-pub kept-closed : (setup : Setup) (seen : Seen) (state : SessionState) → IsKept setup seen state → IsKept setup (record seen { closed = true }) (record state { closed = true })
+pub kept-closed : (setup : Setup) (seen : Seen) (state : SessionState) → IsKept setup seen state
+    → IsKept setup (record seen { closed = true }) (record state { closed = true })
 kept-closed setup seen state kept = record {
   closed = refl;
   account = kept.account;
@@ -86,18 +108,21 @@ kept-closed setup seen state kept = record {
 
 -- ---- one of the sessions changes
 
-at-place : {A : Type 0} (Q : ℕ → A → Type 0) (xs : List A) (i j : ℕ) (y d : A) → i ≡ j → j < length (slice_set xs i y) → Q i y → Q j (slice_index_or (slice_set xs i y) j d)
+at-place : {A : Type 0} (Q : ℕ → A → Type 0) (xs : List A) (i j : ℕ) (y d : A) → i ≡ j → j < length (slice_set xs i y) → Q i y
+    → Q j (slice_index_or (slice_set xs i y) j d)
 at-place Q xs i j y d same below here =
     rw (← same) (rw (get_or-set_same xs i y d (rw same (rw length-set at below))) here)
 
-changed-place : {A : Type 0} (P Q : ℕ → A → Type 0) (xs : List A) (i : ℕ) (y : A) → ((j : ℕ) (x : A) → j ≢ i → P j x → Q j x) → Q i y → AllNumbered P xs → (j : ℕ) (d : A)
+changed-place : {A : Type 0} (P Q : ℕ → A → Type 0) (xs : List A) (i : ℕ) (y : A) → ((j : ℕ) (x : A) → j ≢ i → P j x → Q j x) → Q i y → AllNumbered P xs
+    → (j : ℕ) (d : A)
     → j < length (slice_set xs i y) → ((i == j) ≡ true) × (i ≡ j) ⊎ ((i == j) ≡ false) × (i ≢ j) → Q j (slice_index_or (slice_set xs i y) j d)
 changed-place P Q xs i y others here each j d below (inl p) = at-place Q xs i j y d p.1 below here
 changed-place P Q xs i y others here each j d below (inr p) =
     let other : j ≢ i = λ q. p.1 (sym q) in
     rw (get_or-set_other xs i j y d other) (others j (slice_index_or xs j d) other (each j d (rw length-set at below)))
 
-pub changed-one : {A : Type 0} (P Q : ℕ → A → Type 0) (xs : List A) (i : ℕ) (y : A) → ((j : ℕ) (x : A) → j ≢ i → P j x → Q j x) → Q i y → AllNumbered P xs → AllNumbered Q (slice_set xs i y)
+pub changed-one : {A : Type 0} (P Q : ℕ → A → Type 0) (xs : List A) (i : ℕ) (y : A) → ((j : ℕ) (x : A) → j ≢ i → P j x → Q j x) → Q i y → AllNumbered P xs
+    → AllNumbered Q (slice_set xs i y)
 changed-one P Q xs i y others here each j d below = changed-place P Q xs i y others here each j d below (eqb_tells i j)
 
 -- the item of a serial, written in place
@@ -118,5 +143,6 @@ pub is-session : (s : SessionNo) → is_session s (Session s) ≡ true
 is-session s = grind (arith, nat_tests)
 
 -- what is owed, where one of them owes as before
-pub sum-same : {A : Type 0} (f : A → ℕ) (xs : List A) (i : ℕ) (y x : A) → i < length xs → x ≡ slice_index_or xs i x → f y ≡ f x → sum_by f (slice_set xs i y) ≡ sum_by f xs
+pub sum-same : {A : Type 0} (f : A → ℕ) (xs : List A) (i : ℕ) (y x : A) → i < length xs → x ≡ slice_index_or xs i x → f y ≡ f x
+    → sum_by f (slice_set xs i y) ≡ sum_by f xs
 sum-same f xs i y x below is same = omega (arith, sum_by-set f xs i y x below, same, ap f is)

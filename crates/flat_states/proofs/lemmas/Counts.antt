@@ -29,7 +29,8 @@ pub seen-count : (setup : Setup) (h : List Entry) (s : SessionNo) → taken setu
 seen-count setup h s = omega (arith, taken-made setup s h, length-drop (taken setup h s) (presents s h))
 
 -- what a session's state answers is what the definitions say
-pub kept-waiting : (setup : Setup) (seen : Seen) (state : SessionState) → IsKept setup seen state → (gone : Bool) → state.let_go ≡ gone → cond gone (length state.going.items) (length state.queue.waiting) ≡ length seen.waiting
+pub kept-waiting : (setup : Setup) (seen : Seen) (state : SessionState) → IsKept setup seen state → (gone : Bool) → state.let_go ≡ gone
+    → cond gone (length state.going.items) (length state.queue.waiting) ≡ length seen.waiting
 kept-waiting setup seen state kept true gone =
     ap length kept.going ∙ length-map seen.going release_of ∙ ap length (kept.let_go gone).2
 kept-waiting setup seen state kept false gone =
@@ -45,7 +46,8 @@ kept-taken setup seen state kept count true gone =
     omega (arith, waits, ap (λ (a : Account). a.presents) kept.account, count)
 kept-taken setup seen state kept count false gone = kept.taken gone
 
-pub taken-kept : (setup : Setup) (seen : Seen) (state : SessionState) → IsKept setup seen state → seen.taken + length seen.waiting ≡ seen.account.presents → taken_in state ≡ seen.taken
+pub taken-kept : (setup : Setup) (seen : Seen) (state : SessionState) → IsKept setup seen state → seen.taken + length seen.waiting ≡ seen.account.presents
+    → taken_in state ≡ seen.taken
 taken-kept setup seen state kept count = kept-taken setup seen state kept count state.let_go refl
 
 pub credits-kept : (setup : Setup) (seen : Seen) (state : SessionState) → IsKept setup seen state → seen.taken + length seen.waiting ≡ seen.account.presents
@@ -60,7 +62,8 @@ pub same-number : (s : SessionNo) → 0 < s.0 → number (s.0 - 1) ≡ s
 same-number s some = ap (λ (n : ℕ). let r : SessionNo = record { 0 = n } in r) (one-back s.0 some)
 
 -- what holds of all by their places holds of a session
-pub at-session : {A : Type 0} (P : SessionNo → A → Type 0) (xs : List A) (s : SessionNo) (x : A) → AllNumbered (λ i. P (number i)) xs → 0 < s.0 → s.0 ≤ length xs → x ≡ slice_index_or xs (s.0 - 1) x → P s x
+pub at-session : {A : Type 0} (P : SessionNo → A → Type 0) (xs : List A) (s : SessionNo) (x : A) → AllNumbered (λ i. P (number i)) xs → 0 < s.0
+    → s.0 ≤ length xs → x ≡ slice_index_or xs (s.0 - 1) x → P s x
 at-session P xs s x each some few is =
     let here : P (number (s.0 - 1)) (slice_index_or xs (s.0 - 1) x) = each (s.0 - 1) x (omega arith) in
     rw (← same-number s some) (rw is here)
@@ -69,7 +72,8 @@ pub declared-some : (m n : ℕ) → (nat_lt 0 m && nat_le m n) ≡ true → (0 <
 declared-some m n h = (lt-of 0 m (and-left (nat_lt 0 m) (nat_le m n) h), le-of m n (and-right (nat_lt 0 m) (nat_le m n) h))
 
 -- what is kept of a declared session
-pub kept-session : (setup : Setup) (h : List Entry) (clock : Clock) (fences views : List Bool) (sessions : List SessionState) (s : SessionNo) (state : SessionState) → Stands setup h clock fences views sessions
+pub kept-session : (setup : Setup) (h : List Entry) (clock : Clock) (fences views : List Bool) (sessions : List SessionState) (s : SessionNo)
+    (state : SessionState) → Stands setup h clock fences views sessions
     → IsTrue (is_declared setup s) → state ≡ slice_index_or sessions (s.0 - 1) state → IsKept setup (seen_of setup h s) state
 kept-session setup h clock fences views sessions s state stands declared is =
     let here = declared-some s.0 setup.sessions declared in

@@ -21,7 +21,8 @@ use Rattle.flat_facts.proofs.lemmas.Between.{is_viewport, posted-between}
 use Rattle.flat_states.proofs.lemmas.Steps.{Changed, legal-entered, posts-none, room-entered, stands-entered}
 
 -- where nothing is posted
-pub room-quiet : (m : Machine) (who : Actor) (line : ℕ) (calls : List Call) (kind : Kind) (reply : Reply) → MayCall m who calls kind → Legal m.setup (m.history ▹ entry_of who line calls kind reply)
+pub room-quiet : (m : Machine) (who : Actor) (line : ℕ) (calls : List Call) (kind : Kind) (reply : Reply) → MayCall m who calls kind
+    → Legal m.setup (m.history ▹ entry_of who line calls kind reply)
     → is_begin kind ≡ false → is_finish kind ≡ false → is_viewport kind ≡ false
     → (log after : Logged) (owed dues then : ℕ) → log.history ≡ m.history → HasRoom m.setup m.shares log owed dues
     → after.history ≡ (log.history ▹ entry_of who line calls kind reply) → after.posts ≡ log.posts → after.room + 1 ≡ log.room → after.post_room ≡ log.post_room
@@ -44,17 +45,22 @@ pub record Entered (log then : Logged) (e : Entry) : Type 0 where
   pub post_room : then.post_room ≡ log.post_room
 
 -- all that is kept, after an entry that posts nothing and owes nothing
-pub kept-entered : (m : Machine) (who : Actor) (line : ℕ) (calls : List Call) (kind : Kind) (reply : Reply) → MayCall m who calls kind → reply ≡ reply_to m.setup m.history who calls kind
+pub kept-entered : (m : Machine) (who : Actor) (line : ℕ) (calls : List Call) (kind : Kind) (reply : Reply) → MayCall m who calls kind
+    → reply ≡ reply_to m.setup m.history who calls kind
     → is_begin kind ≡ false → is_finish kind ≡ false → is_viewport kind ≡ false
-    → (clock : Clock) (fences fences_now views views_now : List Bool) (sessions after : List SessionState) (log then : Logged) (owed dues dues_now : ℕ) → log.history ≡ m.history
+    → (clock : Clock) (fences fences_now views views_now : List Bool) (sessions after : List SessionState) (log then : Logged) (owed dues dues_now : ℕ)
+    → log.history ≡ m.history
     → Stands m.setup log.history clock fences views sessions → HasRoom m.setup m.shares log owed dues
     → Changed m (entry_of who line calls kind reply) fences fences_now views views_now → length after ≡ length sessions
     → AllNumbered (λ i. IsKept m.setup (seen_of m.setup (m.history ▹ entry_of who line calls kind reply) (number i))) after → dues_now ≡ dues
     → Entered log then (entry_of who line calls kind reply)
     → Stands m.setup then.history (clock_then kind clock) fences_now views_now after × HasRoom m.setup m.shares then owed dues_now
-kept-entered m who line calls kind reply call replied no_begin no_finish no_viewport clock fences fences_now views views_now sessions after log then owed dues dues_now same stands room changed count each owes is =
+kept-entered m who line calls kind reply call replied no_begin no_finish no_viewport clock fences fences_now views views_now sessions after log then
+    owed dues dues_now same stands room changed count each owes is =
     let old : Stands m.setup m.history clock fences views sessions = rw (← same) stands in
     let now : then.history ≡ (m.history ▹ entry_of who line calls kind reply) = rw is.history (rw same refl) in (
-      rw now (stands-entered m who line calls kind reply call replied no_begin no_finish clock fences fences_now views views_now sessions after old changed count each),
-      room-quiet m who line calls kind reply call (old.legal, legal-entered m who line calls kind reply call replied) no_begin no_finish no_viewport log then owed dues dues_now same room is.history is.posts is.room is.post_room (omega (arith, owes)),
+      rw now (stands-entered m who line calls kind reply call replied no_begin no_finish clock fences fences_now views views_now sessions after old changed
+          count each),
+      room-quiet m who line calls kind reply call (old.legal, legal-entered m who line calls kind reply call replied) no_begin no_finish no_viewport log then
+          owed dues dues_now same room is.history is.posts is.room is.post_room (omega (arith, owes)),
     )

@@ -26,7 +26,8 @@ use Rattle.flat_snap.specs.declared.snapshot.Snapshot.{Snapshot}
 use Rattle.flat_rules.specs.Legal.{waited}
 use Rattle.flat_facts.specs.Begins.{entry_of}
 use Rattle.flat_states.specs.declared.state.SessionState.{SessionState}
-use Rattle.flat_states.specs.Presents.{IsPlaced, after_entry, after_reply, entered_by, entered_in, next_present, present_reply, reply_to_close, use_reply, with_waiting}
+use Rattle.flat_states.specs.Presents.{IsPlaced, after_entry, after_reply, entered_by, entered_in, next_present, present_reply, reply_to_close, use_reply}
+use Rattle.flat_states.specs.Presents.{with_waiting}
 use Rattle.flat_states.proofs.lemmas.Changes.{changed-set}
 
 -- a session's state after a view, where its end was free or not, and after the use of a viewport end
@@ -53,7 +54,8 @@ pub heard-view : (p : PairNo) (is_held : Bool) (state : SessionState) → after_
 heard-view p true state = refl
 heard-view p false state = refl
 
-pub heard-viewport : (p : PairNo) (props : ViewportProps) (is_held : Bool) (state : SessionState) → after_reply (Viewport p props) (use_reply is_held) state ≡ after_viewport is_held state
+pub heard-viewport : (p : PairNo) (props : ViewportProps) (is_held : Bool) (state : SessionState)
+    → after_reply (Viewport p props) (use_reply is_held) state ≡ after_viewport is_held state
 heard-viewport p props true state = refl
 heard-viewport p props false state = refl
 
@@ -67,7 +69,8 @@ heard-get get (Unmet value) state = refl
 heard-get get (Polled count) state = refl
 heard-get get (Closed error reason) state = refl
 
-pub heard-close : (why : Option Reason) (state : SessionState) → after_reply (Close why) (reply_to_close why) state ≡ (let shut : SessionState = record state { closed = true } in shut)
+pub heard-close : (why : Option Reason) (state : SessionState)
+    → after_reply (Close why) (reply_to_close why) state ≡ (let shut : SessionState = record state { closed = true } in shut)
 heard-close None state = refl
 heard-close (Some reason) state = refl
 
@@ -78,17 +81,20 @@ heard-wait c wanted value state = by_test (nat_le wanted value)
     by_test true = refl
     by_test false = refl
 
-pub heard-present : (args copy : PresentArgs) (snap : Arc Snapshot Global) (state : SessionState) → after_reply (Present args) (present_reply state) (with_waiting state snap copy) ≡ after_present state snap copy
+pub heard-present : (args copy : PresentArgs) (snap : Arc Snapshot Global) (state : SessionState)
+    → after_reply (Present args) (present_reply state) (with_waiting state snap copy) ≡ after_present state snap copy
 heard-present args copy snap state = by_test (nat_lt 0 (credits_of state.queue)) refl
   where
-    by_test : (b : Bool) → nat_lt 0 (credits_of state.queue) ≡ b → after_reply (Present args) (present_reply state) (with_waiting state snap copy) ≡ after_present state snap copy
+    by_test : (b : Bool) → nat_lt 0 (credits_of state.queue) ≡ b
+        → after_reply (Present args) (present_reply state) (with_waiting state snap copy) ≡ after_present state snap copy
     by_test true is = rw is refl
     by_test false is = rw is refl
 
 -- ---- all states
 
 -- what an entry of a session makes of them
-pub entered-of : (e : Entry) (s : SessionNo) → e.actor ≡ Session s → (sessions : List SessionState) (state : SessionState) → IsPlaced (length sessions) (Session s) → state ≡ slice_index_or sessions (s.0 - 1) state
+pub entered-of : (e : Entry) (s : SessionNo) → e.actor ≡ Session s → (sessions : List SessionState) (state : SessionState)
+    → IsPlaced (length sessions) (Session s) → state ≡ slice_index_or sessions (s.0 - 1) state
     → slice_set sessions (s.0 - 1) (after_entry e state) ≡ entered_in e sessions
 entered-of e s mine sessions state placed is =
     let below : s.0 - 1 < length sessions = omega (arith, placed.0, placed.1) in
@@ -96,7 +102,8 @@ entered-of e s mine sessions state placed is =
     ap (λ (x : SessionState). slice_set sessions (s.0 - 1) (after_entry e x)) is ∙ sym (changed-set (after_entry e) sessions (s.0 - 1) state below)
     ∙ ap (λ (n : ℕ). changed_at n (after_entry e) sessions) place ∙ sym (ap (λ (who : Actor). entered_by who e sessions) mine)
 
-pub entered-set : (s : SessionNo) (line : ℕ) (calls : List Call) (kind : Kind) (reply : Reply) (sessions : List SessionState) (state : SessionState) → IsPlaced (length sessions) (Session s) → state ≡ slice_index_or sessions (s.0 - 1) state
+pub entered-set : (s : SessionNo) (line : ℕ) (calls : List Call) (kind : Kind) (reply : Reply) (sessions : List SessionState) (state : SessionState)
+    → IsPlaced (length sessions) (Session s) → state ≡ slice_index_or sessions (s.0 - 1) state
     → entered_in (entry_of (Session s) line calls kind reply) sessions ≡ slice_set sessions (s.0 - 1) (after_reply kind reply state)
 entered-set s line calls kind reply sessions state placed is = sym (entered-of (entry_of (Session s) line calls kind reply) s refl sessions state placed is)
 
@@ -106,7 +113,8 @@ set-twice (z ∷ xs) zero x y = refl
 set-twice (z ∷ xs) (suc i) x y = ap (λ ys. z ∷ ys) (set-twice xs i x y)
 
 -- where something else of that session was changed before
-pub entered-changed : (s : SessionNo) (line : ℕ) (calls : List Call) (kind : Kind) (reply : Reply) (sessions : List SessionState) (new : SessionState) → IsPlaced (length sessions) (Session s)
+pub entered-changed : (s : SessionNo) (line : ℕ) (calls : List Call) (kind : Kind) (reply : Reply) (sessions : List SessionState) (new : SessionState)
+    → IsPlaced (length sessions) (Session s)
     → entered_in (entry_of (Session s) line calls kind reply) (slice_set sessions (s.0 - 1) new) ≡ slice_set sessions (s.0 - 1) (after_reply kind reply new)
 entered-changed s line calls kind reply sessions new placed =
     let some : 0 < s.0 = placed.0 in
@@ -118,10 +126,12 @@ entered-changed s line calls kind reply sessions new placed =
     ∙ set-twice sessions (s.0 - 1) new (after_reply kind reply new)
 
 -- what waits more changes nothing else
-pub waiting-alone : (state : SessionState) (snap : Arc Snapshot Global) (args : PresentArgs) → ((with_waiting state snap args).closed ≡ state.closed) × ((with_waiting state snap args).account ≡ state.account)
+pub waiting-alone : (state : SessionState) (snap : Arc Snapshot Global) (args : PresentArgs)
+    → ((with_waiting state snap args).closed ≡ state.closed) × ((with_waiting state snap args).account ≡ state.account)
 waiting-alone state snap args = by_test (nat_lt 0 (credits_of state.queue)) refl
   where
-    by_test : (b : Bool) → nat_lt 0 (credits_of state.queue) ≡ b → ((with_waiting state snap args).closed ≡ state.closed) × ((with_waiting state snap args).account ≡ state.account)
+    by_test : (b : Bool) → nat_lt 0 (credits_of state.queue) ≡ b
+        → ((with_waiting state snap args).closed ≡ state.closed) × ((with_waiting state snap args).account ≡ state.account)
     by_test true is = rw is (refl, refl)
     by_test false is = rw is (refl, refl)
 
@@ -134,7 +144,8 @@ changed-none f same n (x ∷ xs) = rw (same x, changed-none f same (n - 1) xs) (
     by_test false = refl
 
 -- one whose reply decides nothing
-pub entered-none : (who : Actor) (line : ℕ) (calls : List Call) (kind : Kind) (reply : Reply) (sessions : List SessionState) → ((state : SessionState) → after_reply kind reply state ≡ state)
+pub entered-none : (who : Actor) (line : ℕ) (calls : List Call) (kind : Kind) (reply : Reply) (sessions : List SessionState)
+    → ((state : SessionState) → after_reply kind reply state ≡ state)
     → entered_in (entry_of who line calls kind reply) sessions ≡ sessions
 entered-none Display line calls kind reply sessions same = refl
 entered-none (Probe p) line calls kind reply sessions same = refl

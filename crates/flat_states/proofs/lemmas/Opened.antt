@@ -57,13 +57,19 @@ three-of a b c d e f g all =
     (and-right (a && b) c to_c, and-right (a && b && c && d) e to_e, and-right (a && b && c && d && e && f) g all)
 
 -- there are few sessions, pairs and fences
-pub few-declared : (setup : Setup) → is_within_limits setup ≡ true → (setup.sessions ≤ SESSIONS_MAX) × (length setup.pairs ≤ PAIRS_MAX) × (length setup.fences ≤ FENCES_MAX)
+pub few-declared : (setup : Setup) → is_within_limits setup ≡ true
+    → (setup.sessions ≤ SESSIONS_MAX) × (length setup.pairs ≤ PAIRS_MAX) × (length setup.fences ≤ FENCES_MAX)
 few-declared setup limits =
-    let three = three-of (is_ratio setup.ratio && is_within SIDE_MAX setup.width) (is_within SIDE_MAX setup.height) (is_within SESSIONS_MAX setup.sessions) (nat_le setup.probes PROBES_MAX) (nat_le (length setup.pairs) PAIRS_MAX)
-    (nat_le (length setup.buffers) BUFFER_COLLECTIONS_MAX) (nat_le (length setup.fences) FENCES_MAX) limits in
-    (le-of setup.sessions SESSIONS_MAX (and-right (nat_lt 0 setup.sessions) (nat_le setup.sessions SESSIONS_MAX) three.0), le-of (length setup.pairs) PAIRS_MAX three.1, le-of (length setup.fences) FENCES_MAX three.2)
+    let three = three-of (is_ratio setup.ratio && is_within SIDE_MAX setup.width) (is_within SIDE_MAX setup.height) (is_within SESSIONS_MAX setup.sessions)
+    (nat_le setup.probes PROBES_MAX) (nat_le (length setup.pairs) PAIRS_MAX)
+    (nat_le (length setup.buffers) BUFFER_COLLECTIONS_MAX) (nat_le (length setup.fences) FENCES_MAX) limits in (
+      le-of setup.sessions SESSIONS_MAX (and-right (nat_lt 0 setup.sessions) (nat_le setup.sessions SESSIONS_MAX) three.0),
+      le-of (length setup.pairs) PAIRS_MAX three.1,
+      le-of (length setup.fences) FENCES_MAX three.2,
+    )
 
-pub opened : (setup : Setup) (shares : List ℕ) (log : Logged) (fences views : List Bool) (sessions : List SessionState) (total : ℕ) → is_within_limits setup ≡ true → length shares ≡ setup.sessions + 1 → sum shares < 2 ^ 32
+pub opened : (setup : Setup) (shares : List ℕ) (log : Logged) (fences views : List Bool) (sessions : List SessionState) (total : ℕ)
+    → is_within_limits setup ≡ true → length shares ≡ setup.sessions + 1 → sum shares < 2 ^ 32
     → total ≡ sum shares → log.history ≡ [] → log.posts ≡ [] → total ≤ log.room → length fences ≡ length setup.fences → ((f : FenceNo) → has fences f ≡ false)
     → length views ≡ length setup.pairs → ((p : PairNo) → has_end views p ≡ false) → length sessions ≡ setup.sessions → All IsNew sessions
     → Stands setup log.history (clock_of setup []) fences views sessions × HasRoom setup shares log 0 (sum_by due sessions + 0)

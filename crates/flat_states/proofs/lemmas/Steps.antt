@@ -38,7 +38,8 @@ use Rattle.flat_facts.proofs.lemmas.Tests.{or-false}
 use Rattle.flat_facts.proofs.lemmas.ViewUses.{viewed-more}
 
 -- an entry that an actor may make, with the reply of the rules, is legal
-pub legal-entered : (m : Machine) (who : Actor) (line : ℕ) (calls : List Call) (kind : Kind) (reply : Reply) → MayCall m who calls kind → reply ≡ reply_to m.setup m.history who calls kind
+pub legal-entered : (m : Machine) (who : Actor) (line : ℕ) (calls : List Call) (kind : Kind) (reply : Reply) → MayCall m who calls kind
+    → reply ≡ reply_to m.setup m.history who calls kind
     → LegalEntry m.setup m.history (entry_of who line calls kind reply)
 legal-entered m who line calls kind reply call replied = record { may = call.may; reply = replied }
 
@@ -46,7 +47,8 @@ pub frames-quiet : (h : List Entry) (e : Entry) → is_finish e.kind ≡ false �
 frames-quiet h e no_finish = rw no_finish refl
 
 -- the clock goes on, at the pixel ratio that the entry may set
-pub clock-quiet : (setup : Setup) (h : List Entry) (e : Entry) → is_begin e.kind ≡ false → is_finish e.kind ≡ false → clock_of setup (h ▹ e) ≡ clock_then e.kind (clock_of setup h)
+pub clock-quiet : (setup : Setup) (h : List Entry) (e : Entry) → is_begin e.kind ≡ false → is_finish e.kind ≡ false
+    → clock_of setup (h ▹ e) ≡ clock_then e.kind (clock_of setup h)
 clock-quiet setup h e no_begin no_finish = rw (frames-quiet h e no_finish, no_begin, no_finish) refl
 
 -- A call that may change fences, view ends and sessions as its entry says leaves all that stands.
@@ -57,7 +59,8 @@ pub record Changed (m : Machine) (e : Entry) (fences fences_now views views_now 
   pub viewed : (p : PairNo) → has_end views_now p ≡ (has_end views p || (uses_view p e.kind && is_done e.reply))
 
 -- an entry of a kind that signals no fence and uses no view end
-pub unchanged : (m : Machine) (e : Entry) (fences views : List Bool) → ((sessions : List SessionNo) (g : SessionNo → List Published) (f : FenceNo) → signals sessions e.kind g f ≡ false)
+pub unchanged : (m : Machine) (e : Entry) (fences views : List Bool)
+    → ((sessions : List SessionNo) (g : SessionNo → List Published) (f : FenceNo) → signals sessions e.kind g f ≡ false)
     → ((p : PairNo) → uses_view p e.kind ≡ false) → Changed m e fences fences views views
 unchanged m e fences views no_signal no_use = record {
   fence_size = refl;
@@ -67,7 +70,8 @@ unchanged m e fences views no_signal no_use = record {
 }
 
 -- a signal
-pub signalled : (m : Machine) (who : Actor) (line : ℕ) (calls : List Call) (reply : Reply) (f : FenceNo) → {fences fences_now views : List Bool} → length fences_now ≡ length fences
+pub signalled : (m : Machine) (who : Actor) (line : ℕ) (calls : List Call) (reply : Reply) (f : FenceNo) → {fences fences_now views : List Bool}
+    → length fences_now ≡ length fences
     → ((g : FenceNo) → has fences_now g ≡ (has fences g || f.0 == g.0)) → Changed m (entry_of who line calls (Signal f) reply) fences fences_now views views
 signalled m who line calls reply f {views = views} size members = record {
   fence_size = size;
@@ -76,9 +80,11 @@ signalled m who line calls reply f {views = views} size members = record {
   viewed = λ p. or-false (has_end views p);
 }
 
-pub stands-entered : (m : Machine) (who : Actor) (line : ℕ) (calls : List Call) (kind : Kind) (reply : Reply) → MayCall m who calls kind → reply ≡ reply_to m.setup m.history who calls kind
+pub stands-entered : (m : Machine) (who : Actor) (line : ℕ) (calls : List Call) (kind : Kind) (reply : Reply) → MayCall m who calls kind
+    → reply ≡ reply_to m.setup m.history who calls kind
     → is_begin kind ≡ false → is_finish kind ≡ false
-    → (clock : Clock) (fences fences_now views views_now : List Bool) (sessions after : List SessionState) → Stands m.setup m.history clock fences views sessions
+    → (clock : Clock) (fences fences_now views views_now : List Bool) (sessions after : List SessionState)
+    → Stands m.setup m.history clock fences views sessions
     → Changed m (entry_of who line calls kind reply) fences fences_now views views_now → length after ≡ length sessions
     → AllNumbered (λ i. IsKept m.setup (seen_of m.setup (m.history ▹ entry_of who line calls kind reply) (number i))) after
     → Stands m.setup (m.history ▹ entry_of who line calls kind reply) (clock_then kind clock) fences_now views_now after
@@ -100,7 +106,8 @@ below-more m n le = grind (arith, nat_tests)
 
 place-within : (setup : Setup) (kind : Kind) (who : Actor) → may_act setup kind who ≡ true → seat_number who < setup.sessions + 1
 place-within setup kind Display may = omega arith
-place-within setup kind (Session s) may = below-more s.0 setup.sessions (and-right (nat_lt 0 s.0) (nat_le s.0 setup.sessions) (and-right (session_may kind) (is_declared setup s) may))
+place-within setup kind (Session s) may = below-more s.0 setup.sessions
+    (and-right (nat_lt 0 s.0) (nat_le s.0 setup.sessions) (and-right (session_may kind) (is_declared setup s) may))
 place-within setup kind (Probe p) may = cc
 
 -- the actors of a legal history have shares
@@ -136,7 +143,8 @@ owed-small m who calls kind call legal log owed dues same room =
     omega (arith, few-history m who calls kind call legal log owed dues same room, room.total, small)
 
 -- more room for posts changes nothing
-pub room-more : (setup : Setup) (shares : List ℕ) (log then : Logged) (owed dues dues_now : ℕ) → HasRoom setup shares log owed dues → then.history ≡ log.history → then.posts ≡ log.posts → then.room ≡ log.room
+pub room-more : (setup : Setup) (shares : List ℕ) (log then : Logged) (owed dues dues_now : ℕ) → HasRoom setup shares log owed dues → then.history ≡ log.history
+    → then.posts ≡ log.posts → then.room ≡ log.room
     → log.post_room ≤ then.post_room → dues_now ≡ dues → HasRoom setup shares then owed dues_now
 room-more setup shares log then owed dues dues_now room history posted same more as_many = record {
   limits = room.limits;
@@ -156,7 +164,8 @@ posts-none setup h e none = rw none (append-nil _)
 -- room after an entry, whatever was posted
 pub room-entered : (m : Machine) (who : Actor) (line : ℕ) (calls : List Call) (kind : Kind) (reply : Reply) → MayCall m who calls kind
     → (log after : Logged) (owed owes dues then : ℕ) → log.history ≡ m.history → HasRoom m.setup m.shares log owed dues
-    → after.history ≡ (log.history ▹ entry_of who line calls kind reply) → after.posts ≡ posts m.setup (m.history ▹ entry_of who line calls kind reply) → after.room + 1 ≡ log.room
+    → after.history ≡ (log.history ▹ entry_of who line calls kind reply) → after.posts ≡ posts m.setup (m.history ▹ entry_of who line calls kind reply)
+    → after.room + 1 ≡ log.room
     → owes ≤ after.post_room → then ≤ owes → length after.posts + owes ≤ 2 * suc (length m.history)
     → HasRoom m.setup m.shares after owes then
 room-entered m who line calls kind reply call log after owed owes dues then same room history posted spent reserved enough small =

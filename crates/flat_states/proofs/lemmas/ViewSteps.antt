@@ -47,43 +47,58 @@ and-true : (b : Bool) → b ≡ (b && true)
 and-true true = refl
 and-true false = refl
 
-used-already : (b : Bool) (views : List Bool) (p q : PairNo) → has_end views p ≡ true → (p.0 == q.0) ≡ b → (has_end views q || b) ≡ (has_end views q || (b && false))
+used-already : (b : Bool) (views : List Bool) (p q : PairNo) → has_end views p ≡ true → (p.0 == q.0) ≡ b
+    → (has_end views q || b) ≡ (has_end views q || (b && false))
 used-already true views p q used is =
     let here : has_end views q ≡ true = subst (λ (r : PairNo). has_end views r ≡ true) (same-pair p q is) used in
     rw here refl
 used-already false views p q used is = refl
 
-pub view-changed : (views now : List Bool) (p : PairNo) (used : Bool) → has_end views p ≡ used → ((q : PairNo) → has_end now q ≡ (has_end views q || p.0 == q.0))
+pub view-changed : (views now : List Bool) (p : PairNo) (used : Bool) → has_end views p ≡ used
+    → ((q : PairNo) → has_end now q ≡ (has_end views q || p.0 == q.0))
     → (q : PairNo) → has_end now q ≡ (has_end views q || (p.0 == q.0 && is_done (use_reply (not used))))
 view-changed views now p true is members q = members q ∙ used-already (p.0 == q.0) views p q is refl
 view-changed views now p false is members q = members q ∙ ap (λ b. has_end views q || b) (and-true (p.0 == q.0))
 
-some-twice : {A B : Type 0} (f : A → B) (g : B → Bool) (xs : List A) (n : ℕ) → unwrap_or (option_map g (option_map f (slice_get xs n))) false ≡ true → n < length xs
+some-twice : {A B : Type 0} (f : A → B) (g : B → Bool) (xs : List A) (n : ℕ) → unwrap_or (option_map g (option_map f (slice_get xs n))) false ≡ true
+    → n < length xs
 some-twice f g [] n owned = absurd (cc)
 some-twice f g (x ∷ xs) zero owned = omega arith
 some-twice f g (x ∷ xs) (suc n) owned = let more : n < length xs = some-twice f g xs n owned in omega (arith, more)
 
 -- a pair whose view a session may make is declared
-pub view-below : (m : Machine) (s : SessionNo) (calls : List Call) (p : PairNo) (n : ℕ) → MayCall m (Session s) calls (View p) → n ≡ length m.setup.pairs → p.0 < n
+pub view-below : (m : Machine) (s : SessionNo) (calls : List Call) (p : PairNo) (n : ℕ) → MayCall m (Session s) calls (View p) → n ≡ length m.setup.pairs
+    → p.0 < n
 view-below m s calls p n call same =
     rw same
-    (some-twice (λ pair. pair.view) (λ t. t.0 == s.0) m.setup.pairs p.0 (and-left (owns_in_kind m.setup s (View p)) (list_all (owns_in_call m.setup s) calls) call.may.owned))
+    (some-twice (λ pair. pair.view) (λ t. t.0 == s.0) m.setup.pairs p.0
+    (and-left (owns_in_kind m.setup s (View p)) (list_all (owns_in_call m.setup s) calls) call.may.owned))
 
 -- ---- what is kept of the session
 
 seen-viewed : (setup : Setup) (h : List Entry) (s : SessionNo) (line : ℕ) (calls : List Call) (p : PairNo)
-    → seen_of setup (h ▹ entry_of (Session s) line calls (View p) Done) s ≡ record (seen_of setup h s) { account = record (account_of setup h s) { view = Some p } }
+    → seen_of setup (h ▹ entry_of (Session s) line calls (View p) Done) s
+    ≡ record (seen_of setup h s) { account = record (account_of setup h s) { view = Some p } }
 seen-viewed setup h s line calls p =
     let e : Entry = entry_of (Session s) line calls (View p) Done in
-    rw (closed-quiet h e s refl, presents-quiet h e s (λ made. refl), is-session s, taken-quiet setup h e s refl, going-quiet setup h e s refl, took-quiet setup h e s refl refl) refl
+    rw (
+      closed-quiet h e s refl,
+      presents-quiet h e s (λ made. refl),
+      is-session s,
+      taken-quiet setup h e s refl,
+      going-quiet setup h e s refl,
+      took-quiet setup h e s refl refl,
+    ) refl
 
 plain-view : (s : SessionNo) (line : ℕ) (calls : List Call) (p : PairNo) → IsPlainOne (entry_of (Session s) line calls (View p) refused_token)
 plain-view s line calls p = record { no_begin = refl; no_finish = refl; no_poll = refl; no_view = refl; none = λ made. refl }
 
-pub view-kept : (setup : Setup) (h : List Entry) (s : SessionNo) (line : ℕ) (calls : List Call) (p : PairNo) (is_held : Bool) (state : SessionState) → IsKept setup (seen_of setup h s) state
+pub view-kept : (setup : Setup) (h : List Entry) (s : SessionNo) (line : ℕ) (calls : List Call) (p : PairNo) (is_held : Bool) (state : SessionState)
+    → IsKept setup (seen_of setup h s) state
     → IsKept setup (seen_of setup (h ▹ entry_of (Session s) line calls (View p) (use_reply is_held)) s) (after_view p is_held state)
 view-kept setup h s line calls p true state kept =
-    rw (seen-viewed setup h s line calls p) (kept-account setup (seen_of setup h s) state (λ (a : Account). let b : Account = record a { view = Some p } in b) (λ a. refl) kept)
+    rw (seen-viewed setup h s line calls p) (kept-account setup (seen_of setup h s) state (λ (a : Account). let b : Account = record a { view = Some p } in b)
+    (λ a. refl) kept)
 view-kept setup h s line calls p false state kept =
     rw (seen-closed setup h (entry_of (Session s) line calls (View p) refused_token) s (plain-view s line calls p) refl (is-session s))
     (kept-closed setup (seen_of setup h s) state kept)

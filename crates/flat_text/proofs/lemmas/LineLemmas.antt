@@ -20,11 +20,16 @@ more_few : (parts : List (List ℕ)) → 0 < length parts → length (without_em
 more_few [] some = absurd (omega arith)
 more_few (x ∷ parts) some = omega arith
 
-step_few : (b : Bool) (x n : ℕ) (parts : List (List ℕ)) → 0 < length parts → length (without_empty_end parts) ≤ n → length (without_empty_end (cond b ([] ∷ parts) (onto_first x parts))) ≤ n + 1
+step_few : (b : Bool) (x n : ℕ) (parts : List (List ℕ)) → 0 < length parts → length (without_empty_end parts) ≤ n
+    → length (without_empty_end (cond b ([] ∷ parts) (onto_first x parts))) ≤ n + 1
 step_few true x n parts some few = omega (arith, more_few parts some)
 step_few false x n parts some few = omega (arith, onto_few x parts)
 
 -- no more than it has bytes
 pub lines-few : (text : List ℕ) → length (lines_of text) ≤ length text
 lines-few [] = omega arith
-lines-few (x ∷ text) = omega (arith, step_few (is_feed x) x (length text) (slice_split is_feed text) (omega (arith, length-slice_split is_feed text)) (lines-few text))
+lines-few (x ∷ text) = omega (
+  arith,
+  step_few (is_feed x) x (length text) (slice_split is_feed text) (omega (arith, length-slice_split is_feed text))
+      (lines-few text),
+)

@@ -1,5 +1,7 @@
 -- A word is a number just where it is the decimal text of that number.
-use Rattle.std.proofs.Common.{◌≡◌, ℕ, zero, suc, ◌+◌, ◌*◌, ◌-◌, ◌/◌, ◌%◌, ◌^◌, ◌<◌, ◌≤◌, ◌==◌, Bool, true, false, cond, List, [], ◌∷◌, ◌++◌, length, Option, Some, None, refl, sym, ◌∙◌, ap, arith, rules, append_assoc, ℤ, pos, negsuc, neg_ℤ, nat_lt, get_or, lit<, lit≤, if◌then◌else◌, tests, append-nil, length-append, ◌≢◌, unwrap_or, option_map}
+use Rattle.std.proofs.Common.{◌≡◌, ℕ, zero, suc, ◌+◌, ◌*◌, ◌-◌, ◌/◌, ◌%◌, ◌^◌, ◌<◌, ◌≤◌, ◌==◌, Bool, true, false, cond, List, [], ◌∷◌, ◌++◌, length, Option}
+use Rattle.std.proofs.Common.{Some, None, refl, sym, ◌∙◌, ap, arith, rules, append_assoc, ℤ, pos, negsuc, neg_ℤ, nat_lt, get_or, lit<, lit≤, if◌then◌else◌}
+use Rattle.std.proofs.Common.{tests, append-nil, length-append, ◌≢◌, unwrap_or, option_map}
 use Rattle.std.proofs.lemmas.Bool.Decides.{nat_tests}
 use Rattle.std.proofs.lemmas.Grind.{pow_more}
 use Rattle.std.proofs.Math.Nat.{pow-le-pow_right}
@@ -177,14 +179,17 @@ some_then : {A B : Type 0} (f : A → B) (o : Option A) (y : B) → option_map f
 some_then f None y is = absurd (cc)
 some_then f (Some x) y is = (x, refl, cc)
 
-negative : (c n : ℕ) (cs : List ℕ) (v : ℤ) → c ≡ 45 → neg_ℤ (pos n) ≡ v → 0 < n → decimal n ≡ cs → n < 10 ^ 20 → (signed_decimal v ≡ c ∷ cs) × (unsigned_abs v < 10 ^ 20)
+negative : (c n : ℕ) (cs : List ℕ) (v : ℤ) → c ≡ 45 → neg_ℤ (pos n) ≡ v → 0 < n → decimal n ≡ cs → n < 10 ^ 20
+    → (signed_decimal v ≡ c ∷ cs) × (unsigned_abs v < 10 ^ 20)
 negative c zero cs v minus same more is small = absurd (omega arith)
 negative c (suc n) cs v minus same more is small = rw (← same) (rw minus (ap (λ ds. 45 ∷ ds) is), small)
 
 unsigned : (n : ℕ) (word : List ℕ) (v : ℤ) → pos n ≡ v → decimal n ≡ word → n < 10 ^ 20 → (signed_decimal v ≡ word) × (unsigned_abs v < 10 ^ 20)
 unsigned n word v same is small = rw (← same) (is, small)
 
-signed_spelled : (b : Bool) (c : ℕ) (cs : List ℕ) (v : ℤ) → (c == 45) ≡ b → cond b (option_map (λ n. neg_ℤ (pos n)) (positive cs)) (option_map pos (natural (c ∷ cs))) ≡ Some v → (signed_decimal v ≡ c ∷ cs) × (unsigned_abs v < 10 ^ 20)
+signed_spelled : (b : Bool) (c : ℕ) (cs : List ℕ) (v : ℤ) → (c == 45) ≡ b
+    → cond b (option_map (λ n. neg_ℤ (pos n)) (positive cs)) (option_map pos (natural (c ∷ cs))) ≡ Some v
+    → (signed_decimal v ≡ c ∷ cs) × (unsigned_abs v < 10 ^ 20)
 signed_spelled true c cs v test is =
     let found = some_then (λ n. neg_ℤ (pos n)) (positive cs) v is in
     let spelled = decimal-positive cs found.0 found.1 in

@@ -74,4 +74,8 @@ returns-clause-decided c = λ setup shown other fit fit' group parents agree s i
     connected_joined setup other fit' s (connected.0, connected-in-both setup shown other fit group parents agree connected.0 s is connected.1))
     (λ joined.
     let connected = joined_connected setup other fit' s joined in
-    connected_joined setup shown fit s (connected.0, connected-in-both setup other shown fit' group parents (λ t in_group. sym (agree t in_group)) connected.0 s is connected.1))
+    connected_joined setup shown fit s (
+      connected.0,
+      connected-in-both setup other shown fit' group parents (λ t in_group. sym (agree t in_group)) connected.0 s
+          is connected.1,
+    ))

@@ -15,5 +15,6 @@ returns-clause-tree c = λ setup shown fit.
 pub returns-clause-few : goal.returns-clause-few
 returns-clause-few c = λ setup shown fit.
     let sessions : sessions_of (view_nodes setup shown) ≡ joined_sessions setup shown = c.views_follow_links.ensures.sessions setup shown in
-    let counted : length (sessions_of (view_nodes setup shown)) ≡ length (view_nodes setup shown) = length-map (view_nodes setup shown) (λ (v : ViewNode). v.session.0) in
+    let counted : length (sessions_of (view_nodes setup shown)) ≡ length (view_nodes setup shown) =
+    length-map (view_nodes setup shown) (λ (v : ViewNode). v.session.0) in
     omega (arith, counted, ap length sessions, c.sessions_are_few.ensures setup shown fit)

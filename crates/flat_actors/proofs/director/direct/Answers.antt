@@ -24,7 +24,8 @@ loop-place-init g c = record {
   number = c.requires.number;
   kinds = refl;
   same = refl;
-  published = subst (λ (s : DisplayView). PublishedStand c.args.lent.now.script.now (history_of s.seen) c.args.published.now) (sym c.requires.fresh) (published_none c.args.lent.now.script.now c.args.published.now c.requires.unpublished);
+  published = subst (λ (s : DisplayView). PublishedStand c.args.lent.now.script.now (history_of s.seen) c.args.published.now) (sym c.requires.fresh)
+      (published_none c.args.lent.now.script.now c.args.published.now c.requires.unpublished);
   home = refl;
 }
 
@@ -50,14 +51,19 @@ loop-place-preserved g c =
     let now_seen : List Entry = history_of (hand_seat c.in-Ok.next).seen in
     let set : c.end_line.new.film.set ≡ c.direct_next.new.film.set = ap (λ (f : Film). f.set) sent.others in
     record {
-      stands = hand_last script c.args.lent.now.stage.now (c.loop-place.place + 1) c.in-Ok.next c.direct_next.new.film c.end_line.new.film sent.others c.in-Ok-end_line.ensures.stays now.stands;
-      seen = seen_counted _ _ (finished script.setup now_seen) (finished script.setup now_seen) now_seen now_seen _ _ _ _ _ refl refl (ap (λ (s : Driven). s.lost) set) refl (seen_line _ _ script.setup _ _ was_seen now_seen refl refl _ _ _ _ _ (omega (arith, was.number, was.same, c.requires.few)) now.shown was.seen);
+      stands = hand_last script c.args.lent.now.stage.now (c.loop-place.place + 1) c.in-Ok.next c.direct_next.new.film c.end_line.new.film sent.others
+          c.in-Ok-end_line.ensures.stays now.stands;
+      seen = seen_counted _ _ (finished script.setup now_seen) (finished script.setup now_seen) now_seen now_seen _ _ _ _ _ refl refl
+          (ap (λ (s : Driven). s.lost) set) refl (seen_line _ _ script.setup _ _ was_seen now_seen refl refl _ _ _ _ _
+          (omega (arith, was.number, was.same, c.requires.few)) now.shown was.seen);
       number = as_long _ _ _ c.direct_next.ensures.kinds ∙ was.number ∙ sym c.direct_next.ensures.same ∙ ap (λ (s : Driven). s.displays) (sym set);
       kinds = c.direct_next.ensures.kinds ∙ was.kinds;
       keeping = ap (λ (f : Film). keeping_of f.kept) sent.others ∙ now.keeping ∙ was.keeping;
       same = ap (λ (s : Driven). s.displays) set ∙ c.direct_next.ensures.same ∙ was.same;
-      published = published_more script was_seen now_seen c.loop-place.film.last.frame.0 c.direct_next.new.film.last c.loop-place.published c.end_line.new.published
-          was.stands.kept.answering.number now.stands.kept.answering.number now.stands.kept.answering.showing now.stands.kept.answering.scaling now.finishes c.in-Ok-end_line.ensures.publishes was.published;
+      published = published_more script was_seen now_seen c.loop-place.film.last.frame.0 c.direct_next.new.film.last c.loop-place.published
+          c.end_line.new.published
+          was.stands.kept.answering.number now.stands.kept.answering.number now.stands.kept.answering.showing now.stands.kept.answering.scaling now.finishes
+          c.in-Ok-end_line.ensures.publishes was.published;
       home = sent.home ∙ was.home;
     }
 
@@ -81,19 +87,23 @@ returns-clause-film g c =
     (subst P (sym c.into_seat.ensures) c.loop-place.invariant.stands).kept
 
 pub returns-clause-seen : goal.returns-clause-seen
-returns-clause-seen g c = seen_there _ _ c.args.lent.now.script.now.setup _ _ _ _ _ (ap (λ (h : Hand). history_of (hand_seat h).seen) (sym c.into_seat.ensures)) c.loop-place.invariant.seen
+returns-clause-seen g c = seen_there _ _ c.args.lent.now.script.now.setup _ _ _ _ _ (ap (λ (h : Hand). history_of (hand_seat h).seen) (sym c.into_seat.ensures))
+    c.loop-place.invariant.seen
 
 pub returns-in-Err-clause-stopped : goal.returns-in-Err-clause-stopped
 returns-in-Err-clause-stopped g c =
     let was = c.loop-place.invariant in
-    stopped_at _ _ c.args.lent.now.script.now c.args.lent.now.stage.now c.loop-place.place c.loop-place.hand c.in-Err.back c.in-Err.ensures.back c.loop-place.film was.stands _ _ _ _ (ap (λ v. v.items) c.in-Err.ensures.unshown) was.seen
+    stopped_at _ _ c.args.lent.now.script.now c.args.lent.now.stage.now c.loop-place.place c.loop-place.hand c.in-Err.back c.in-Err.ensures.back
+    c.loop-place.film was.stands _ _ _ _ (ap (λ v. v.items) c.in-Err.ensures.unshown) was.seen
 
 pub returns-in_default-clause-stopped : goal.returns-in_default-clause-stopped
 returns-in_default-clause-stopped g c =
     let was = c.loop-place.invariant in
     let now = c.in-Ok.ensures in
-    stopped_at _ _ c.args.lent.now.script.now c.args.lent.now.stage.now (c.loop-place.place + 1) c.in-Ok.next c.in-Ok.next refl c.direct_next.new.film now.stands _ _ _ _ refl
-    (seen_line _ _ c.args.lent.now.script.now.setup _ _ (history_of (hand_seat c.loop-place.hand).seen) (history_of (hand_seat c.in-Ok.next).seen) refl refl _ _ _ _ _ (omega (arith, was.number, was.same, c.requires.few)) now.shown was.seen)
+    stopped_at _ _ c.args.lent.now.script.now c.args.lent.now.stage.now (c.loop-place.place + 1) c.in-Ok.next c.in-Ok.next refl c.direct_next.new.film
+    now.stands _ _ _ _ refl
+    (seen_line _ _ c.args.lent.now.script.now.setup _ _ (history_of (hand_seat c.loop-place.hand).seen) (history_of (hand_seat c.in-Ok.next).seen) refl refl _ _
+    _ _ _ (omega (arith, was.number, was.same, c.requires.few)) now.shown was.seen)
 
 pub returns-clause-published : goal.returns-clause-published
 returns-clause-published g c =

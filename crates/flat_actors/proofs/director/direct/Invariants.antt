@@ -10,7 +10,8 @@ use Rattle.flat_actors.proofs.director.direct.Given as goal
 abbrev pub invariant-loop-place : goal.invariant-loop-place
 invariant-loop-place g l = record {
   stands : HandStands l.lent.script.now l.lent.stage.now l.place l.hand l.film;
-  seen : HaveSeen (λ b. (goal.Display-dyn g (b.vtable, b.value)).shown b.value) (λ b. (goal.Display-dyn g (b.vtable, b.value)).faults b.value) (finished l.lent.script.now.setup (history_of (hand_seat l.hand).seen)) (history_of (hand_seat l.hand).seen) l.film.set.lost l.initial.displays.items
+  seen : HaveSeen (λ b. (goal.Display-dyn g (b.vtable, b.value)).shown b.value) (λ b. (goal.Display-dyn g (b.vtable, b.value)).faults b.value)
+      (finished l.lent.script.now.setup (history_of (hand_seat l.hand).seen)) (history_of (hand_seat l.hand).seen) l.film.set.lost l.initial.displays.items
       l.displays.items;
   number : length l.displays.items ≡ l.film.set.displays;
   kinds : map (λ b. b.vtable) l.displays.items ≡ map (λ b. b.vtable) l.initial.displays.items;

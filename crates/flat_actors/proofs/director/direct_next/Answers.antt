@@ -15,7 +15,8 @@ returns-in_default g c =
     let x = c.at-line.result.now in
     let at : At c.args.lent.now.script.now c.args.place x = at_place c.args.lent.now.script.now c.args.place x c.requires.playable c.at-line.ensures in
     record {
-      stands = hand_other c.args.lent.now.script.now c.args.lent.now.stage.now c.args.place x at (λ text is. c.in_default.not-Display text is) c.args.hand c.args.film.now c.requires.stands;
+      stands = hand_other c.args.lent.now.script.now c.args.lent.now.stage.now c.args.place x at (λ text is. c.in_default.not-Display text is) c.args.hand
+          c.args.film.now c.requires.stands;
       finishes = inl (refl, refl);
       shown = IsShown.shows_none refl refl refl;
       keeping = refl;

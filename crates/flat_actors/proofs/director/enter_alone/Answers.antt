@@ -16,7 +16,15 @@ pub enter_alone-reply-requires-clause-room : goal.enter_alone-reply-requires-cla
 enter_alone-reply-requires-clause-room g c = room_there (hand_seat c.args.hand.now) (hand_seat c.pause.new.hand) c.pause.ensures.sees c.requires.room
 
 pub enter_alone-reply-requires-clause-named : goal.enter_alone-reply-requires-clause-named
-enter_alone-reply-requires-clause-named g c = named_there c.args.lent.now.stage.now (entry_of_display c.args.text) (hand_seat c.args.hand.now) (hand_seat c.pause.new.hand) c.pause.ensures.sees c.requires.own c.requires.named
+enter_alone-reply-requires-clause-named g c = named_there c.args.lent.now.stage.now (entry_of_display c.args.text) (hand_seat c.args.hand.now)
+    (hand_seat c.pause.new.hand) c.pause.ensures.sees c.requires.own c.requires.named
 
 pub returns : goal.returns
-returns g c = record { looked = c.pause.new.hand; looks = c.pause.ensures; reply = c.enter_alone-reply.result; enters = c.enter_alone-reply.ensures.enters; opened = c.enter_alone-reply.ensures.open; kept = c.enter_alone-reply.ensures.kept }
+returns g c = record {
+  looked = c.pause.new.hand;
+  looks = c.pause.ensures;
+  reply = c.enter_alone-reply.result;
+  enters = c.enter_alone-reply.ensures.enters;
+  opened = c.enter_alone-reply.ensures.open;
+  kept = c.enter_alone-reply.ensures.kept;
+}

@@ -22,9 +22,11 @@ returns-clause-shown g c =
     let before : List FrameOut = finished script.setup h in
     let frame = c.in-Ok.composed in
     let V : SessionSet → Type 0 = AreViewed script.setup (to_begin h) in
-    let at : c.ratio.result ≡ ratio script.setup (to_begin h) = c.ratio.ensures ∙ ap (λ (s : Setup). ratio s (to_begin h)) (ap setup_of c.requires.own ∙ c.requires.of) in
+    let at : c.ratio.result ≡ ratio script.setup (to_begin h) =
+    c.ratio.ensures ∙ ap (λ (s : Setup). ratio s (to_begin h)) (ap setup_of c.requires.own ∙ c.requires.of) in
     let composed : frame ≡ frame_at script.setup (frames h + 1) (to_begin h) =
-    c.in-Ok.ensures.frame _ (c.shown.ensures.shown ∙ c.requires.shows.0) (scaled script.setup (to_begin h) _ at) (subst V (sym c.with_view.ensures) c.requires.shows.1) ∙ ap (λ (n : ℕ). frame_at script.setup (n + 1) (to_begin h)) c.requires.last in
+    c.in-Ok.ensures.frame _ (c.shown.ensures.shown ∙ c.requires.shows.0) (scaled script.setup (to_begin h) _ at)
+    (subst V (sym c.with_view.ensures) c.requires.shows.1) ∙ ap (λ (n : ℕ). frame_at script.setup (n + 1) (to_begin h)) c.requires.last in
     let numbered = ap (λ (f : FrameOut). f.frame.0) composed in
     let counted = finished_length script.setup h in
     let number : frame.frame.0 ≡ suc (length before) = omega (arith, counted, numbered) in

@@ -7,7 +7,8 @@ use Rattle.flat_actors.proofs.director.hit.Goals as goal
 
 pub returns-clause-enters : goal.returns-clause-enters
 returns-clause-enters g c =
-    let entered : DisplayEnters c.args.number (Hit c.args.x c.args.y) c.hit-reply.result (hand_seat c.args.hand.now) (hand_seat c.hit-reply.new.self) = search rules in
+    let entered : DisplayEnters c.args.number (Hit c.args.x c.args.y) c.hit-reply.result (hand_seat c.args.hand.now) (hand_seat c.hit-reply.new.self) =
+    search rules in
     point_done _ _ _ _ _ _ entered
 
 pub hits-requires-clause-setup : goal.hits-requires-clause-setup

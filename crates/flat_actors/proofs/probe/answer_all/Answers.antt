@@ -9,4 +9,5 @@ loop-place-init g c = record {
 }
 
 pub returns-clause-answered : goal.returns-clause-answered
-returns-clause-answered g c = probe-ends c.args.asking.now.script.now c.args.asking.now.probe c.loop-place.place c.loop-place.probe c.loop-place.answers (omega (arith, c.loop-place-test.false)) c.loop-place.invariant.stands
+returns-clause-answered g c = probe-ends c.args.asking.now.script.now c.args.asking.now.probe c.loop-place.place c.loop-place.probe c.loop-place.answers
+    (omega (arith, c.loop-place-test.false)) c.loop-place.invariant.stands

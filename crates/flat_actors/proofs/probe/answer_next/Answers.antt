@@ -27,4 +27,5 @@ returns-clause-stands g c =
     let at : At script c.args.place x = at_place script c.args.place x c.requires.playable c.at-line.ensures in
     let mine : is_probe c.args.asking.now.probe x.actor ≡ true = sym c.is_probe.ensures ∙ c.if-not-is_probe.false in
     let answered = c.in_ok-answer_line-in-Probe.ensures in
-    probe-answers script c.args.asking.now.probe c.args.place x at c.in-Probe.asked mine c.in-Probe.is c.args.probe.now c.answer_line.new.probe c.args.answers.now c.answer_line.new.answers answered.grows answered.rising answered.more c.requires.stands
+    probe-answers script c.args.asking.now.probe c.args.place x at c.in-Probe.asked mine c.in-Probe.is c.args.probe.now c.answer_line.new.probe
+    c.args.answers.now c.answer_line.new.answers answered.grows answered.rising answered.more c.requires.stands

@@ -10,7 +10,8 @@ pub returns-in_default-clause-stands : goal.returns-in_default-clause-stands
 returns-in_default-clause-stands g c =
     let x = c.at-line.result.now in
     let at : At c.args.lent.now.script.now c.args.place x = at_place c.args.lent.now.script.now c.args.place x c.requires.playable c.at-line.ensures in
-    skips c.args.lent.now.script.now c.args.lent.now.stage.now c.args.seat.now.session c.args.place x at (no_text (is_session c.args.seat.now.session x.actor) x.number x.body (λ text is. c.in_default.not-Session text is)) c.args.seat.now c.requires.stands
+    skips c.args.lent.now.script.now c.args.lent.now.stage.now c.args.seat.now.session c.args.place x at
+    (no_text (is_session c.args.seat.now.session x.actor) x.number x.body (λ text is. c.in_default.not-Session text is)) c.args.seat.now c.requires.stands
 
 pub read_line-requires-clause-owned : goal.read_line-requires-clause-owned
 read_line-requires-clause-owned g c κs within =
@@ -37,4 +38,5 @@ returns-in_ok-read_line-in-Session-clause-stands g c =
     let x = c.at-line.result.now in
     let at : At c.args.lent.now.script.now c.args.place x = at_place c.args.lent.now.script.now c.args.place x c.requires.playable c.at-line.ensures in
     let whose : is_session c.args.seat.now.session x.actor ≡ true = c.requires.mine x c.at-line.ensures in
-    reads c.args.lent.now.script.now c.args.lent.now.stage.now c.args.seat.now.session c.args.place x at _ whose (c.in-Session.is) c.args.seat.now c.read_line.new.seat c.requires.stands c.read_line.ensures.goes_on (c.in_ok-read_line-in-Session.ensures.follows _ c.requires.stands.reads)
+    reads c.args.lent.now.script.now c.args.lent.now.stage.now c.args.seat.now.session c.args.place x at _ whose (c.in-Session.is) c.args.seat.now
+    c.read_line.new.seat c.requires.stands c.read_line.ensures.goes_on (c.in_ok-read_line-in-Session.ensures.follows _ c.requires.stands.reads)

@@ -1,6 +1,7 @@
 use Rattle.std.proofs.Common.{◌≡◌, ◌++◌, ◌∷◌, [], sym, ◌∙◌, arith, length-append}
 use Rattle.flat_collect.proofs.Walks.{contains_at}
-use Rattle.flat_collect.proofs.Searches.{top_within, search-down, search-along, search-done, search-back, search-found, left-down, left-along, left-done, trail-back, trail-down, mark_read}
+use Rattle.flat_collect.proofs.Searches.{top_within, search-down, search-along, search-done, search-back, search-found, left-down, left-along, left-done}
+use Rattle.flat_collect.proofs.Searches.{trail-back, trail-down, mark_read}
 use Rattle.flat_collect.proofs.cycle.advance.Goals as goal
 
 pub index-requires : goal.index-requires
@@ -13,10 +14,18 @@ pub index_mut-requires-in-Done : goal.index_mut-requires-in-Done
 index_mut-requires-in-Done c = omega (arith, top_within _ _ _ _ _ c.requires)
 
 pub index-requires-2 : goal.index-requires-2
-index-requires-2 c = omega (arith, c.requires.within c.args.key.now c.in-Some-child_at.child (contains_at _ c.in-Open.i _ (sym c.child_at.ensures.child ∙ c.in-Some-child_at.is)))
+index-requires-2 c = omega (
+  arith,
+  c.requires.within c.args.key.now c.in-Some-child_at.child
+      (contains_at _ c.in-Open.i _ (sym c.child_at.ensures.child ∙ c.in-Some-child_at.is)),
+)
 
 pub index_mut-requires-in-New : goal.index_mut-requires-in-New
-index_mut-requires-in-New c = omega (arith, c.requires.within c.args.key.now c.in-Some-child_at.child (contains_at _ c.in-Open.i _ (sym c.child_at.ensures.child ∙ c.in-Some-child_at.is)))
+index_mut-requires-in-New c = omega (
+  arith,
+  c.requires.within c.args.key.now c.in-Some-child_at.child
+      (contains_at _ c.in-Open.i _ (sym c.child_at.ensures.child ∙ c.in-Some-child_at.is)),
+)
 
 pub returns-in-Some : goal.returns-in-Some
 returns-in-Some c =

@@ -14,11 +14,13 @@ returns-then-names-len-clause-swept c =
 
 pub returns-then-len-clause-swept : goal.returns-then-len-clause-swept
 returns-then-len-clause-swept c =
-    let many : length c.in_ok-found.found.keys.items ≡ count_by is_some c.args.graph.now.nodes = omega (arith, c.in_ok-found.found.keys.ok.0, c.len-2.ensures, c.if-len.true, c.len-3.ensures) in
+    let many : length c.in_ok-found.found.keys.items ≡ count_by is_some c.args.graph.now.nodes =
+    omega (arith, c.in_ok-found.found.keys.ok.0, c.len-2.ensures, c.if-len.true, c.len-3.ensures) in
     swept-found c.args.graph.now c.in_ok-found.found c.in_ok-found.ensures c.root.ensures.sound many
 
 pub keep-requires : goal.keep-requires
-keep-requires c = subst (λ (marks : List Bool). MayKeep marks c.args.graph.now) (sym c.as_slice.ensures.value) (may-keep c.args.graph.now c.in_ok-found.found c.in_ok-found.ensures)
+keep-requires c = subst (λ (marks : List Bool). MayKeep marks c.args.graph.now) (sym c.as_slice.ensures.value)
+    (may-keep c.args.graph.now c.in_ok-found.found c.in_ok-found.ensures)
 
 pub returns-clause-swept : goal.returns-clause-swept
 returns-clause-swept c =

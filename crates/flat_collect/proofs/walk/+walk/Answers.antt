@@ -18,7 +18,11 @@ returns-then-not-branch t c =
     let key : ℕ = slice_index_or c.args.keys.now c.loop-key.key-index 0 in
     let e : c.args.levels ≡ suc (c.args.levels - 1) = omega arith in
     let w = rw (below-at (links_in c.args.graph.now) c.args.levels c.loop-key.key-index 0 c.args.keys.now (omega arith)) at c.loop-key.invariant in
-    let h = rw (c.if-not-branch.true, c.children.ensures, below-again (links_in c.args.graph.now) c.args.levels (c.args.levels - 1) (links_in c.args.graph.now key) e) at c.in_ok-walk.ensures in
+    let h = rw (
+      c.if-not-branch.true,
+      c.children.ensures,
+      below-again (links_in c.args.graph.now) c.args.levels (c.args.levels - 1) (links_in c.args.graph.now key) e,
+    ) at c.in_ok-walk.ensures in
     walking-large _ _ _ _ _ c.args.levels (c.args.levels - 1) _ _ _ _ e w h
 
 pub loop-key-preserved : goal.loop-key-preserved
@@ -26,7 +30,13 @@ loop-key-preserved t c =
     let key : ℕ = slice_index_or c.args.keys.now c.loop-key.key-index 0 in
     let e : c.args.levels ≡ suc (c.args.levels - 1) = omega arith in
     let w = rw (below-at (links_in c.args.graph.now) c.args.levels c.loop-key.key-index 0 c.args.keys.now (omega arith)) at c.loop-key.invariant in
-    let h = rw (c.if-not-branch.false, c.children.ensures, below-again (links_in c.args.graph.now) c.args.levels (c.args.levels - 1) (links_in c.args.graph.now key) e, c.in_ok-list_viewport.ensures) at c.in_ok-walk.ensures in
+    let h = rw (
+      c.if-not-branch.false,
+      c.children.ensures,
+      below-again (links_in c.args.graph.now) c.args.levels (c.args.levels - 1) (links_in c.args.graph.now key) e,
+      c.in_ok-list_viewport.ensures,
+    ) at
+    c.in_ok-walk.ensures in
     walking-more _ _ _ _ _ c.args.levels (c.args.levels - 1) _ _ _ _ _ _ e w h
 
 pub returns : goal.returns

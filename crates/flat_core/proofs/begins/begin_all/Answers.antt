@@ -32,7 +32,8 @@ loop-i-preserved c =
       shown_count = after.0;
       shown = after.1;
       changes = changes-both _ _ _ _ _ _ inv.changes e.changes;
-      posts = posts-next setup c.loop-i.log.history h (begin_entry line time) i c.args.log.now.posts c.loop-i.log.posts c.begin_one-count.new.log.posts same inv.posts e.posts;
+      posts = posts-next setup c.loop-i.log.history h (begin_entry line time) i c.args.log.now.posts c.loop-i.log.posts c.begin_one-count.new.log.posts same
+          inv.posts e.posts;
       posted = omega (arith, e.count, inv.posted);
       history = e.history ∙ same;
       room = e.room ∙ inv.room;

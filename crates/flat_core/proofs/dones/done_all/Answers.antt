@@ -31,7 +31,8 @@ finish_one-count-requires-clause-others g c out =
     let declared : is_declared setup s ≡ true = rw (first, last) refl in
     let some : 0 < i + 1 = omega arith in
     let place : i + 1 - 1 ≡ i = omega arith in
-    let unheard : is_member c.args.heard s.0 ≡ false = member-at c.args.heard (i + 1) some ∙ ap (λ (n : ℕ). slice_index_or c.args.heard.has n false) place ∙ out in
+    let unheard : is_member c.args.heard s.0 ≡ false = member-at c.args.heard (i + 1) some ∙ ap (λ (n : ℕ). slice_index_or c.args.heard.has n false) place
+    ∙ out in
     subst (λ (h : List Entry). TellsTheSame setup h (finished h c.args.line) s) (sym c.loop-i.invariant.history) (c.requires.others s declared unheard)
 
 pub loop-i-preserved : goal.loop-i-preserved
@@ -49,7 +50,8 @@ loop-i-preserved g c =
     let within : i < length c.loop-i.ends.items = omega (arith, inv.ends_all, c.loop-i-test.true) in
     let backs = sum_by-set due_back c.loop-i.ends.items i c.finish_one-count.new.ends c.index_mut-one.result.now within in
     let one_is = c.index_mut-one.ensures.value in
-    let ends : EndsOf setup (finished h line) i c.finish_one-count.new.ends = subst (λ (k : List Entry). EndsOf setup (finished k line) i c.finish_one-count.new.ends) same e.ends in
+    let ends : EndsOf setup (finished h line) i c.finish_one-count.new.ends =
+    subst (λ (k : List Entry). EndsOf setup (finished k line) i c.finish_one-count.new.ends) same e.ends in
     record {
       all = length-set c.loop-i.sessions.items i c.finish_one-count.new.state ∙ inv.all;
       kept = done-next setup c.loop-i.log.history h line i c.loop-i.sessions.items c.finish_one-count.new.state same inv.kept e.kept;
@@ -57,8 +59,10 @@ loop-i-preserved g c =
       ends = up-next (EndsOf setup) h (finished h line) i c.loop-i.ends.items c.finish_one-count.new.ends inv.ends ends;
       watched = subst (λ (k : List Entry). WatchedUpTo setup (i + 1) (finished k line) k c.finish_one-count.new.watchers) same e.watched;
       size = e.size ∙ inv.size;
-      members = λ g. members-next setup c.loop-i.log.history h i g (has c.args.fences.now g) (has c.loop-i.fences g) (has c.finish_one-count.new.fences g) same (inv.members g) (e.members g);
-      posts = posts-next setup c.loop-i.log.history h (finish_entry line) i c.args.log.now.posts c.loop-i.log.posts c.finish_one-count.new.log.posts same inv.posts e.posts;
+      members = λ g. members-next setup c.loop-i.log.history h i g (has c.args.fences.now g) (has c.loop-i.fences g) (has c.finish_one-count.new.fences g) same
+          (inv.members g) (e.members g);
+      posts = posts-next setup c.loop-i.log.history h (finish_entry line) i c.args.log.now.posts c.loop-i.log.posts c.finish_one-count.new.log.posts same
+          inv.posts e.posts;
       posted = omega (arith, e.count, inv.posted);
       history = e.history ∙ same;
       room = e.room ∙ inv.room;
@@ -72,6 +76,9 @@ returns-clause-watched g c =
     let h = c.args.log.now.history in
     let inv = c.loop-i.invariant in
     let last : c.loop-i.i ≡ setup.sessions = omega (arith, c.loop-i.auto.i-end, c.loop-i-test.false) in
-    let legal : Legal setup (finished h c.args.line) = (c.requires.legal, (let one : LegalEntry setup h (finish_entry c.args.line) = record { may = c.requires.may; reply = refl } in one)) in
+    let legal : Legal setup (finished h c.args.line) = (
+      c.requires.legal,
+      (let one : LegalEntry setup h (finish_entry c.args.line) = record { may = c.requires.may; reply = refl } in one),
+    ) in
     let W : ℕ → Type 0 = λ n. WatchedUpTo setup n (finished h c.args.line) h c.loop-i.watchers in
     watched-last setup h c.args.line legal c.loop-i.watchers (subst W last inv.watched)

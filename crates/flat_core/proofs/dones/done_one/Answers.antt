@@ -21,11 +21,13 @@ use Rattle.flat_core.proofs.dones.done_one.Goals as goal
 
 pub returns-then-state-clause-members : goal.returns-then-state-clause-members
 returns-then-state-clause-members c g =
-    members-done (has c.args.fences.now g) (has c.signal_lists.new.fences g) _ (going c.args.setup.now c.args.log.now.history c.args.s) g (c.signal_lists.ensures.members g) (c.as_slice.ensures.value ∙ c.requires.kept.going)
+    members-done (has c.args.fences.now g) (has c.signal_lists.new.fences g) _ (going c.args.setup.now c.args.log.now.history c.args.s) g
+    (c.signal_lists.ensures.members g) (c.as_slice.ensures.value ∙ c.requires.kept.going)
 
 pub returns-clause-members : goal.returns-clause-members
 returns-clause-members c g =
-    members-done (has c.args.fences.now g) (has c.signal_lists.new.fences g) _ (going c.args.setup.now c.args.log.now.history c.args.s) g (c.signal_lists.ensures.members g) (c.as_slice.ensures.value ∙ c.requires.kept.going)
+    members-done (has c.args.fences.now g) (has c.signal_lists.new.fences g) _ (going c.args.setup.now c.args.log.now.history c.args.s) g
+    (c.signal_lists.ensures.members g) (c.as_slice.ensures.value ∙ c.requires.kept.going)
 
 pub returns-then-state-clause-posts : goal.returns-then-state-clause-posts
 returns-then-state-clause-posts c =
@@ -42,8 +44,10 @@ returns-clause-ends c =
     let h = c.args.log.now.history in
     let e = finish_entry c.args.line in
     let legal : Legal setup (h ▹ e) = (c.requires.legal, (let one : LegalEntry setup h e = record { may = c.requires.may; reply = refl } in one)) in
-    let step = viewports-finish setup c.args.s c.requires.declared h e legal refl refl (λ p. refl) c.args.ends.now.live.items c.args.ends.now.out.items c.requires.ends in
-    let taken_is : c.taken.result ≡ taken setup h c.args.s = c.taken.ensures ∙ taken-kept setup (seen_of setup h c.args.s) c.args.state.now c.requires.kept (seen-count setup h c.args.s) in
+    let step = viewports-finish setup c.args.s c.requires.declared h e legal refl refl (λ p. refl) c.args.ends.now.live.items c.args.ends.now.out.items
+    c.requires.ends in
+    let taken_is : c.taken.result ≡ taken setup h c.args.s =
+    c.taken.ensures ∙ taken-kept setup (seen_of setup h c.args.s) c.args.state.now c.requires.kept (seen-count setup h c.args.s) in
     rw (c.take_back-back.ensures.live, c.take_back-back.ensures.out, taken_is) step
 
 pub returns-clause-posts : goal.returns-clause-posts
@@ -53,9 +57,14 @@ returns-clause-posts c =
     let s = c.args.s in
     let outs = c.args.ends.now.out.items in
     let opened : is_closed s h ≡ false = sym c.requires.kept.closed ∙ c.if-state.false in
-    let took : c.args.state.now.took ≡ frame_took setup h s = took-is (is_frame_open h) (frame_took setup h s) c.args.state.now.took c.requires.opened c.requires.kept.took in
-    let taken_is : c.taken.result ≡ taken setup h s = c.taken.ensures ∙ taken-kept setup (seen_of setup h s) c.args.state.now c.requires.kept (seen-count setup h s) in
-    let all : cond (is_closed s h) [] (took_event (frame_took setup h s) ++ back_events (taken setup h s) outs) ≡ took_event c.args.state.now.took ++ back_events c.taken.result outs = rw (opened, took, taken_is) refl in
+    let took : c.args.state.now.took ≡ frame_took setup h s =
+    took-is (is_frame_open h) (frame_took setup h s) c.args.state.now.took c.requires.opened c.requires.kept.took in
+    let taken_is : c.taken.result ≡ taken setup h s = c.taken.ensures
+    ∙ taken-kept setup (seen_of setup h s) c.args.state.now c.requires.kept (seen-count setup h s) in
+    let all : cond (is_closed s h) [] (took_event (frame_took setup h s) ++ back_events (taken setup h s) outs) ≡ took_event c.args.state.now.took
+    ++ back_events c.taken.result outs = rw (opened, took, taken_is) refl in
     let second : c.take_back-back.new.log.posts ≡ c.post_took-presented.new.log.posts ++ map (post_of (length h) s) (back_events c.taken.result outs) =
-    c.take_back-back.ensures.posts ∙ ap (λ (k : List Entry). c.post_took-presented.new.log.posts ++ map (post_of (length k) s) (back_events c.taken.result outs)) c.post_took-presented.ensures.history in
-    told-then (post_of (length h) s) c.args.log.now.posts c.post_took-presented.new.log.posts c.take_back-back.new.log.posts (took_event c.args.state.now.took) (back_events c.taken.result outs) _ c.post_took-presented.ensures.posts second all
+    c.take_back-back.ensures.posts ∙ ap (λ (k : List Entry). c.post_took-presented.new.log.posts
+    ++ map (post_of (length k) s) (back_events c.taken.result outs)) c.post_took-presented.ensures.history in
+    told-then (post_of (length h) s) c.args.log.now.posts c.post_took-presented.new.log.posts c.take_back-back.new.log.posts (took_event c.args.state.now.took)
+    (back_events c.taken.result outs) _ c.post_took-presented.ensures.posts second all

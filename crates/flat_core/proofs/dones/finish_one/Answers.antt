@@ -26,7 +26,10 @@ pub settle-told-requires-clause-few : goal.settle-told-requires-clause-few
 settle-told-requires-clause-few g c = few-to _ _ _ _ _ c.requires.watched c.requires.place
 
 pub settle-told-requires-clause-watched : goal.settle-told-requires-clause-watched
-settle-told-requires-clause-watched g c = (c.args.setup.now, (c.args.s.0 - 1, (finished c.args.log.now.history c.args.line, (c.args.log.now.history, c.requires.watched))))
+settle-told-requires-clause-watched g c = (
+  c.args.setup.now,
+  (c.args.s.0 - 1, (finished c.args.log.now.history c.args.line, (c.args.log.now.history, c.requires.watched))),
+)
 
 pub settle-told-requires-clause-some : goal.settle-told-requires-clause-some
 settle-told-requires-clause-some g c opened = c.requires.some
@@ -53,14 +56,17 @@ returns-clause-watched g c = by_shut c.args.state.now.closed c.args.hears refl r
     by_shut true d is heard =
         let W : Watchers → Type 0 = λ w. WatchedUpTo setup c.args.s.0 k h w in
         let passed : c.is_passed-passed.result ≡ true = c.is_passed-passed.ensures ∙ ap (λ (b : Bool). b || not c.args.hears) is in
-        subst W (sym (c.settle-told.ensures.same passed)) (watched-passed setup h c.args.line legal c.args.s c.requires.some c.requires.few (sym c.requires.kept.closed ∙ is) _ c.requires.watched)
+        subst W (sym (c.settle-told.ensures.same passed)) (watched-passed setup h c.args.line legal c.args.s c.requires.some c.requires.few
+        (sym c.requires.kept.closed ∙ is) _ c.requires.watched)
     by_shut false true is heard =
         let told : c.is_passed-passed.result ≡ false = c.is_passed-passed.ensures ∙ ap (λ (b : Bool). b || not c.args.hears) is ∙ ap not heard in
-        (watched-told setup h c.args.line legal c.args.s c.requires.some c.requires.few (sym c.requires.kept.closed ∙ is) _ _ _ _ _ (c.settle-told.ensures.settled told setup k c.requires.tells) c.settle-told.ensures.due c.requires.watched).0
+        (watched-told setup h c.args.line legal c.args.s c.requires.some c.requires.few (sym c.requires.kept.closed ∙ is) _ _ _ _ _
+        (c.settle-told.ensures.settled told setup k c.requires.tells) c.settle-told.ensures.due c.requires.watched).0
     by_shut false false is heard =
         let W : Watchers → Type 0 = λ w. WatchedUpTo setup c.args.s.0 k h w in
         let passed : c.is_passed-passed.result ≡ true = c.is_passed-passed.ensures ∙ ap (λ (b : Bool). b || not c.args.hears) is ∙ ap not heard in
-        subst W (sym (c.settle-told.ensures.same passed)) (watched-kept setup h c.args.line legal c.args.s c.requires.some c.requires.few (sym c.requires.kept.closed ∙ is) (c.requires.others heard) _ c.requires.watched).0
+        subst W (sym (c.settle-told.ensures.same passed)) (watched-kept setup h c.args.line legal c.args.s c.requires.some c.requires.few
+        (sym c.requires.kept.closed ∙ is) (c.requires.others heard) _ c.requires.watched).0
 
 pub returns-clause-posts : goal.returns-clause-posts
 returns-clause-posts g c = by_shut c.args.state.now.closed refl
@@ -90,34 +96,44 @@ returns-clause-posts g c = by_shut c.args.state.now.closed refl
     rest = took_event (frame_took setup h s) ++ back_events (taken setup h s) c.args.ends.now.out.items
 
     -- what its gets are answered, if it hears something anew
-    answered : is_closed s h ≡ false → c.args.state.now.closed ≡ false → (d : Bool) → c.args.hears ≡ d → c.settle-told.new.log.posts ≡ c.args.log.now.posts ++ map (post_of (length h) s) (answers_to (told setup k) (helds_of setup h s))
+    answered : is_closed s h ≡ false → c.args.state.now.closed ≡ false → (d : Bool) → c.args.hears ≡ d
+        → c.settle-told.new.log.posts ≡ c.args.log.now.posts ++ map (post_of (length h) s) (answers_to (told setup k) (helds_of setup h s))
     answered opened is true heard =
         let hears : c.is_passed-passed.result ≡ false = c.is_passed-passed.ensures ∙ ap (λ (b : Bool). b || not c.args.hears) is ∙ ap not heard in
-        (watched-told setup h c.args.line legal s c.requires.some c.requires.few opened _ _ _ _ _ (c.settle-told.ensures.settled hears setup k c.requires.tells) c.settle-told.ensures.due c.requires.watched).1
+        (watched-told setup h c.args.line legal s c.requires.some c.requires.few opened _ _ _ _ _ (c.settle-told.ensures.settled hears setup k c.requires.tells)
+        c.settle-told.ensures.due c.requires.watched).1
     answered opened is false heard =
         let passed : c.is_passed-passed.result ≡ true = c.is_passed-passed.ensures ∙ ap (λ (b : Bool). b || not c.args.hears) is ∙ ap not heard in
         let none = (watched-kept setup h c.args.line legal s c.requires.some c.requires.few opened (c.requires.others heard) _ c.requires.watched).1 in
         (c.settle-told.ensures.none passed).1 ∙ sym (append-nil _) ∙ ap (λ (l : List Event). c.args.log.now.posts ++ map (post_of (length h) s) l) (sym none)
 
-    by_shut : (b : Bool) → c.args.state.now.closed ≡ b → c.done_one.new.log.posts ≡ c.args.log.now.posts ++ map (post_of (length h) s) (events_to setup h (finish_entry c.args.line) s)
+    by_shut : (b : Bool) → c.args.state.now.closed ≡ b → c.done_one.new.log.posts ≡ c.args.log.now.posts
+        ++ map (post_of (length h) s) (events_to setup h (finish_entry c.args.line) s)
     by_shut true is =
         let passed : c.is_passed-passed.result ≡ true = c.is_passed-passed.ensures ∙ ap (λ (b : Bool). b || not c.args.hears) is in
         let closed : is_closed s h ≡ true = sym c.requires.kept.closed ∙ is in
         let none : events_to setup h (finish_entry c.args.line) s ≡ [] = rw closed refl in
         let same : c.settle-told.new.log.history ≡ h = c.settle-told.ensures.history in
         let posted : c.done_one.new.log.posts ≡ c.settle-told.new.log.posts ++ [] =
-        c.done_one.ensures.posts ∙ ap (λ (l : List Entry). c.settle-told.new.log.posts ++ map (post_of (length l) s) (cond (is_closed s l) [] (took_event (frame_took setup l s) ++ back_events (taken setup l s) c.args.ends.now.out.items))) same
+        c.done_one.ensures.posts ∙ ap (λ (l : List Entry). c.settle-told.new.log.posts
+        ++ map (post_of (length l) s) (cond (is_closed s l) []
+        (took_event (frame_took setup l s) ++ back_events (taken setup l s) c.args.ends.now.out.items))) same
         ∙ ap (λ (b : Bool). c.settle-told.new.log.posts ++ map (post_of (length h) s) (cond b [] rest)) closed in
-        posted ∙ append-nil _ ∙ (c.settle-told.ensures.none passed).1 ∙ sym (append-nil _) ∙ ap (λ (l : List Event). c.args.log.now.posts ++ map (post_of (length h) s) l) (sym none)
+        posted ∙ append-nil _ ∙ (c.settle-told.ensures.none passed).1 ∙ sym (append-nil _)
+        ∙ ap (λ (l : List Event). c.args.log.now.posts ++ map (post_of (length h) s) l) (sym none)
     by_shut false is =
         let opened : is_closed s h ≡ false = sym c.requires.kept.closed ∙ is in
         let first = answered opened is c.args.hears refl in
-        let events = finish-posts setup h c.args.line s declared c.requires.legal c.requires.opened opened c.args.ends.now.live.items c.args.ends.now.out.items c.requires.ends in
+        let events = finish-posts setup h c.args.line s declared c.requires.legal c.requires.opened opened c.args.ends.now.live.items c.args.ends.now.out.items
+        c.requires.ends in
         let same : c.settle-told.new.log.history ≡ h = c.settle-told.ensures.history in
         let second : c.done_one.new.log.posts ≡ c.settle-told.new.log.posts ++ map (post_of (length h) s) rest =
-        c.done_one.ensures.posts ∙ ap (λ (l : List Entry). c.settle-told.new.log.posts ++ map (post_of (length l) s) (cond (is_closed s l) [] (took_event (frame_took setup l s) ++ back_events (taken setup l s) c.args.ends.now.out.items))) same
+        c.done_one.ensures.posts ∙ ap (λ (l : List Entry). c.settle-told.new.log.posts
+        ++ map (post_of (length l) s) (cond (is_closed s l) []
+        (took_event (frame_took setup l s) ++ back_events (taken setup l s) c.args.ends.now.out.items))) same
         ∙ ap (λ (b : Bool). c.settle-told.new.log.posts ++ map (post_of (length h) s) (cond b [] rest)) opened in
-        told-then (post_of (length h) s) c.args.log.now.posts c.settle-told.new.log.posts c.done_one.new.log.posts (answers_to (told setup k) (helds_of setup h s)) rest _ first second events
+        told-then (post_of (length h) s) c.args.log.now.posts c.settle-told.new.log.posts c.done_one.new.log.posts
+        (answers_to (told setup k) (helds_of setup h s)) rest _ first second events
 
 pub overflow_add-result : goal.overflow_add-result
 overflow_add-result g c = omega (arith, c.requires.room, c.requires.small, c.settle-told.ensures.due, c.done_one.ensures.due)

@@ -28,8 +28,11 @@ lay-requires t c =
     let w = laying-at _ _ _ _ _ c.loop-key.key-index _ _ within c.loop-key.invariant in
     let fits = laying-fits _ _ _ _ _ _ _ _ _ w in
     let less : c.args.levels ≡ suc (c.args.levels - 1) = omega (arith, fits.0) in
-    let node = sym (rw c.in-Some.is at c.node.ensures) in
-    (omega (arith, fits.0), rw (c.as_slice-children.ensures, c.in_ok-enter.ensures.ok) (laying-below _ _ c.args.levels (c.args.levels - 1) _ _ _ _ _ _ _ less node w))
+    let node = sym (rw c.in-Some.is at c.node.ensures) in (
+      omega (arith, fits.0),
+      rw (c.as_slice-children.ensures, c.in_ok-enter.ensures.ok)
+          (laying-below _ _ c.args.levels (c.args.levels - 1) _ _ _ _ _ _ _ less node w),
+    )
 
 pub loop-key-preserved : goal.loop-key-preserved
 loop-key-preserved t c =

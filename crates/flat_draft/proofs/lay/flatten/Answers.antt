@@ -5,7 +5,8 @@ use Rattle.flat_draft.proofs.Laying.{one-root, tree-room}
 use Rattle.flat_draft.proofs.lay.flatten.Goals as goal
 
 pub lay_root-requires : goal.lay_root-requires
-lay_root-requires c = tree-room (graph_tree c.args.graph.now) c.args.nodes c.in_ok-builder.builder.room c.requires.tree.small c.requires.counted (ap (λ (b : Building). b.room) c.in_ok-builder.ensures)
+lay_root-requires c = tree-room (graph_tree c.args.graph.now) c.args.nodes c.in_ok-builder.builder.room c.requires.tree.small c.requires.counted
+    (ap (λ (b : Building). b.room) c.in_ok-builder.ensures)
 
 pub finish-requires-clause-closed : goal.finish-requires-clause-closed
 finish-requires-clause-closed c = rw (c.in_ok-lay_root.ensures, c.in_ok-builder.ensures) refl

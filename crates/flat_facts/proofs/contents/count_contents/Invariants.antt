@@ -5,4 +5,5 @@ use Rattle.flat_facts.proofs.contents.count_contents.Given as goal
 
 -- what is left leads from here to the same end
 abbrev pub invariant-loop-call : goal.invariant-loop-call
-invariant-loop-call l = (n : ℕ) → l.count ≡ capped n → (m : ℕ) × ((l.now ≡ capped m) × (m + length (contents_made (drop l.call-index l.calls)) ≡ n + length (contents_made l.calls)))
+invariant-loop-call l = (n : ℕ) → l.count ≡ capped n → (m : ℕ)
+    × ((l.now ≡ capped m) × (m + length (contents_made (drop l.call-index l.calls)) ≡ n + length (contents_made l.calls)))

@@ -12,4 +12,5 @@ pub returns : goal.returns
 returns c =
     let number : FocusLine → ℕ = λ line. line.number in
     c.into_text.ensures ∙ all-put _ _ _ c.new-page.ensures c.in_ok-push_text.ensures.text
-    ∙ ap (λ (lines : List (List Word)). text_of (lines ++ end_line (length c.args.lines.now) ∷ [])) (lines-follow c.args.names.now c.args.sessions (merged number c.args.dones.now c.args.frames.now c.args.lines.now))
+    ∙ ap (λ (lines : List (List Word)). text_of (lines ++ end_line (length c.args.lines.now) ∷ []))
+    (lines-follow c.args.names.now c.args.sessions (merged number c.args.dones.now c.args.frames.now c.args.lines.now))

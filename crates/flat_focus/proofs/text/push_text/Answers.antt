@@ -12,5 +12,6 @@ pub returns : goal.returns
 returns c =
     let number : FocusLine → ℕ = λ line. line.number in
     let P : Focusing → Type 0 = λ focus. WritesLines
-    (all_lines (lines_with c.args.names.now) after focus (merged number c.args.dones.now c.args.frames.now c.args.lines.now) ++ end_line (length c.args.lines.now) ∷ []) c.args.page.now c.ends.new.self in
+    (all_lines (lines_with c.args.names.now) after focus (merged number c.args.dones.now c.args.frames.now c.args.lines.now)
+    ++ end_line (length c.args.lines.now) ∷ []) c.args.page.now c.ends.new.self in
     subst P c.in_ok-focus.ensures (then_lines c.in_ok-push_happenings.ensures c.in_ok-ends.ensures)

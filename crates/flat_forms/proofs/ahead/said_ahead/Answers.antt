@@ -5,5 +5,6 @@ use Rattle.flat_forms.proofs.ahead.said_ahead.Goals as goal
 
 pub returns : goal.returns
 returns c =
-    said c.args.script.now.script (words_of c.args.words.now) c.next_piece.result.0.now (pieces_left is_space c.next_piece.result.1) c.in_ok-actor.actor c.in_ok-body.body
+    said c.args.script.now.script (words_of c.args.words.now) c.next_piece.result.0.now (pieces_left is_space c.next_piece.result.1) c.in_ok-actor.actor
+    c.in_ok-body.body
     c.next_piece.ensures c.in_ok-actor.ensures.named c.in_ok-actor.ensures.counted c.in_ok-body.ensures

@@ -3,10 +3,12 @@ use Rattle.flat_places.proofs.lemmas.ReadsLemmas.{then, begin}
 use Rattle.flat_forms.proofs.call_forms.content_fields.Goals as goal
 
 pub returns-in-SetImageSampleRegion : goal.returns-in-SetImageSampleRegion
-returns-in-SetImageSampleRegion c = rw c.in-SetImageSampleRegion.is (then (begin (λ d r. call.SetImageSampleRegion d r) c.content-in-SetImageSampleRegion.ensures) c.int_rect.ensures)
+returns-in-SetImageSampleRegion c = rw c.in-SetImageSampleRegion.is
+    (then (begin (λ d r. call.SetImageSampleRegion d r) c.content-in-SetImageSampleRegion.ensures) c.int_rect.ensures)
 
 pub returns-in-SetImageBlendingFunction : goal.returns-in-SetImageBlendingFunction
-returns-in-SetImageBlendingFunction c = rw c.in-SetImageBlendingFunction.is (then (begin (λ d m. call.SetImageBlendingFunction d m) c.content-in-SetImageBlendingFunction.ensures) c.blend.ensures)
+returns-in-SetImageBlendingFunction c = rw c.in-SetImageBlendingFunction.is
+    (then (begin (λ d m. call.SetImageBlendingFunction d m) c.content-in-SetImageBlendingFunction.ensures) c.blend.ensures)
 
 pub returns-in-SetImageFlip : goal.returns-in-SetImageFlip
 returns-in-SetImageFlip c = rw c.in-SetImageFlip.is (then (begin (λ d f. call.SetImageFlip d f) c.content-in-SetImageFlip.ensures) c.flip.ensures)

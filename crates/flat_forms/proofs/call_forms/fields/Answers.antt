@@ -3,7 +3,8 @@ use Rattle.flat_places.proofs.lemmas.ReadsLemmas.{then, begin}
 use Rattle.flat_forms.proofs.call_forms.fields.Goals as goal
 
 pub returns-in-SetOrientation : goal.returns-in-SetOrientation
-returns-in-SetOrientation c = rw c.in-SetOrientation.is (then (begin (λ t o. call.SetOrientation t o) c.transform-in-SetOrientation.ensures) c.orientation.ensures)
+returns-in-SetOrientation c = rw c.in-SetOrientation.is
+    (then (begin (λ t o. call.SetOrientation t o) c.transform-in-SetOrientation.ensures) c.orientation.ensures)
 
 pub returns-in-SetOpacity : goal.returns-in-SetOpacity
 returns-in-SetOpacity c = rw c.in-SetOpacity.is (then (begin (λ t v. call.SetOpacity t v) c.transform-in-SetOpacity.ensures) c.u32.ensures)
@@ -15,10 +16,12 @@ pub returns-in-AddChild : goal.returns-in-AddChild
 returns-in-AddChild c = rw c.in-AddChild.is (then (begin (λ p k. call.AddChild p k) c.transform-in-AddChild.ensures) c.transform-in-AddChild-2.ensures)
 
 pub returns-in-RemoveChild : goal.returns-in-RemoveChild
-returns-in-RemoveChild c = rw c.in-RemoveChild.is (then (begin (λ p k. call.RemoveChild p k) c.transform-in-RemoveChild.ensures) c.transform-in-RemoveChild-2.ensures)
+returns-in-RemoveChild c = rw c.in-RemoveChild.is (then (begin (λ p k. call.RemoveChild p k) c.transform-in-RemoveChild.ensures)
+    c.transform-in-RemoveChild-2.ensures)
 
 pub returns-in-SetInfiniteHitRegion : goal.returns-in-SetInfiniteHitRegion
-returns-in-SetInfiniteHitRegion c = rw c.in-SetInfiniteHitRegion.is (then (begin (λ t i. call.SetInfiniteHitRegion t i) c.transform-in-SetInfiniteHitRegion.ensures) c.interaction.ensures)
+returns-in-SetInfiniteHitRegion c = rw c.in-SetInfiniteHitRegion.is
+    (then (begin (λ t i. call.SetInfiniteHitRegion t i) c.transform-in-SetInfiniteHitRegion.ensures) c.interaction.ensures)
 
 pub returns-in-SetContent : goal.returns-in-SetContent
 returns-in-SetContent c = rw c.in-SetContent.is (then (begin (λ t d. call.SetContent t d) c.transform-in-SetContent.ensures) c.content.ensures)
@@ -35,4 +38,5 @@ returns-in_ok-regions-in-SetHitRegions c =
 
 pub returns-in_ok-transforms-in-ReplaceChildren : goal.returns-in_ok-transforms-in-ReplaceChildren
 returns-in_ok-transforms-in-ReplaceChildren c =
-    rw c.in-ReplaceChildren.is (then (begin (λ p ks. call.ReplaceChildren p ks) c.transform-in-ReplaceChildren.ensures) c.in_ok-transforms-in-ReplaceChildren.ensures)
+    rw c.in-ReplaceChildren.is (then (begin (λ p ks. call.ReplaceChildren p ks) c.transform-in-ReplaceChildren.ensures)
+    c.in_ok-transforms-in-ReplaceChildren.ensures)

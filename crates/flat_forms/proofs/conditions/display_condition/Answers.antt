@@ -12,4 +12,5 @@ returns-in-Err c =
     let presents = sym c.is_word.ensures ∙ c.if-is_word.false in
     let named = sym c.is_word-2.ensures ∙ c.if-is_word-2.true in
     rw (c.in-Some.is, c.next_piece.ensures, presents, named)
-    (sym (whole_failed (λ f. asks.Fence f) (fence c.args.script.now.script Display) (pieces_left is_space c.next_piece.result.1) c.in-Err.k (sym c.owned_fence.ensures ∙ c.in-Err.is)))
+    (sym (whole_failed (λ f. asks.Fence f) (fence c.args.script.now.script Display) (pieces_left is_space c.next_piece.result.1) c.in-Err.k
+    (sym c.owned_fence.ensures ∙ c.in-Err.is)))

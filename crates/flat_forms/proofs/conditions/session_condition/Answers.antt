@@ -30,7 +30,8 @@ returns-in-Err-count c =
     let frames = sym c.is_word.ensures ∙ c.if-is_word.false in
     let credits = sym c.is_word-2.ensures ∙ c.if-is_word-2.true in
     rw (c.in-Some.is, c.next_piece.ensures, frames, credits)
-    (sym (whole_failed (λ n. asks.Credits n) u32 (pieces_left is_space c.next_piece.result.1) c.in-Err-count.k (sym c.count-then-is_word-2.ensures ∙ c.in-Err-count.is)))
+    (sym (whole_failed (λ n. asks.Credits n) u32 (pieces_left is_space c.next_piece.result.1) c.in-Err-count.k
+    (sym c.count-then-is_word-2.ensures ∙ c.in-Err-count.is)))
 
 pub returns-in-Err-count-2 : goal.returns-in-Err-count-2
 returns-in-Err-count-2 c =
@@ -38,7 +39,8 @@ returns-in-Err-count-2 c =
     let credits = sym c.is_word-2.ensures ∙ c.if-is_word-2.false in
     let taken = sym c.is_word-3.ensures ∙ c.if-is_word-3.true in
     rw (c.in-Some.is, c.next_piece.ensures, frames, credits, taken)
-    (sym (whole_failed (λ n. asks.Taken n) u32 (pieces_left is_space c.next_piece.result.1) c.in-Err-count-2.k (sym c.count-then-is_word-3.ensures ∙ c.in-Err-count-2.is)))
+    (sym (whole_failed (λ n. asks.Taken n) u32 (pieces_left is_space c.next_piece.result.1) c.in-Err-count-2.k
+    (sym c.count-then-is_word-3.ensures ∙ c.in-Err-count-2.is)))
 
 pub returns-in-Err-count-3 : goal.returns-in-Err-count-3
 returns-in-Err-count-3 c =
@@ -47,7 +49,8 @@ returns-in-Err-count-3 c =
     let taken = sym c.is_word-3.ensures ∙ c.if-is_word-3.false in
     let answers = sym c.is_word-4.ensures ∙ c.if-is_word-4.true in
     rw (c.in-Some.is, c.next_piece.ensures, frames, credits, taken, answers)
-    (sym (whole_failed (λ n. asks.Answers n) u32 (pieces_left is_space c.next_piece.result.1) c.in-Err-count-3.k (sym c.count-then-is_word-4.ensures ∙ c.in-Err-count-3.is)))
+    (sym (whole_failed (λ n. asks.Answers n) u32 (pieces_left is_space c.next_piece.result.1) c.in-Err-count-3.k
+    (sym c.count-then-is_word-4.ensures ∙ c.in-Err-count-3.is)))
 
 pub returns-in-Err-owned_fence : goal.returns-in-Err-owned_fence
 returns-in-Err-owned_fence c =
@@ -58,4 +61,5 @@ returns-in-Err-owned_fence c =
     let named = sym c.is_word-5.ensures ∙ c.if-is_word-5.true in
     let form = fence c.args.script.now.script (Session c.args.session) in
     rw (c.in-Some.is, c.next_piece.ensures, frames, credits, taken, answers, named)
-    (sym (whole_failed (λ f. asks.Fence f) form (pieces_left is_space c.next_piece.result.1) c.in-Err-owned_fence.k (sym c.owned_fence.ensures ∙ c.in-Err-owned_fence.is)))
+    (sym (whole_failed (λ f. asks.Fence f) form (pieces_left is_space c.next_piece.result.1) c.in-Err-owned_fence.k
+    (sym c.owned_fence.ensures ∙ c.in-Err-owned_fence.is)))

@@ -5,4 +5,5 @@ use Rattle.flat_places.proofs.lemmas.ReadsLemmas.{read_whole, begin}
 use Rattle.flat_forms.proofs.forms.dpr.Goals as goal
 
 pub returns : goal.returns
-returns c = read_whole (display.Dpr <$> ratio) c.new-places.ensures.words c.new-places.ensures.sofar (begin display.Dpr c.ratio-ratio.ensures) c.finish.ensures.reads
+returns c = read_whole (display.Dpr <$> ratio) c.new-places.ensures.words c.new-places.ensures.sofar (begin display.Dpr c.ratio-ratio.ensures)
+    c.finish.ensures.reads

@@ -9,4 +9,5 @@ pub returns : goal.returns
 returns c =
     let x = to_z-of_z w32 c.i32-x.result c.i32-x.ensures.fits in
     let y = to_z-of_z w32 c.i32-y.result c.i32-y.ensures.fits in
-    read_whole (point (λ x y. probe.Hit x y)) c.new-places.ensures.words c.new-places.ensures.sofar (then (begin (λ x y. probe.Hit x y) c.i32-x.ensures.reads) c.i32-y.ensures.reads) (rw (x, y) at c.finish.ensures.reads)
+    read_whole (point (λ x y. probe.Hit x y)) c.new-places.ensures.words c.new-places.ensures.sofar
+    (then (begin (λ x y. probe.Hit x y) c.i32-x.ensures.reads) c.i32-y.ensures.reads) (rw (x, y) at c.finish.ensures.reads)

@@ -12,8 +12,10 @@ loop-owner-smaller c =
 
 pub loop-owner-preserved : goal.loop-owner-preserved
 loop-owner-preserved c =
-    list_goes (fence_word c.args.script.now.script c.args.owner) c.args.follows c.args.places.now c.loop-owner.places c.fence-one.new.self c.loop-owner.found _ c.fence-one.result c.loop-owner.invariant
+    list_goes (fence_word c.args.script.now.script c.args.owner) c.args.follows c.args.places.now c.loop-owner.places c.fence-one.new.self c.loop-owner.found _
+    c.fence-one.result c.loop-owner.invariant
     (goes (ends_list c.args.follows) (left c.loop-owner.places) (sym c.has_fence.ensures ∙ c.loop-owner-test.true)) c.fence-one.ensures c.in_ok-push.ensures.ok
 
 pub returns : goal.returns
-returns c = list_ends (fence_word c.args.script.now.script c.args.owner) c.args.follows c.args.places.now c.loop-owner.places c.loop-owner.found c.loop-owner.invariant (sym c.has_fence.ensures ∙ c.loop-owner-test.false)
+returns c = list_ends (fence_word c.args.script.now.script c.args.owner) c.args.follows c.args.places.now c.loop-owner.places c.loop-owner.found
+    c.loop-owner.invariant (sym c.has_fence.ensures ∙ c.loop-owner-test.false)

@@ -12,4 +12,5 @@ returns c =
     let reading = one_or_more (fence_word c.args.script.now.script c.args.owner) in
     let old = c.args.places.now in
     let new = c.some_fences.new.places in
-    if_ok (λ v. ReadsList reading false old new v) (λ v. Reads (λ words. (reading words, [])) old new v) c.some_fences.result (λ v list. last_list reading old new v list) c.some_fences.ensures
+    if_ok (λ v. ReadsList reading false old new v) (λ v. Reads (λ words. (reading words, [])) old new v) c.some_fences.result
+    (λ v list. last_list reading old new v list) c.some_fences.ensures

@@ -15,4 +15,5 @@ returns c =
     let mid = c.note_unless.new.self in
     let new = c.each_fence.new.places in
     if_ok (λ v. ReadsList (each test) c.args.follows mid new v) (λ v. ReadsList (one_or_more test) c.args.follows old new v) c.each_fence.result
-    (λ v list. some_list test c.args.follows old mid new v c.note_unless.ensures.words (c.note_unless.ensures.lower ∙ ap (λ b. lower (sofar old) (passes WrongCount b)) c.has_fence-some.ensures) list) c.each_fence.ensures
+    (λ v list. some_list test c.args.follows old mid new v c.note_unless.ensures.words
+    (c.note_unless.ensures.lower ∙ ap (λ b. lower (sofar old) (passes WrongCount b)) c.has_fence-some.ensures) list) c.each_fence.ensures

@@ -5,4 +5,5 @@ use Rattle.flat_places.proofs.lemmas.ReadsLemmas.{begin, read_whole}
 use Rattle.flat_forms.proofs.session_forms.get_child.Goals as goal
 
 pub returns : goal.returns
-returns c = read_whole child_asked c.new-places.ensures.words c.new-places.ensures.sofar (begin (λ d. line.Get (watch.Child d)) c.content-c.ensures) c.finish.ensures.reads
+returns c = read_whole child_asked c.new-places.ensures.words c.new-places.ensures.sofar (begin (λ d. line.Get (watch.Child d)) c.content-c.ensures)
+    c.finish.ensures.reads

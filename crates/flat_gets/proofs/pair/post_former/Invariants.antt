@@ -6,7 +6,8 @@ use Rattle.flat_gets.proofs.pair.post_former.Given as goal
 -- what is left leads from here to the same end
 abbrev pub invariant-loop-one : goal.invariant-loop-one
 invariant-loop-one l = record {
-  posts : l.log.posts ++ map (post_of (length l.fn.log.history) l.s) (former_events l.p l.now (drop l.one-index l.former)) ≡ l.fn.log.posts ++ map (post_of (length l.fn.log.history) l.s) (former_events l.p l.now l.former);
+  posts : l.log.posts ++ map (post_of (length l.fn.log.history) l.s) (former_events l.p l.now (drop l.one-index l.former)) ≡ l.fn.log.posts
+      ++ map (post_of (length l.fn.log.history) l.s) (former_events l.p l.now l.former);
   counted : l.count + length (former_events l.p l.now (drop l.one-index l.former)) ≡ length (former_events l.p l.now l.former);
   few : l.count ≤ l.one-index;
   history : l.log.history ≡ l.fn.log.history;

@@ -6,4 +6,5 @@ use Rattle.flat_gets.proofs.PairLists.{parted}
 use Rattle.flat_gets.proofs.session.place_of.Goals as goal
 
 pub returns-clause-point : goal.returns-clause-point
-returns-clause-point c = IsPartitionPoint-from_clause (λ (q : PairNo). nat_lt q.0 c.args.p.0) _ _ c.partition_point.ensures.partitioned (parted c.args.p.0 c.args.listed.now c.requires) (λ a r q k. search rules)
+returns-clause-point c = IsPartitionPoint-from_clause (λ (q : PairNo). nat_lt q.0 c.args.p.0) _ _ c.partition_point.ensures.partitioned
+    (parted c.args.p.0 c.args.listed.now c.requires) (λ a r q k. search rules)

@@ -36,10 +36,13 @@ loop-p-preserved g c =
       told = λ setup history stands.
           let now : PairNo → Option Told = λ q. told setup history (watcher_at c.args.part q 0) in
           let is : c.told_of-now.result ≡ now p = c.told_of-now.ensures setup history stands in
-          let T : List PairNo → Type 0 = λ l. TellsEach c.args.part now (length c.args.log.now.history) c.args.s l c.args.pairs.now.items (slice_set cur p.0 then) c.args.log.now.posts c.tell-count.new.log.posts (c.loop-p.count + c.tell-count.result) in
+          let T : List PairNo → Type 0 = λ l. TellsEach c.args.part now (length c.args.log.now.history) c.args.s l c.args.pairs.now.items
+          (slice_set cur p.0 then) c.args.log.now.posts c.tell-count.new.log.posts (c.loop-p.count + c.tell-count.result) in
           subst T (sym (take_more xs i none below))
-          (tells-next c.args.part now (length c.args.log.now.history) c.args.s (take i xs) p c.args.pairs.now.items cur was then c.args.log.now.posts c.loop-p.log.posts c.tell-count.new.log.posts c.loop-p.count c.tell-count.result
-          (listed-before 0 xs c.requires.rising i none below) known (inv.told setup history stands) c.index_mut-pair.ensures.value (subst (λ (o : Option Told). IsTold c.args.part o was then) is e.told)
+          (tells-next c.args.part now (length c.args.log.now.history) c.args.s (take i xs) p c.args.pairs.now.items cur was then
+          c.args.log.now.posts c.loop-p.log.posts c.tell-count.new.log.posts c.loop-p.count c.tell-count.result
+          (listed-before 0 xs c.requires.rising i none below) known (inv.told setup history stands) c.index_mut-pair.ensures.value
+          (subst (λ (o : Option Told). IsTold c.args.part o was then) is e.told)
           (e.posts ∙ ap (λ (o : Option Told). c.loop-p.log.posts ++ map (post_of (length c.loop-p.log.history) c.args.s) (part_events c.args.part p o was)) is
           ∙ ap (λ (n : ℕ). c.loop-p.log.posts ++ map (post_of n c.args.s) (part_events c.args.part p (now p) was)) place)
           (e.count ∙ ap (λ (o : Option Told). length (part_events c.args.part p o was)) is));
@@ -53,5 +56,6 @@ loop-p-preserved g c =
 
 pub returns-clause-told : goal.returns-clause-told
 returns-clause-told g c = λ setup history stands.
-    let T : List PairNo → Type 0 = λ l. TellsEach c.args.part (λ (q : PairNo). told setup history (watcher_at c.args.part q 0)) (length c.args.log.now.history) c.args.s l c.args.pairs.now.items c.loop-p.pairs.items c.args.log.now.posts c.loop-p.log.posts c.loop-p.count in
+    let T : List PairNo → Type 0 = λ l. TellsEach c.args.part (λ (q : PairNo). told setup history (watcher_at c.args.part q 0)) (length c.args.log.now.history)
+    c.args.s l c.args.pairs.now.items c.loop-p.pairs.items c.args.log.now.posts c.loop-p.log.posts c.loop-p.count in
     subst T (take-all c.args.listed.now c.loop-p.p-index c.loop-p-test.false) (c.loop-p.invariant.told setup history stands)

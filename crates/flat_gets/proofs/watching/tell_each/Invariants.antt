@@ -13,7 +13,8 @@ use Rattle.flat_gets.proofs.watching.tell_each.Given as goal
 abbrev pub invariant-loop-p : goal.invariant-loop-p
 invariant-loop-p g l = record {
   told : (setup : Setup) (history : List Entry) → g.T.Tells.stands l.fn.tells setup history
-      → TellsEach l.part (λ (p : PairNo). told setup history (watcher_at l.part p 0)) (length l.fn.log.history) l.s (take l.p-index l.listed) l.fn.pairs.items l.pairs.items l.fn.log.posts l.log.posts l.count;
+      → TellsEach l.part (λ (p : PairNo). told setup history (watcher_at l.part p 0)) (length l.fn.log.history) l.s (take l.p-index l.listed) l.fn.pairs.items
+      l.pairs.items l.fn.log.posts l.log.posts l.count;
   pushed : length l.log.posts ≡ length l.fn.log.posts + l.count;
   count : length l.pairs.items ≡ length l.fn.pairs.items;
   due : sum_by waiting_in l.pairs.items + l.count ≡ sum_by waiting_in l.fn.pairs.items;

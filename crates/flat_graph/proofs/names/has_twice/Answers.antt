@@ -13,7 +13,8 @@ pub returns-then-any : goal.returns-then-any
 returns-then-any c =
     let d : TransformId = record { 0 = 0 } in
     let place = c.loop-place.place in
-    let found = any_from_yields_List (λ (id : TransformId). (get_or c.args.ids.now place d).0 == id.0) _ _ c.any.result c.any.ensures.ran (YieldsList-from_slice _ c.iter.ensures.rest) (λ x b q k. search (rules, tests)) in
+    let found = any_from_yields_List (λ (id : TransformId). (get_or c.args.ids.now place d).0 == id.0) _ _ c.any.result c.any.ensures.ran
+    (YieldsList-from_slice _ c.iter.ensures.rest) (λ x b q k. search (rules, tests)) in
     let step = twice-step c.args.ids.now place d c.any.result c.loop-place-test.true found in
     sym (sym c.loop-place.invariant ∙ step ∙ ap (λ (b : Bool). b || are_twice (drop (place + 1) c.args.ids.now)) c.if-any.true)
 
@@ -21,7 +22,8 @@ pub loop-place-preserved : goal.loop-place-preserved
 loop-place-preserved c =
     let d : TransformId = record { 0 = 0 } in
     let place = c.loop-place.place in
-    let found = any_from_yields_List (λ (id : TransformId). (get_or c.args.ids.now place d).0 == id.0) _ _ c.any.result c.any.ensures.ran (YieldsList-from_slice _ c.iter.ensures.rest) (λ x b q k. search (rules, tests)) in
+    let found = any_from_yields_List (λ (id : TransformId). (get_or c.args.ids.now place d).0 == id.0) _ _ c.any.result c.any.ensures.ran
+    (YieldsList-from_slice _ c.iter.ensures.rest) (λ x b q k. search (rules, tests)) in
     let step = twice-step c.args.ids.now place d c.any.result c.loop-place-test.true found in
     sym (step ∙ ap (λ (b : Bool). b || are_twice (drop (place + 1) c.args.ids.now)) c.if-any.false) ∙ c.loop-place.invariant
 

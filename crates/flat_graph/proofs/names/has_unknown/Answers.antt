@@ -8,4 +8,5 @@ use Rattle.flat_graph.proofs.names.has_unknown.Goals as goal
 
 pub returns : goal.returns
 returns c =
-    any_from_yields_List (λ (id : TransformId). is_none (key_named c.args.names.now id.0)) _ _ c.any.result c.any.ensures.ran (YieldsList-from_slice _ c.iter.ensures.rest) (λ x b q k. search (rules, tests))
+    any_from_yields_List (λ (id : TransformId). is_none (key_named c.args.names.now id.0)) _ _ c.any.result c.any.ensures.ran
+    (YieldsList-from_slice _ c.iter.ensures.rest) (λ x b q k. search (rules, tests))

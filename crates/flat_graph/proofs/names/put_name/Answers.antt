@@ -6,7 +6,8 @@ use Rattle.flat_graph.proofs.lemmas.NameLemmas.{place-within, insert-with}
 use Rattle.flat_graph.proofs.names.put_name.Goals as goal
 
 pub insert-requires : goal.insert-requires
-insert-requires c = let h : c.place_of-place.result ≤ length c.args.names.now.items = rw c.deref.ensures.value at (place-within _ _ _ c.place_of-place.ensures) in omega (arith, c.deref.ensures.len)
+insert-requires c = let h : c.place_of-place.result ≤ length c.args.names.now.items =
+    rw c.deref.ensures.value at (place-within _ _ _ c.place_of-place.ensures) in omega (arith, c.deref.ensures.len)
 
 pub returns : goal.returns
 returns c =

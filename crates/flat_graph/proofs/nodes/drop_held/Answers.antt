@@ -10,10 +10,13 @@ pub loop-key-preserved : goal.loop-key-preserved
 loop-key-preserved c = elim c.match-get_mut.branch [
   | in-Some w ↦
       rw w.nodes-is
-      (changed-some (without_content c.args.serial) _ c.args.nodes.now c.loop-key.key w.in-Some.node.now _ c.loop-key.invariant (sym (rw w.in-Some.is at c.get_mut.ensures.value))
+      (changed-some (without_content c.args.serial) _ c.args.nodes.now c.loop-key.key w.in-Some.node.now _ c.loop-key.invariant
+      (sym (rw w.in-Some.is at c.get_mut.ensures.value))
       (ap (λ (held : Option Held). record w.in-Some.node.now { content = held }) w.held_without-node.ensures))
-  | in_default w ↦ rw w.nodes-is (changed-none (without_content c.args.serial) _ c.args.nodes.now c.loop-key.key c.loop-key.invariant (sym (rw w.in_default.is at c.get_mut.ensures.value)))
+  | in_default w ↦ rw w.nodes-is (changed-none (without_content c.args.serial) _ c.args.nodes.now c.loop-key.key c.loop-key.invariant
+      (sym (rw w.in_default.is at c.get_mut.ensures.value)))
 ]
 
 pub returns : goal.returns
-returns c = changed-done (without_content c.args.serial) _ c.args.nodes.now c.loop-key.key c.loop-key.invariant (omega (arith, c.capacity-key-end.ensures.slots, c.capacity-key-end.ensures.value))
+returns c = changed-done (without_content c.args.serial) _ c.args.nodes.now c.loop-key.key c.loop-key.invariant
+    (omega (arith, c.capacity-key-end.ensures.slots, c.capacity-key-end.ensures.value))

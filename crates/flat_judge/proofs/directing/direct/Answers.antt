@@ -12,7 +12,8 @@ returns-in-Begin-clause-shows c =
     let play = c.args.play.now in
     let M : DisplayLine → Type 0 = λ t. MayCall play.board Display [] (entry_of_display t) in
     let may = subst M c.in-Begin.is c.requires.may in
-    shows_begin c.args.script.now play c.begin.new.play c.args.number c.in-Begin.time (may_shut play.board.history c.in-Begin.time may.may.times) c.begin.ensures c.requires.shows
+    shows_begin c.args.script.now play c.begin.new.play c.args.number c.in-Begin.time (may_shut play.board.history c.in-Begin.time may.may.times)
+    c.begin.ensures c.requires.shows
 
 pub returns-in_ok-hit-in-Hit-clause-shows : goal.returns-in_ok-hit-in-Hit-clause-shows
 returns-in_ok-hit-in-Hit-clause-shows c =

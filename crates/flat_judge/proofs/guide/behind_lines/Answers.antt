@@ -10,4 +10,5 @@ returns-in_default c =
     none ∙ sym (drop-end c.loop.counter c.args.count (lines_of c.args.text.now) (omega (arith, below)) (c.loop.invariant ∙ none))
 
 pub loop-preserved : goal.loop-preserved
-loop-preserved c = drop-more c.loop.counter (lines_of c.args.text.now) c.in-Some.field-0-0.now (lines_of c.in-Some.later.now) (c.loop.invariant ∙ c.in-Some.ensures.lines)
+loop-preserved c = drop-more c.loop.counter (lines_of c.args.text.now) c.in-Some.field-0-0.now (lines_of c.in-Some.later.now)
+    (c.loop.invariant ∙ c.in-Some.ensures.lines)

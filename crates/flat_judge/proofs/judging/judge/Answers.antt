@@ -21,7 +21,8 @@ returns c =
     record {
       none = λ read run is.
           (let same : c.args.text.now ≡ c.in_ok-written.written.report = written.only read run is in
-          let none : parts_from 1 c.args.text.now c.in_ok-written.written.report ≡ None = ap (parts_from 1 c.args.text.now) (sym same) ∙ parts-same 1 c.args.text.now in
+          let none : parts_from 1 c.args.text.now c.in_ok-written.written.report ≡ None =
+          ap (parts_from 1 c.args.text.now) (sym same) ∙ parts-same 1 c.args.text.now in
           let wrong : Some c.in-Some.line ≡ None = sym parts ∙ none in cc);
       parts = record {
         run = legal.run;

@@ -18,10 +18,13 @@ returns c =
     let lost : List Lost = along.lost in
     let journal = c.journal-2.result.now in
     let many_entries : c.len-entries.result ≡ length c.journal.result.now.entries.items = search rules in
-    let its = run script c.requires.playable guided whole c.frames_are_seen.ensures c.journal.ensures.legal lost (whole-loss script c.args.text.now history along c.requires.stopped) c.requires.stopped.stopped.losses.1 in
+    let its = run script c.requires.playable guided whole c.frames_are_seen.ensures c.journal.ensures.legal lost
+    (whole-loss script c.args.text.now history along c.requires.stopped) c.requires.stopped.stopped.losses.1 in
     let report_is = c.in_ok-report.ensures
-    ∙ ap (λ (ls : List Lost). handed_report script journal.entries.items journal.posts.items c.into_texts.result.texts.items ls guided.play.answers c.as_slice-2.result.now) c.as_slice.ensures
-    ∙ handed script c.requires.playable guided whole c.handed_is_report.ensures c.into_texts.result c.into_texts.ensures lost journal.entries.items journal.posts.items c.as_slice-2.result.now c.as_slice-2.ensures.value c.journal-2.ensures.entries c.journal-2.ensures.posts in
+    ∙ ap (λ (ls : List Lost). handed_report script journal.entries.items journal.posts.items c.into_texts.result.texts.items ls guided.play.answers
+    c.as_slice-2.result.now) c.as_slice.ensures
+    ∙ handed script c.requires.playable guided whole c.handed_is_report.ensures c.into_texts.result c.into_texts.ensures lost journal.entries.items
+    journal.posts.items c.as_slice-2.result.now c.as_slice-2.ensures.value c.journal-2.ensures.entries c.journal-2.ensures.posts in
     record {
       legal = record {
         run = its;
@@ -29,5 +32,6 @@ returns c =
         entries_are = many_entries ∙ entries-many c.journal.result.now.entries.items history c.journal.ensures.entries;
         frames_are = many;
       };
-      only = λ read other is. reported-only script c.args.text.now history along its.seen c.requires.stopped its.is read other is (c.requires.sees read other is) ∙ sym report_is;
+      only = λ read other is. reported-only script c.args.text.now history along its.seen c.requires.stopped its.is read other is
+          (c.requires.sees read other is) ∙ sym report_is;
     }

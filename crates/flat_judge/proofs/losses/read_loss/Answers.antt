@@ -1,4 +1,5 @@
-use Rattle.std.proofs.Common.{rules, ◌≡◌, ◌==◌, ◌&&◌, ◌<◌, ◌^◌, ◌++◌, ℕ, nat_lt, true, false, not, List, [], ◌∷◌, Some, None, drop, refl, sym, ap, ◌∙◌, subst, arith, true≢false}
+use Rattle.std.proofs.Common.{rules, ◌≡◌, ◌==◌, ◌&&◌, ◌<◌, ◌^◌, ◌++◌, ℕ, nat_lt, true, false, not, List, [], ◌∷◌, Some, None, drop, refl, sym, ap, ◌∙◌, subst}
+use Rattle.std.proofs.Common.{arith, true≢false}
 use Rattle.std.proofs.lemmas.Bool.{eq-eqb}
 use Rattle.std.proofs.lemmas.Bool.Decides.{nat_tests}
 use Rattle.flat_base.proofs.lemmas.Tests.{and-true}
@@ -11,16 +12,23 @@ use Rattle.flat_judge.proofs.Pass.{rest-all}
 use Rattle.flat_judge.proofs.losses.read_loss.Goals as goal
 
 pub returns-in_default-clause-none : goal.returns-in_default-clause-none
-returns-in_default-clause-none c = λ _. (refl, λ one rest at low fits is. c.next_display.ensures.none c.in_default.is one.display (above-none one.display low) (of-32-bits one.display low) (ap next_display (rest-all c.args.text.now c.args.at) ∙ next-is one (drop c.args.at c.args.text.now) rest low is))
+returns-in_default-clause-none c = λ _. (
+  refl,
+  λ one rest at low fits is. c.next_display.ensures.none c.in_default.is one.display (above-none one.display low)
+      (of-32-bits one.display low) (ap next_display (rest-all c.args.text.now c.args.at) ∙ next-is one (drop c.args.at c.args.text.now) rest low is),
+)
 
 pub returns-then-not-is_behind-clause-none : goal.returns-then-not-is_behind-clause-none
 returns-then-not-is_behind-clause-none c = λ _. (
   refl,
   λ one rest at low fits is.
-      (let told : Some c.in-Some.display ≡ Some one.display = sym c.in-Some.ensures.some ∙ ap next_display (rest-all c.args.text.now c.args.at) ∙ next-is one (drop c.args.at c.args.text.now) rest low is in
+      (let told : Some c.in-Some.display ≡ Some one.display = sym c.in-Some.ensures.some ∙ ap next_display (rest-all c.args.text.now c.args.at)
+      ∙ next-is one (drop c.args.at c.args.text.now) rest low is in
       let same = same-one one c.in-Some.display c.args.frame.0 told at in
-      let behind : fits_behind c.args.lost.now (record { display = c.in-Some.display; frame = c.args.frame }) ≡ true = ap (fits_behind c.args.lost.now) (sym same) ∙ fits in
-      let asked : c.is_behind.result ≡ true = c.is_behind.ensures ∙ ap (λ (ls : List Lost). fits_behind ls (record { display = c.in-Some.display; frame = c.args.frame })) c.as_slice.ensures ∙ behind in
+      let behind : fits_behind c.args.lost.now (record { display = c.in-Some.display; frame = c.args.frame }) ≡ true =
+      ap (fits_behind c.args.lost.now) (sym same) ∙ fits in
+      let asked : c.is_behind.result ≡ true = c.is_behind.ensures
+      ∙ ap (λ (ls : List Lost). fits_behind ls (record { display = c.in-Some.display; frame = c.args.frame })) c.as_slice.ensures ∙ behind in
       let wrong : c.is_behind.result ≡ false = search rules in
       true≢false (sym asked ∙ wrong)),
 )
@@ -29,9 +37,11 @@ pub returns-in_default-pass-clause-none : goal.returns-in_default-pass-clause-no
 returns-in_default-pass-clause-none c = λ _. (
   refl,
   λ one rest at low fits is.
-      (let told : Some c.in-Some.display ≡ Some one.display = sym c.in-Some.ensures.some ∙ ap next_display (rest-all c.args.text.now c.args.at) ∙ next-is one (drop c.args.at c.args.text.now) rest low is in
+      (let told : Some c.in-Some.display ≡ Some one.display = sym c.in-Some.ensures.some ∙ ap next_display (rest-all c.args.text.now c.args.at)
+      ∙ next-is one (drop c.args.at c.args.text.now) rest low is in
       let same = same-one one c.in-Some.display c.args.frame.0 told at in
-      let line : c.as_slice-2.result.now ≡ text_of (lost_line one ∷ []) = c.as_slice-2.ensures.value ∙ c.in_ok-line.ensures ∙ ap (λ (l : Lost). text_of (lost_line l ∷ [])) (sym same) in
+      let line : c.as_slice-2.result.now ≡ text_of (lost_line one ∷ []) =
+      c.as_slice-2.ensures.value ∙ c.in_ok-line.ensures ∙ ap (λ (l : Lost). text_of (lost_line l ∷ [])) (sym same) in
       let P : List ℕ → Type 0 = λ b. Passes c.args.text.now c.args.at b None in
       none-passes c.args.text.now c.args.at (text_of (lost_line one ∷ [])) rest c.requires (subst P line c.in_default-pass.ensures) is),
 )

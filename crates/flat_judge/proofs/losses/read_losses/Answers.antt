@@ -16,14 +16,21 @@ returns-in-None-clause-reads c =
 
 pub loop-preserved : goal.loop-preserved
 loop-preserved c =
-    let F : Option ℕ → Type 0 = λ found. IfSome found (λ next. (next ≤ length c.args.text.now) × ReadsLoss c.args.frame.0 c.loop.lost c.read_loss.new.lost c.args.text.now c.loop.place next) in
+    let F : Option ℕ → Type 0 = λ found. IfSome found (λ next. (next ≤ length c.args.text.now)
+    × ReadsLoss c.args.frame.0 c.loop.lost c.read_loss.new.lost c.args.text.now c.loop.place next) in
     let one = subst F c.in-Some.is c.in_ok-next.ensures.some in
     let low = c.loop.invariant.2 in
-    let further = one.1.further in
-    (reading-more c.args.frame.0 c.args.lost.now c.loop.lost c.read_loss.new.lost c.args.text.now c.args.at c.loop.place c.in-Some.next c.loop.invariant.0 one.1, one.0, omega (arith, low, further))
+    let further = one.1.further in (
+      reading-more c.args.frame.0 c.args.lost.now c.loop.lost c.read_loss.new.lost c.args.text.now c.args.at c.loop.place c.in-Some.next c.loop.invariant.0
+          one.1,
+      one.0,
+      omega (arith, low, further),
+    )
 
 pub returns-clause-reads : goal.returns-clause-reads
 returns-clause-reads c =
     let low = c.loop.invariant.2 in
-    let end : drop c.loop.place c.args.text.now ≡ [] = drop-past c.args.text.now c.loop.place (omega (arith, low, c.loop-test.false, c.loop.auto.counter-end, c.requires.within)) in
-    reading-ends c.args.frame.0 c.args.lost.now c.loop.lost c.args.text.now c.args.at c.loop.place c.loop.invariant.0 (stops-at-end c.args.frame.0 c.loop.lost (drop c.loop.place c.args.text.now) end)
+    let end : drop c.loop.place c.args.text.now ≡ [] = drop-past c.args.text.now c.loop.place
+    (omega (arith, low, c.loop-test.false, c.loop.auto.counter-end, c.requires.within)) in
+    reading-ends c.args.frame.0 c.args.lost.now c.loop.lost c.args.text.now c.args.at c.loop.place c.loop.invariant.0
+    (stops-at-end c.args.frame.0 c.loop.lost (drop c.loop.place c.args.text.now) end)

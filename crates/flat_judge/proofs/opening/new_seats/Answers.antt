@@ -15,7 +15,9 @@ loop-before-preserved c =
     let P : List Seat → Type 0 = SeatsTo script (n + 1) in
     let new = c.in_ok-reader.ensures script.setup refl (is_numbered script.setup n (omega (arith, c.loop-before-test.true))) in
     subst P (sym c.in_ok-push.ensures.items)
-    (seats_more script n c.loop-before.seats.items (record { reader = c.in_ok-reader.reader; place = 0; has_ended = false }) c.loop-before.invariant (new_sits c.lines_are_read.ensures.none script (record { 0 = n + 1 }) c.in_ok-reader.reader new))
+    (seats_more script n c.loop-before.seats.items (record { reader = c.in_ok-reader.reader; place = 0; has_ended = false }) c.loop-before.invariant
+    (new_sits c.lines_are_read.ensures.none script (record { 0 = n + 1 }) c.in_ok-reader.reader new))
 
 pub returns : goal.returns
-returns c = seats_all c.args.script.now c.loop-before.before c.loop-before.seats.items (omega (arith, c.loop-before.auto.before-end, c.loop-before-test.false)) c.loop-before.invariant
+returns c = seats_all c.args.script.now c.loop-before.before c.loop-before.seats.items (omega (arith, c.loop-before.auto.before-end, c.loop-before-test.false))
+    c.loop-before.invariant

@@ -17,5 +17,6 @@ returns-then-at-text c =
     let text = c.args.text.now in
     let runs = c.as_slice-runs.result.now in
     let none : drop c.loop-run.run-index runs ≡ [] = all-past runs c.loop-run.run-index (omega (arith, c.loop-run-test.false)) in
-    sym (c.loop-run.invariant.2 ∙ ap (λ (rs : List (Arc (List ℕ) Global)). parts_from c.loop-run.line (drop c.loop-run.at text) (concat (map arc_value rs))) none
+    sym (c.loop-run.invariant.2 ∙ ap (λ (rs : List (Arc (List ℕ) Global)). parts_from c.loop-run.line (drop c.loop-run.at text) (concat (map arc_value rs)))
+    none
     ∙ parts-longer c.loop-run.line c.loop-run.at text (omega (arith, c.if-at-text.true)))

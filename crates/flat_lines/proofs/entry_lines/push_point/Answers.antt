@@ -6,4 +6,5 @@ use Rattle.flat_lines.proofs.entry_lines.push_point.Goals as goal
 pub returns : goal.returns
 returns c =
     let e = to_z-of_z w32 in
-    simp (e c.args.x c.ranges.x, e c.args.y c.ranges.y) at (then c.in_ok-word.ensures (then c.in_ok-point.ensures (then c.in_ok-push_long.ensures c.in_ok-push_hits.ensures)))
+    simp (e c.args.x c.ranges.x, e c.args.y c.ranges.y) at
+    (then c.in_ok-word.ensures (then c.in_ok-point.ensures (then c.in_ok-push_long.ensures c.in_ok-push_hits.ensures)))

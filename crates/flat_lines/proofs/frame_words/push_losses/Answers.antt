@@ -14,4 +14,5 @@ one_more n xs i d within =
 
 pub loop-one-preserved : goal.loop-one-preserved
 loop-one-preserved c =
-    same_lines (sym (one_more c.args.number c.args.lost.now c.loop-one.one-index _ c.loop-one-test.true)) (then_lines c.loop-one.invariant c.in_ok-push_lost_at.ensures)
+    same_lines (sym (one_more c.args.number c.args.lost.now c.loop-one.one-index _ c.loop-one-test.true))
+    (then_lines c.loop-one.invariant c.in_ok-push_lost_at.ensures)

@@ -21,7 +21,8 @@ loop-one-preserved c =
     elim c.if-is_cleared.branch [
       | then-is_cleared w ↦
           (λ last later.
-          onward last (clears-more one rest calls k c.loop-one.pairs w.clear_pair.new.pairs last (sym c.is_cleared.ensures ∙ w.if-is_cleared.true) w.clear_pair.ensures
+          onward last (clears-more one rest calls k c.loop-one.pairs w.clear_pair.new.pairs last (sym c.is_cleared.ensures ∙ w.if-is_cleared.true)
+          w.clear_pair.ensures
           (subst (λ (ps : List PairState). ClearsLive rest calls k ps last) w.pairs-is later)))
       | else-is_cleared w ↦
           (λ last later.
@@ -33,4 +34,5 @@ pub returns : goal.returns
 returns c =
     let none : drop c.loop-one.one-index c.args.live.now ≡ [] = drop-end c.args.live.now c.loop-one.one-index c.loop-one-test.false in
     c.loop-one.invariant c.loop-one.pairs
-    (subst (λ (l : List Live). ClearsLive l c.args.calls.now c.args.presents c.loop-one.pairs c.loop-one.pairs) (sym none) (clears-none c.args.calls.now c.args.presents c.loop-one.pairs))
+    (subst (λ (l : List Live). ClearsLive l c.args.calls.now c.args.presents c.loop-one.pairs c.loop-one.pairs) (sym none)
+    (clears-none c.args.calls.now c.args.presents c.loop-one.pairs))

@@ -5,4 +5,5 @@ pub returns-then-state : goal.returns-then-state
 returns-then-state c = noted-shut c.args.s c.args.calls.now c.args.state.now c.args.ends.now c.args.ties.now c.if-state.true
 
 pub returns : goal.returns
-returns c = noted-open c.args.s c.args.calls.now c.args.state.now c.args.ends.now c.args.ties.now c.note.new.self c.as_slice.result.now c.as_slice.ensures.value c.if-state.false c.note.ensures.tied
+returns c = noted-open c.args.s c.args.calls.now c.args.state.now c.args.ends.now c.args.ties.now c.note.new.self c.as_slice.result.now c.as_slice.ensures.value
+    c.if-state.false c.note.ensures.tied

@@ -16,7 +16,8 @@ loop-call-preserved c last later =
     let rest : List Call = drop (i + 1) calls in
     let is : drop i calls ≡ call ∷ rest = drop-is calls i call c.loop-call-test.true ∙ ap (λ (x : Call). x ∷ rest) (sym c.call-item.is) in
     let then : c.view_then-now.result ≡ view_then c.loop-call.now call = c.view_then-now.ensures in
-    let moved : EndsViews (view_then c.loop-call.now call) rest c.args.presents c.note_one.new.pairs last = subst (λ (v : Option PairNo). EndsViews v rest c.args.presents c.note_one.new.pairs last) then later in
+    let moved : EndsViews (view_then c.loop-call.now call) rest c.args.presents c.note_one.new.pairs last =
+    subst (λ (v : Option PairNo). EndsViews v rest c.args.presents c.note_one.new.pairs last) then later in
     c.loop-call.invariant last
     (subst (λ (cs : List Call). EndsViews c.loop-call.now cs c.args.presents c.loop-call.pairs last) (sym is)
     (ends-more c.loop-call.now call rest c.args.presents c.loop-call.pairs c.note_one.new.pairs last c.note_one.ensures moved))
@@ -25,4 +26,5 @@ pub returns : goal.returns
 returns c =
     let none : drop c.loop-call.call-index c.args.calls.now ≡ [] = drop-end c.args.calls.now c.loop-call.call-index c.loop-call-test.false in
     c.loop-call.invariant c.loop-call.pairs
-    (subst (λ (cs : List Call). EndsViews c.loop-call.now cs c.args.presents c.loop-call.pairs c.loop-call.pairs) (sym none) (ends-none c.loop-call.now c.args.presents c.loop-call.pairs))
+    (subst (λ (cs : List Call). EndsViews c.loop-call.now cs c.args.presents c.loop-call.pairs c.loop-call.pairs) (sym none)
+    (ends-none c.loop-call.now c.args.presents c.loop-call.pairs))

@@ -9,14 +9,17 @@ loop-place-init c = record { count = refl; each = settled-none c.args.pairs.now.
 pub loop-place-preserved : goal.loop-place-preserved
 loop-place-preserved c =
     let inv = c.loop-place.invariant in
-    let below : c.loop-place.place < length c.loop-place.pairs.items = omega (arith, inv.count, c.loop-place-test.true, c.loop-place.auto.place-end, c.len-place-end.ensures) in
+    let below : c.loop-place.place < length c.loop-place.pairs.items =
+    omega (arith, inv.count, c.loop-place-test.true, c.loop-place.auto.place-end, c.len-place-end.ensures) in
     record {
       count = length-set c.loop-place.pairs.items c.loop-place.place _ ∙ inv.count;
-      each = settled-more c.args.pairs.now.items c.loop-place.pairs.items c.loop-place.place c.index_mut-state.result.now inv.count below c.index_mut-state.ensures.value inv.each;
+      each = settled-more c.args.pairs.now.items c.loop-place.pairs.items c.loop-place.place c.index_mut-state.result.now inv.count below
+          c.index_mut-state.ensures.value inv.each;
     }
 
 pub returns : goal.returns
 returns c =
     let inv = c.loop-place.invariant in
-    let done : length c.args.pairs.now.items ≤ c.loop-place.place = omega (arith, c.loop-place.auto.place-end, c.loop-place-test.false, c.len-place-end.ensures) in
+    let done : length c.args.pairs.now.items ≤ c.loop-place.place =
+    omega (arith, c.loop-place.auto.place-end, c.loop-place-test.false, c.len-place-end.ensures) in
     settled-all c.args.pairs.now.items c.loop-place.pairs.items c.loop-place.place inv.count done inv.each

@@ -21,4 +21,5 @@ loop-p-preserved c =
 pub returns : goal.returns
 returns c =
     let none : drop c.loop-p.p-index c.args.noted.now ≡ [] = drop-end c.args.noted.now c.loop-p.p-index c.loop-p-test.false in
-    settled-end c.args.pairs.now.items c.loop-p.pairs.items (subst (λ (l : List PairNo). SettledBut l c.args.pairs.now.items c.loop-p.pairs.items) none c.loop-p.invariant)
+    settled-end c.args.pairs.now.items c.loop-p.pairs.items
+    (subst (λ (l : List PairNo). SettledBut l c.args.pairs.now.items c.loop-p.pairs.items) none c.loop-p.invariant)

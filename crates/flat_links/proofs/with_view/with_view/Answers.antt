@@ -11,4 +11,9 @@ loop-i-preserved c =
     let within : c.loop-i.i < length states = omega arith in
     let fits : c.loop-i.i < length c.loop-i.has = omega (arith, within, inv.size, c.requires.few) in
     rw c.has_view.ensures
-    (record { rest = λ k above. let other : k ≢ c.loop-i.i = omega arith in let still : c.loop-i.i ≤ k = omega arith in rw get_or-set_other (inv.rest k still); size = length-set c.loop-i.has c.loop-i.i (has_view_in c.args.pairs.now.items c.index-states-i.result) ∙ inv.size; each = flag-next (has_view_in c.args.pairs.now.items) states c.loop-i.has c.loop-i.i c.index-states-i.result false fits within c.index-states-i.is inv.each })
+    (record {
+      rest = λ k above. let other : k ≢ c.loop-i.i = omega arith in let still : c.loop-i.i ≤ k = omega arith in rw get_or-set_other (inv.rest k still);
+      size = length-set c.loop-i.has c.loop-i.i (has_view_in c.args.pairs.now.items c.index-states-i.result) ∙ inv.size;
+      each =
+          flag-next (has_view_in c.args.pairs.now.items) states c.loop-i.has c.loop-i.i c.index-states-i.result false fits within c.index-states-i.is inv.each;
+    })

@@ -9,7 +9,8 @@ pub write_digits-start-requires : goal.write_digits-start-requires
 write_digits-start-requires c = (let most = few c.unsigned_abs.result (omega arith) in omega (arith, most), search rules)
 
 pub returns-then-value-ge0-clause-some : goal.returns-then-value-ge0-clause-some
-returns-then-value-ge0-clause-some c = let most = few c.unsigned_abs.result (omega arith) in let start = c.write_digits-start.ensures.start in omega (arith, most, start)
+returns-then-value-ge0-clause-some c = let most = few c.unsigned_abs.result (omega arith) in let start =
+    c.write_digits-start.ensures.start in omega (arith, most, start)
 
 pub overflow_sub-bytes : goal.overflow_sub-bytes
 overflow_sub-bytes c = let most = few c.unsigned_abs.result (omega arith) in let start = c.write_digits-start.ensures.start in omega (arith, most, start)
@@ -22,7 +23,8 @@ returns-clause-some c = let most = few c.unsigned_abs.result (omega arith) in le
 
 pub returns-then-value-ge0-clause-written : goal.returns-then-value-ge0-clause-written
 returns-then-value-ge0-clause-written c =
-    c.write_digits-start.ensures.written ∙ ap (λ ds. decimal c.unsigned_abs.result ++ ds) (drop_all 24 c.args.bytes.now (search rules)) ∙ append-nil (decimal c.unsigned_abs.result) ∙ search rules
+    c.write_digits-start.ensures.written ∙ ap (λ ds. decimal c.unsigned_abs.result ++ ds) (drop_all 24 c.args.bytes.now (search rules))
+    ∙ append-nil (decimal c.unsigned_abs.result) ∙ search rules
 
 pub returns-clause-written : goal.returns-clause-written
 returns-clause-written c =

@@ -10,11 +10,17 @@ returns-in_default c =
 pub returns-in-Some-get : goal.returns-in-Some-get
 returns-in-Some-get c =
     let script = c.args.script.now.script in
-    let got : slice_get script.setup.fences c.in-Some.i ≡ Some c.in-Some-get.fence.now = found_at script.setup.fences c.as_slice.result.now c.in-Some.i c.in-Some-get.fence.now c.as_slice.ensures c.in-Some-get.ensures.lookup.0 c.in-Some-get.ensures.lookup.1 in
-    sym (owned_by _ script.fences script.setup.fences _ c.args.word.now _ c.in-Some.i (Some c.in-Some-get.fence.now) _ c.fence_place.ensures c.in-Some.is got (sym c.has_owner.ensures ∙ c.if-has_owner.true))
+    let got : slice_get script.setup.fences c.in-Some.i ≡ Some c.in-Some-get.fence.now =
+    found_at script.setup.fences c.as_slice.result.now c.in-Some.i c.in-Some-get.fence.now c.as_slice.ensures c.in-Some-get.ensures.lookup.0
+    c.in-Some-get.ensures.lookup.1 in
+    sym (owned_by _ script.fences script.setup.fences _ c.args.word.now _ c.in-Some.i (Some c.in-Some-get.fence.now) _ c.fence_place.ensures c.in-Some.is got
+    (sym c.has_owner.ensures ∙ c.if-has_owner.true))
 
 pub returns-in_default-get : goal.returns-in_default-get
 returns-in_default-get c =
     let script = c.args.script.now.script in
-    let got : slice_get script.setup.fences c.in-Some.i ≡ Some c.in-Some-get.fence.now = found_at script.setup.fences c.as_slice.result.now c.in-Some.i c.in-Some-get.fence.now c.as_slice.ensures c.in-Some-get.ensures.lookup.0 c.in-Some-get.ensures.lookup.1 in
-    sym (owned_by _ script.fences script.setup.fences _ c.args.word.now _ c.in-Some.i (Some c.in-Some-get.fence.now) _ c.fence_place.ensures c.in-Some.is got (sym c.has_owner.ensures ∙ c.if-has_owner.false))
+    let got : slice_get script.setup.fences c.in-Some.i ≡ Some c.in-Some-get.fence.now =
+    found_at script.setup.fences c.as_slice.result.now c.in-Some.i c.in-Some-get.fence.now c.as_slice.ensures c.in-Some-get.ensures.lookup.0
+    c.in-Some-get.ensures.lookup.1 in
+    sym (owned_by _ script.fences script.setup.fences _ c.args.word.now _ c.in-Some.i (Some c.in-Some-get.fence.now) _ c.fence_place.ensures c.in-Some.is got
+    (sym c.has_owner.ensures ∙ c.if-has_owner.false))

@@ -9,6 +9,7 @@ same-frame one other is = cc
 
 pub returns-in-Some-clause-shows : goal.returns-in-Some-clause-shows
 returns-in-Some-clause-shows g c = λ script before frame keeps.
-    let same : c.in-Some.frame.now ≡ frame = same-frame c.in-Some.frame.now frame (c.in-Some.ensures script (before ++ frame ∷ []) keeps ∙ last-more before frame) in
+    let same : c.in-Some.frame.now ≡ frame = same-frame c.in-Some.frame.now frame
+    (c.in-Some.ensures script (before ++ frame ∷ []) keeps ∙ last-more before frame) in
     let shows = c.show.ensures.shows in
     (shows.0, shows.1, shows_same _ _ _ _ _ _ _ _ _ same shows.2)

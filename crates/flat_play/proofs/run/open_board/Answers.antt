@@ -12,7 +12,8 @@ pub open-requires-clause-limits : goal.open-requires-clause-limits
 open-requires-clause-limits c = ap is_within_limits c.in_ok-setup.ensures ∙ limits_are c.args.script.now.setup (setup_is c.args.script.now c.requires)
 
 pub open-requires-clause-actors : goal.open-requires-clause-actors
-open-requires-clause-actors c = ap length c.in_ok-shares.ensures ∙ shares_length c.args.script.now ∙ ap (λ (s : Setup). s.sessions + 1) (sym c.in_ok-setup.ensures)
+open-requires-clause-actors c = ap length c.in_ok-shares.ensures ∙ shares_length c.args.script.now
+    ∙ ap (λ (s : Setup). s.sessions + 1) (sym c.in_ok-setup.ensures)
 
 pub open-requires-clause-total : goal.open-requires-clause-total
 open-requires-clause-total c =

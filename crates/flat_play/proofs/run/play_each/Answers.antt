@@ -31,9 +31,11 @@ loop-place-init g c = record {
   kinds = refl;
   same = refl;
   answered = answered-none _ _ _ _ c.requires.no_entry c.requires.no_answer c.requires.rise;
-  asked = (let P : List Entry → Type 0 = λ h. ProbesStand c.args.script.now 0 h c.args.answers.now.items in subst P (sym c.requires.no_entry) (probes-unasked c.args.script.now c.args.answers.now.items c.requires.unasked));
+  asked = (let P : List Entry → Type 0 = λ h. ProbesStand c.args.script.now 0 h c.args.answers.now.items in
+      subst P (sym c.requires.no_entry) (probes-unasked c.args.script.now c.args.answers.now.items c.requires.unasked));
   turns = turns-none c.args.script.now.setup.probes c.args.play.now.board.history c.args.answers.now.items c.requires.unasked;
-  explained = (let P : List Entry → Type 0 = λ h. StandsExplained c.args.script.now h c.args.explaining.now in subst P (sym c.requires.no_entry) c.requires.unexplained);
+  explained = (let P : List Entry → Type 0 = λ h. StandsExplained c.args.script.now h c.args.explaining.now in
+      subst P (sym c.requires.no_entry) c.requires.unexplained);
   on = refl;
   film = refl;
 }
@@ -95,16 +97,21 @@ loop-place-preserved g c =
       answered =
           let A : ℕ → Type 0 = λ n. AreAnswered script.setup new n c.args.lines.now c.in_ok-left.left.now c.answer_upto.new.found.items in
           subst A (sym at.last)
-          (answered-more script.setup _ _ _ _ _ (at_ratio c.loop-place.play.last.ratio script.setup) _ was.answered (scaled script.setup (to_finished old) c.loop-place.play.last.ratio was.stands.answers.scaling) was.stands.answers.showing x.number _ _ _ at.above c.in_ok-left.ensures.answers on);
+          (answered-more script.setup _ _ _ _ _ (at_ratio c.loop-place.play.last.ratio script.setup) _ was.answered
+          (scaled script.setup (to_finished old) c.loop-place.play.last.ratio was.stands.answers.scaling) was.stands.answers.showing x.number _ _ _ at.above
+          c.in_ok-left.ensures.answers on);
       asked =
           probes-on script (place + 1) x.number old new c.answer_line.new.answers.items on
-          (probes-more script place x at old (at_ratio last.ratio script.setup) last.reuse last.frame.0 number (scaled script.setup (to_finished old) last.ratio (stays.ratio ∙ was.stands.answers.scaling)) showing c.loop-place.answers.items c.answer_line.new.answers.items asks was.asked);
+          (probes-more script place x at old (at_ratio last.ratio script.setup) last.reuse last.frame.0 number
+          (scaled script.setup (to_finished old) last.ratio (stays.ratio ∙ was.stands.answers.scaling)) showing c.loop-place.answers.items
+          c.answer_line.new.answers.items asks was.asked);
       explained = c.in_ok-note.ensures.stands;
       on = c.in_ok-note.ensures.on ∙ was.on;
       film = c.in_ok-note.ensures.film ∙ was.film;
       turns =
           turns-on script place x at old new c.answer_line.new.answers.items on
-          (turns-more script place x at old (last_number 0 (take place script.lines)) at.above was.answered.entries (at_ratio last.ratio script.setup) last.reuse last.frame.0 number c.loop-place.answers.items c.answer_line.new.answers.items was.asked.count asks was.turns);
+          (turns-more script place x at old (last_number 0 (take place script.lines)) at.above was.answered.entries (at_ratio last.ratio script.setup)
+          last.reuse last.frame.0 number c.loop-place.answers.items c.answer_line.new.answers.items was.asked.count asks was.turns);
     }
 
 pub returns-clause-stands : goal.returns-clause-stands
@@ -117,36 +124,50 @@ pub returns-clause-touches : goal.returns-clause-touches
 returns-clause-touches g c =
     let setup = c.args.script.now.setup in
     let play = c.loop-place.play in
-    answered-all setup _ _ _ _ _ (at_ratio play.last.ratio setup) _ c.loop-place.invariant.answered (scaled setup (to_finished play.board.history) play.last.ratio c.loop-place.invariant.stands.answers.scaling) c.loop-place.invariant.stands.answers.showing _ c.in_ok-answer_all.ensures.answers
+    answered-all setup _ _ _ _ _ (at_ratio play.last.ratio setup) _ c.loop-place.invariant.answered
+    (scaled setup (to_finished play.board.history) play.last.ratio c.loop-place.invariant.stands.answers.scaling)
+    c.loop-place.invariant.stands.answers.showing _ c.in_ok-answer_all.ensures.answers
 
 pub returns-clause-probes : goal.returns-clause-probes
 returns-clause-probes g c =
-    probes-all c.args.script.now c.loop-place.place c.loop-place.play.board.history c.loop-place.answers.items (omega (arith, c.loop-place.auto.place-end, c.loop-place-test.false)) c.loop-place.invariant.asked
+    probes-all c.args.script.now c.loop-place.place c.loop-place.play.board.history c.loop-place.answers.items
+    (omega (arith, c.loop-place.auto.place-end, c.loop-place-test.false)) c.loop-place.invariant.asked
 
 pub returns-clause-seen : goal.returns-clause-seen
 returns-clause-seen g c = c.loop-place.invariant.seen
 
 pub returns-clause-kept : goal.returns-clause-kept
-returns-clause-kept g c = kept_seen _ _ (AreBegun c.args.script.now) _ _ _ _ _ _ c.loop-place.invariant.kinds (play-begins c.args.script.now c.requires.playable c.loop-place.place c.loop-place.play c.loop-place.invariant.stands c.journal-journal-2.ensures.legal) c.loop-place.invariant.seen
+returns-clause-kept g c = kept_seen _ _ (AreBegun c.args.script.now) _ _ _ _ _ _ c.loop-place.invariant.kinds
+    (play-begins c.args.script.now c.requires.playable c.loop-place.place c.loop-place.play c.loop-place.invariant.stands c.journal-journal-2.ensures.legal)
+    c.loop-place.invariant.seen
 
 pub returns-in_err-play_line-clause-kept : goal.returns-in_err-play_line-clause-kept
 returns-in_err-play_line-clause-kept g c =
-    let begun = play-begins c.args.script.now c.requires.playable c.loop-place.place c.loop-place.play c.loop-place.invariant.stands c.journal-journal.ensures.legal in
-    kept_same _ _ (AreBegun c.args.script.now) _ _ _ _ (ap (λ v. v.items) c.in_err-play_line.ensures.unshown.1) (kept_seen _ _ (AreBegun c.args.script.now) _ _ _ _ _ _ c.loop-place.invariant.kinds begun c.loop-place.invariant.seen)
+    let begun = play-begins c.args.script.now c.requires.playable c.loop-place.place c.loop-place.play c.loop-place.invariant.stands
+    c.journal-journal.ensures.legal in
+    kept_same _ _ (AreBegun c.args.script.now) _ _ _ _ (ap (λ v. v.items) c.in_err-play_line.ensures.unshown.1)
+    (kept_seen _ _ (AreBegun c.args.script.now) _ _ _ _ _ _ c.loop-place.invariant.kinds begun c.loop-place.invariant.seen)
 
 pub returns-in_err-answer_line-clause-kept : goal.returns-in_err-answer_line-clause-kept
-returns-in_err-answer_line-clause-kept g c = kept_seen _ _ (AreBegun c.args.script.now) _ _ _ _ _ _ c.loop-place.invariant.kinds (play-begins c.args.script.now c.requires.playable c.loop-place.place c.loop-place.play c.loop-place.invariant.stands c.journal-journal.ensures.legal) c.loop-place.invariant.seen
+returns-in_err-answer_line-clause-kept g c = kept_seen _ _ (AreBegun c.args.script.now) _ _ _ _ _ _ c.loop-place.invariant.kinds
+    (play-begins c.args.script.now c.requires.playable c.loop-place.place c.loop-place.play c.loop-place.invariant.stands c.journal-journal.ensures.legal)
+    c.loop-place.invariant.seen
 
 pub returns-clause-in_turn : goal.returns-clause-in_turn
 returns-clause-in_turn g c =
-    turns-all c.args.script.now c.loop-place.place c.loop-place.play.board.history c.loop-place.answers.items (omega (arith, c.loop-place.auto.place-end, c.loop-place-test.false))
+    turns-all c.args.script.now c.loop-place.place c.loop-place.play.board.history c.loop-place.answers.items
+    (omega (arith, c.loop-place.auto.place-end, c.loop-place-test.false))
     c.loop-place.invariant.asked.count c.loop-place.invariant.turns
 
 pub returns-in_err-left-clause-kept : goal.returns-in_err-left-clause-kept
-returns-in_err-left-clause-kept g c = kept_seen _ _ (AreBegun c.args.script.now) _ _ _ _ _ _ c.loop-place.invariant.kinds (play-begins c.args.script.now c.requires.playable c.loop-place.place c.loop-place.play c.loop-place.invariant.stands c.journal-journal.ensures.legal) c.loop-place.invariant.seen
+returns-in_err-left-clause-kept g c = kept_seen _ _ (AreBegun c.args.script.now) _ _ _ _ _ _ c.loop-place.invariant.kinds
+    (play-begins c.args.script.now c.requires.playable c.loop-place.place c.loop-place.play c.loop-place.invariant.stands c.journal-journal.ensures.legal)
+    c.loop-place.invariant.seen
 
 pub returns-in_err-answer_all-clause-kept : goal.returns-in_err-answer_all-clause-kept
-returns-in_err-answer_all-clause-kept g c = kept_seen _ _ (AreBegun c.args.script.now) _ _ _ _ _ _ c.loop-place.invariant.kinds (play-begins c.args.script.now c.requires.playable c.loop-place.place c.loop-place.play c.loop-place.invariant.stands c.journal-journal-2.ensures.legal) c.loop-place.invariant.seen
+returns-in_err-answer_all-clause-kept g c = kept_seen _ _ (AreBegun c.args.script.now) _ _ _ _ _ _ c.loop-place.invariant.kinds
+    (play-begins c.args.script.now c.requires.playable c.loop-place.place c.loop-place.play c.loop-place.invariant.stands c.journal-journal-2.ensures.legal)
+    c.loop-place.invariant.seen
 
 -- ---- what is noted of why sessions are on the display, or aren't
 
@@ -171,8 +192,15 @@ note-requires-clause-before g c =
     let long = entered_so_far entries.items old c.journal.ensures.entries in
     let many = c.len-entries.ensures in
     let number : frames old ≡ c.answer_line.new.last.frame.0 =
-    sym (ap (λ (n : FrameNo). n.0) (c.in_ok-answer_line.ensures.stays.frame ∙ c.in_ok-left.ensures.stays.frame) ∙ c.loop-place.invariant.stands.answers.number) in
-    (old, x.number, (let all : length old ≡ c.len-entries.result = omega (arith, long, whole, many) in all), c.in_ok-play_line.ensures.goes_on x c.at-line.ensures, c.loop-place.invariant.explained, number)
+    sym (ap (λ (n : FrameNo). n.0) (c.in_ok-answer_line.ensures.stays.frame ∙ c.in_ok-left.ensures.stays.frame)
+    ∙ c.loop-place.invariant.stands.answers.number) in (
+      old,
+      x.number,
+      (let all : length old ≡ c.len-entries.result = omega (arith, long, whole, many) in all),
+      c.in_ok-play_line.ensures.goes_on x c.at-line.ensures,
+      c.loop-place.invariant.explained,
+      number,
+    )
 
 pub note-requires-clause-number : goal.note-requires-clause-number
 note-requires-clause-number g c = c.in_ok-play_line.ensures.stands.answers.number
@@ -181,8 +209,11 @@ pub returns-in_err-note-clause-kept : goal.returns-in_err-note-clause-kept
 returns-in_err-note-clause-kept g c =
     let was = c.loop-place.invariant in
     let now = c.in_ok-play_line.ensures in
-    kept_seen _ _ (AreBegun c.args.script.now) _ _ _ _ _ _ (c.play_line.ensures.kinds ∙ was.kinds) (play-begins c.args.script.now c.requires.playable (c.loop-place.place + 1) c.play_line.new.self now.stands c.journal-journal-in-loop-place.ensures.legal)
-    (seen_line _ _ c.args.script.now.setup _ _ c.loop-place.play.board.history c.play_line.new.self.board.history refl refl _ _ _ _ _ (omega (arith, was.number, was.same, c.requires.few)) now.shows was.seen)
+    kept_seen _ _ (AreBegun c.args.script.now) _ _ _ _ _ _ (c.play_line.ensures.kinds ∙ was.kinds)
+    (play-begins c.args.script.now c.requires.playable (c.loop-place.place + 1) c.play_line.new.self now.stands
+    c.journal-journal-in-loop-place.ensures.legal)
+    (seen_line _ _ c.args.script.now.setup _ _ c.loop-place.play.board.history c.play_line.new.self.board.history refl refl _ _ _ _ _
+    (omega (arith, was.number, was.same, c.requires.few)) now.shows was.seen)
 
 pub returns-clause-explained : goal.returns-clause-explained
 returns-clause-explained g c = c.loop-place.invariant.explained

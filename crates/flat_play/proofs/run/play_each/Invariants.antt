@@ -11,7 +11,8 @@ use Rattle.flat_play.proofs.run.play_each.Given as goal
 abbrev pub invariant-loop-place : goal.invariant-loop-place
 invariant-loop-place g l = record {
   stands : PlayStands l.script l.place l.play;
-  seen : HaveSeen (λ b. (goal.Display-dyn g (b.vtable, b.value)).shown b.value) (λ b. (goal.Display-dyn g (b.vtable, b.value)).faults b.value) (finished l.script.setup l.play.board.history) l.play.board.history l.set.lost l.initial.displays.items l.displays.items;
+  seen : HaveSeen (λ b. (goal.Display-dyn g (b.vtable, b.value)).shown b.value) (λ b. (goal.Display-dyn g (b.vtable, b.value)).faults b.value)
+      (finished l.script.setup l.play.board.history) l.play.board.history l.set.lost l.initial.displays.items l.displays.items;
   number : length l.displays.items ≡ l.set.displays;
   kinds : map (λ b. b.vtable) l.displays.items ≡ map (λ b. b.vtable) l.initial.displays.items;
   keeping : keeping_of l.play.kept ≡ keeping_of l.initial.play.kept;

@@ -17,7 +17,8 @@ pub returns-clause-in_turn : goal.returns-clause-in_turn
 returns-clause-in_turn g c = turns-ended c.args.script.now _ _ c.in_ok-play.field-0.probes.items c.end_all.ensures.ends c.in_ok-play.ensures.in_turn
 
 pub returns-clause-explained : goal.returns-clause-explained
-returns-clause-explained g c = explained-ended c.args.script.now _ _ c.play_lines.new.explaining c.end_all.ensures.ends c.end_all.ensures.frames c.in_ok-play.ensures.explained
+returns-clause-explained g c = explained-ended c.args.script.now _ _ c.play_lines.new.explaining c.end_all.ensures.ends c.end_all.ensures.frames
+    c.in_ok-play.ensures.explained
 
 pub returns-clause-seen : goal.returns-clause-seen
 returns-clause-seen g c =

@@ -11,7 +11,8 @@ pub returns-clause-stands : goal.returns-clause-stands
 returns-clause-stands c =
     let script = c.args.script.now in
     starts script _ c.requires c.lines_are_read.ensures.none c.in_ok-board.ensures c.in_ok-readers.ensures
-    (first_shown c.shown_states_fit.ensures.nothing script.setup _ _ c.in_ok-shown.ensures.size c.in_ok-shown.ensures.none refl) (c.new-2.ensures.none script) refl
+    (first_shown c.shown_states_fit.ensures.nothing script.setup _ _ c.in_ok-shown.ensures.size c.in_ok-shown.ensures.none refl) (c.new-2.ensures.none script)
+    refl
     (first_answers script.setup _ _ c.in_ok-last.ensures.number c.in_ok-last.ensures.is c.in_ok-last.ensures.shows c.in_ok-last.ensures.ratio c.new-3.ensures)
 
 pub returns-clause-no_entry : goal.returns-clause-no_entry

@@ -11,5 +11,6 @@ pub returns : goal.returns
 returns c =
     let number : Touch → ℕ = λ touch. touch.line.number in
     let P : Streams → Type 0 = λ pointers. WritesLines
-    (all_lines (lines_with c.args.names.now) after pointers (merged number c.args.dones.now c.args.frames.now c.args.touches.now) ++ end_line (length c.args.touches.now) ∷ []) c.args.page.now c.ends.new.self in
+    (all_lines (lines_with c.args.names.now) after pointers (merged number c.args.dones.now c.args.frames.now c.args.touches.now)
+    ++ end_line (length c.args.touches.now) ∷ []) c.args.page.now c.ends.new.self in
     subst P c.new-pointers.ensures (then_lines c.in_ok-push_happenings.ensures c.in_ok-ends.ensures)

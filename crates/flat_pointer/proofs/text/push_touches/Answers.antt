@@ -8,8 +8,10 @@ push_touch-requires c = pointer_at c.args.touches.now c.loop-one.one-index c.one
 
 pub loop-one-preserved : goal.loop-one-preserved
 loop-one-preserved c = record {
-  text = then_said (lines_with c.args.names.now) after c.args.pointers.now c.loop-one.pointers c.args.touches.now c.loop-one.one-index c.one-item.result c.one-item.result c.loop-one-test.true c.one-item.is c.loop-one.invariant.after c.loop-one.invariant.text
+  text = then_said (lines_with c.args.names.now) after c.args.pointers.now c.loop-one.pointers c.args.touches.now c.loop-one.one-index c.one-item.result
+      c.one-item.result c.loop-one-test.true c.one-item.is c.loop-one.invariant.after c.loop-one.invariant.text
       c.in_ok-push_touch.ensures.text;
-  after = after_said after c.args.pointers.now c.loop-one.pointers c.push_touch.new.pointers c.args.touches.now c.loop-one.one-index c.one-item.result c.one-item.result c.loop-one-test.true c.one-item.is c.loop-one.invariant.after
+  after = after_said after c.args.pointers.now c.loop-one.pointers c.push_touch.new.pointers c.args.touches.now c.loop-one.one-index c.one-item.result
+      c.one-item.result c.loop-one-test.true c.one-item.is c.loop-one.invariant.after
       c.in_ok-push_touch.ensures.after;
 }

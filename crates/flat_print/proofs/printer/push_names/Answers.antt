@@ -6,4 +6,5 @@ use Rattle.flat_print.proofs.printer.push_names.Goals as goal
 pub loop-name-preserved : goal.loop-name-preserved
 loop-name-preserved c =
     let g = name_words c.args.keyword.now in
-    more_lines g c.args.names.now c.loop-name.name-index c.name-item.result _ c.loop-name-test.true (ap g (c.as_slice.ensures ∙ c.name-item.is)) c.loop-name.invariant c.in_ok-push_name.ensures
+    more_lines g c.args.names.now c.loop-name.name-index c.name-item.result _ c.loop-name-test.true (ap g (c.as_slice.ensures ∙ c.name-item.is))
+    c.loop-name.invariant c.in_ok-push_name.ensures

@@ -20,7 +20,8 @@ compare_exchange-found-requires c =
       book,
       pen.0 ∙ book,
       offer.0,
-      rw (ap (λ w. w.key) h, pen.1, offer.1, offer.3) (adds_moves c.again-seen.result.log (frame_of c.args.numbered) c.args.old c.args.numbered.number.0 at refl c.requires.above),
+      rw (ap (λ w. w.key) h, pen.1, offer.1, offer.3) (adds_moves c.again-seen.result.log (frame_of c.args.numbered) c.args.old c.args.numbered.number.0 at refl
+          c.requires.above),
     )
 
 pub of-requires : goal.of-requires

@@ -13,7 +13,8 @@ pub returns-clause-kept : goal.returns-clause-kept
 returns-clause-kept c = (c.loop.invariant.0, c.loop.invariant.1)
 
 pub returns-clause-probes : goal.returns-clause-probes
-returns-clause-probes c = c.loop.invariant.2 ∙ ap (λ n. replicate n (Some (newcomer c.args.seen.now.book))) (omega (arith, c.loop-test.false, c.loop.auto.counter-end))
+returns-clause-probes c = c.loop.invariant.2 ∙ ap (λ n. replicate n (Some (newcomer c.args.seen.now.book)))
+    (omega (arith, c.loop-test.false, c.loop.auto.counter-end))
 
 pub returns-in_err-push-clause-kept : goal.returns-in_err-push-clause-kept
 returns-in_err-push-clause-kept c = (c.seat.ensures.kept.0 ∙ c.loop.invariant.0, c.seat.ensures.kept.1 ∙ c.loop.invariant.1)
@@ -27,5 +28,6 @@ pub loop-preserved : goal.loop-preserved
 loop-preserved c = (
   c.seat.ensures.kept.0 ∙ c.loop.invariant.0,
   c.seat.ensures.kept.1 ∙ c.loop.invariant.1,
-  one_more c.loop.all.items c.push.new.self.items c.loop.counter _ (Some c.in_ok-probe.probe) c.loop.invariant.2 c.in_ok-push.ensures.items (ap Some c.in_ok-probe.ensures.probe),
+  one_more c.loop.all.items c.push.new.self.items c.loop.counter _ (Some c.in_ok-probe.probe) c.loop.invariant.2 c.in_ok-push.ensures.items
+      (ap Some c.in_ok-probe.ensures.probe),
 )

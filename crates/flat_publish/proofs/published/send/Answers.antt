@@ -15,7 +15,8 @@ pub show-requires : goal.show-requires
 show-requires g c =
     let new = c.append.new.self in
     let shown : upcoming new.desk.shown.value (drop new.behind new.log.items) ≡ c.args.latest
-    = ap (upcoming new.desk.shown.value) c.in-Ok.ensures.pending ∙ upcoming_last new.desk.shown.value c.args.latest (drop c.args.writer.behind c.args.writer.log.items) in
+    = ap (upcoming new.desk.shown.value) c.in-Ok.ensures.pending
+    ∙ upcoming_last new.desk.shown.value c.args.latest (drop c.args.writer.behind c.args.writer.log.items) in
     ap (λ (seen : Seen). seen.home) shown ∙ c.requires ∙ ap (λ desk. desk.shown.value.home) (sym c.in-Ok.ensures.desk)
 
 pub returns : goal.returns
@@ -23,11 +24,20 @@ returns g c = elim c.match-append.branch [
   | in-Ok w ↦
       let new = c.append.new.self in
       let shown : upcoming new.desk.shown.value (drop new.behind new.log.items) ≡ c.args.latest
-      = ap (upcoming new.desk.shown.value) w.in-Ok.ensures.pending ∙ upcoming_last new.desk.shown.value c.args.latest (drop c.args.writer.behind c.args.writer.log.items) in
+      = ap (upcoming new.desk.shown.value) w.in-Ok.ensures.pending
+      ∙ upcoming_last new.desk.shown.value c.args.latest (drop c.args.writer.behind c.args.writer.log.items) in
       rw w.result-is (record {
         shown = on_ok w.show.result.1 (λ is. is ∙ shown) w.show.ensures.shown;
         known = on_ok_two w.show.result.1 (λ is known. known ∙ ap (λ (seen : Seen). Some seen.home) (is ∙ shown)) w.show.ensures.shown w.show.ensures.known;
-        kept = on_err w.show.result.1 (λ kept. (kept.0 ∙ ap (λ desk. desk.shown.value) w.in-Ok.ensures.desk, kept.1 ∙ ap (λ desk. view desk.place) w.in-Ok.ensures.desk)) w.show.ensures.kept;
+        kept = on_err w.show.result.1 (λ kept. (
+          kept.0 ∙ ap (λ desk. desk.shown.value) w.in-Ok.ensures.desk,
+          kept.1
+              ∙ ap (λ desk. view desk.place) w.in-Ok.ensures.desk,
+        )) w.show.ensures.kept;
       })
-  | in-Err w ↦ rw w.result-is (record { shown = tt; known = tt; kept = (ap (λ desk. desk.shown.value) c.append.ensures.desk, ap (λ desk. view desk.place) c.append.ensures.desk) })
+  | in-Err w ↦ rw w.result-is (record {
+    shown = tt;
+    known = tt;
+    kept = (ap (λ desk. desk.shown.value) c.append.ensures.desk, ap (λ desk. view desk.place) c.append.ensures.desk);
+  })
 ]

@@ -31,12 +31,14 @@ loop-place-preserved c =
       count = ap length noted_is ∙ noted-long c.at.result.now.actor place c.loop-place.places.items ∙ count;
       each = subst (λ (ps : List (List ℕ)). ArePlaces (take (place + 1) lines) 0 ps) (sym noted_is)
           (noted-line lines place c.at.result.now (take_at lines place c.at.result.now c.at.ensures) long c.loop-place.places.items
-          (λ s who. let within = declared-at c.args.script.now place c.at.result.now s c.requires c.at.ensures who in let few = within.1 in (within.0, omega (arith, count, few))) c.loop-place.invariant.each);
+          (λ s who. let within = declared-at c.args.script.now place c.at.result.now s c.requires c.at.ensures who in let few = within.1 in
+          (within.0, omega (arith, count, few))) c.loop-place.invariant.each);
     }
 
 pub returns-clause-each : goal.returns-clause-each
 returns-clause-each c =
-    subst (λ (ls : List ScriptLine). ArePlaces ls 0 c.loop-place.places.items) (take_all c.loop-place.place c.args.script.now.lines (omega arith)) c.loop-place.invariant.each
+    subst (λ (ls : List ScriptLine). ArePlaces ls 0 c.loop-place.places.items) (take_all c.loop-place.place c.args.script.now.lines (omega arith))
+    c.loop-place.invariant.each
 
 pub returns-in_err-push-clause-count : goal.returns-in_err-push-clause-count
 returns-in_err-push-clause-count c = IfOk-from_err _ _ c.from_residual.ensures.0

@@ -20,12 +20,14 @@ returns-clause-answered c = λ lines answered. (
     let meets = prefix_trans _ _ _ c.in_ok-meet.ensures.meets c.frame.ensures.grows in
     let last = c.requires.last in
     let saw = seen-more c.args.back.now.probe.frames seen grows rise lines c.args.back.now.answers (answered c.if-not-back.false) in
-    let agree : (n : ℕ) → n ≤ last_number published → (x y : ℤ) → hits_of seen n x y ≡ hits_of published n x y = λ n low x y. sym (hits-later published seen n x y meets rise low) in
+    let agree : (n : ℕ) → n ≤ last_number published → (x y : ℤ) → hits_of seen n x y ≡ hits_of published n x y =
+    λ n low x y. sym (hits-later published seen n x y meets rise low) in
     let shown = hit_list (at_ratio c.args.last.now.ratio c.args.setup.now) c.args.last.now.reuse in
     let now : c.settle.new.answers ≡ map (settled (last_number published) shown) c.args.back.now.answers =
     c.in_ok-settle.ensures.answers ∙ ap (λ (n : ℕ). map (settled n shown) c.args.back.now.answers) last.number in
     let P : List ProbeAnswer → Type 0 = AreAnsweredBy (hits_of published) (last_number published) lines in
-    subst P (sym now) (settled-answers (hits_of seen) (hits_of published) (last_number published) shown agree last.hits (last_number seen) lines c.args.back.now.answers saw)
+    subst P (sym now) (settled-answers (hits_of seen) (hits_of published) (last_number published) shown agree last.hits (last_number seen) lines
+    c.args.back.now.answers saw)
     )
 
 pub settle-requires-clause-setup : goal.settle-requires-clause-setup

@@ -28,11 +28,18 @@ loop-next-preserved g c =
     let out = probe-next script c.args.published.now.home c.loop-next.probe c.loop-next.out.items c.pop_front.new.self.items c.in-Some.next first was.out in
     record {
       same = c.meet.ensures.same ∙ was.same;
-      stays = let now = c.in-Ok.ensures.stays in record { frame = now.frame ∙ was.stays.frame; ratio = now.ratio ∙ was.stays.ratio; reuse = now.reuse ∙ was.stays.reuse; is = now.is };
+      stays = let now = c.in-Ok.ensures.stays in record {
+        frame = now.frame ∙ was.stays.frame;
+        ratio = now.ratio ∙ was.stays.ratio;
+        reuse = now.reuse ∙ was.stays.reuse;
+        is = now.is;
+      };
       out = out.1;
       many = omega (arith, many, long);
-      answered = answered-more script (record { home = c.args.published.now.home; frames = c.args.published.now.frames }) c.loop-next.probe c.loop-next.answers.items c.push.new.self.items c.in-Ok.met (search rules)
-          (subst (λ (p : Publishing). AreAnsweredBy (hits_of p.frames) (last_number p.frames) (probe_lines_of c.loop-next.probe script.lines) c.in-Ok.met) was.same (c.in-Ok.ensures.answered (probe_lines_of c.loop-next.probe script.lines) c.wait-back.ensures.answered)) was.answered;
+      answered = answered-more script (record { home = c.args.published.now.home; frames = c.args.published.now.frames }) c.loop-next.probe
+          c.loop-next.answers.items c.push.new.self.items c.in-Ok.met (search rules)
+          (subst (λ (p : Publishing). AreAnsweredBy (hits_of p.frames) (last_number p.frames) (probe_lines_of c.loop-next.probe script.lines) c.in-Ok.met)
+          was.same (c.in-Ok.ensures.answered (probe_lines_of c.loop-next.probe script.lines) c.wait-back.ensures.answered)) was.answered;
     }
 
 pub meet-requires-clause-setup : goal.meet-requires-clause-setup
@@ -47,7 +54,8 @@ meet-requires-clause-last g c =
     let many = was.many in
     let first : c.loop-next.out.items ≡ c.in-Some.next ∷ c.pop_front.new.self.items = search rules in
     let long = ap length first in
-    last-stays c.args.script.now.setup c.args.last.now c.loop-next.last c.args.published.now c.loop-next.published was.stays was.same (c.requires.last (omega (arith, many, long)))
+    last-stays c.args.script.now.setup c.args.last.now c.loop-next.last c.args.published.now c.loop-next.published was.stays was.same
+    (c.requires.last (omega (arith, many, long)))
 
 pub returns-in_default-meet-clause-answered : goal.returns-in_default-meet-clause-answered
 returns-in_default-meet-clause-answered g c = tt

@@ -23,11 +23,13 @@ returns c = λ one is. (
     let stopped = c.in-Some.field-0 in
     let made = c.close_with.ensures in
     let rest = c.requires.rest stopped c.in-Some.is in
-    let closed : IsClosed (hand_seat stopped.hand) stopped.seats c.close_with.result = record { display = made.compositor; sessions = made.sessions; legal = made.legal } in
+    let closed : IsClosed (hand_seat stopped.hand) stopped.seats c.close_with.result =
+    record { display = made.compositor; sessions = made.sessions; legal = made.legal } in
     let both : Some stopped ≡ Some one = sym c.in-Some.is ∙ is in
     let same : stopped ≡ one = cc in
     let B : Stopped → Type 0 = λ s. AreBegun script (finished script.setup (history_of (hand_seat s.hand).seen)) in
     subst B same
-    (has_begun script c.args.stage rest.place (hand_seat stopped.hand) rest.directed stopped.seats rest.are_whole rest.back c.close_with.result closed (made.fixed ∙ c.requires.of.setup) (few_sessions script.setup (setup_is script c.requires.playable))
+    (has_begun script c.args.stage rest.place (hand_seat stopped.hand) rest.directed stopped.seats rest.are_whole rest.back c.close_with.result closed
+    (made.fixed ∙ c.requires.of.setup) (few_sessions script.setup (setup_is script c.requires.playable))
     c.seats_tell_actors.ensures c.journals_keep_seats.ensures.seats)
     )

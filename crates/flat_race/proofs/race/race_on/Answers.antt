@@ -31,15 +31,18 @@ on_threads-shown-requires-clause-few g c κs within = c.requires.few
 
 pub returns-in-Ok-clause-seen : goal.returns-in-Ok-clause-seen
 returns-in-Ok-clause-seen g c =
-    seen_counted _ _ _ _ _ _ _ _ _ _ _ c.close.ensures.frames c.close.ensures.as_many (ap (λ (s : Driven). s.lost) c.close.ensures.set) (ap (λ v. v.items) (sym c.replace-shown_here.ensures.value))
+    seen_counted _ _ _ _ _ _ _ _ _ _ _ c.close.ensures.frames c.close.ensures.as_many (ap (λ (s : Driven). s.lost) c.close.ensures.set)
+    (ap (λ v. v.items) (sym c.replace-shown_here.ensures.value))
     (ok_seen _ c.in-Ok.ended c.in-Ok.is _ _ c.args.script.now.setup _ _ c.on_threads-shown.ensures.seen)
 
 pub returns-in-Ok-clause-kept : goal.returns-in-Ok-clause-kept
 returns-in-Ok-clause-kept g c =
     kept_from _ _ _ _ _ _ _ (ap (λ v. v.items) (sym c.replace-shown_here.ensures.value))
-    (kept_seen _ _ (AreBegun c.args.script.now) _ _ _ _ _ _ c.on_threads-shown.ensures.kinds c.close.ensures.begun (ok_seen _ c.in-Ok.ended c.in-Ok.is _ _ c.args.script.now.setup _ _ c.on_threads-shown.ensures.seen))
+    (kept_seen _ _ (AreBegun c.args.script.now) _ _ _ _ _ _ c.on_threads-shown.ensures.kinds c.close.ensures.begun
+    (ok_seen _ c.in-Ok.ended c.in-Ok.is _ _ c.args.script.now.setup _ _ c.on_threads-shown.ensures.seen))
 
 pub returns-in-Err-clause-kept : goal.returns-in-Err-clause-kept
 returns-in-Err-clause-kept g c =
     kept_from _ _ _ _ _ _ _ (ap (λ v. v.items) (sym c.replace-shown_here.ensures.value))
-    (kept_stopped _ _ _ c.args.stage c.args.script.now _ _ _ c.on_threads-shown.ensures.stopped c.in-Err.stopped c.in-Err.is c.on_threads-shown.ensures.kinds c.close_stopped.ensures)
+    (kept_stopped _ _ _ c.args.stage c.args.script.now _ _ _ c.on_threads-shown.ensures.stopped c.in-Err.stopped c.in-Err.is c.on_threads-shown.ensures.kinds
+    c.close_stopped.ensures)

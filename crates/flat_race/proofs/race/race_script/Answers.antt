@@ -13,7 +13,8 @@ pub returns-in_default-clause-kept : goal.returns-in_default-clause-kept
 returns-in_default-clause-kept g c = kept_none _ _ _ _ _ (none-begun c.args.script.now)
 
 pub returns-clause-keeping : goal.returns-clause-keeping
-returns-clause-keeping g c = let P : Keeping → Type 0 = λ k. IfOk c.race_on.result (λ p. keeping_of p.kept ≡ k) in subst P c.in_ok-film.ensures.keeping c.race_on.ensures.keeping
+returns-clause-keeping g c = let P : Keeping → Type 0 =
+    λ k. IfOk c.race_on.result (λ p. keeping_of p.kept ≡ k) in subst P c.in_ok-film.ensures.keeping c.race_on.ensures.keeping
 
 pub new_film-requires : goal.new_film-requires
 new_film-requires g c = record { playable = c.requires.playable }

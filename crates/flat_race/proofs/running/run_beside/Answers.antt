@@ -11,7 +11,8 @@ meet_each-requires-clause-is g c = c.in-Ok-directed.ensures.film.answering.is_la
 pub meet_each-requires-clause-last : goal.meet_each-requires-clause-last
 meet_each-requires-clause-last g c = λ any. (
     let was = c.in-Ok-directed.ensures in
-    last-published-is c.args.lent.now.script.now (history_of c.in-Ok-directed.compositor.seen) c.direct-directed.new.film.last c.direct-directed.new.published was.film.answering.number was.film.answering.showing was.film.answering.scaling (was.published.are any)
+    last-published-is c.args.lent.now.script.now (history_of c.in-Ok-directed.compositor.seen) c.direct-directed.new.film.last c.direct-directed.new.published
+    was.film.answering.number was.film.answering.showing was.film.answering.scaling (was.published.are any)
     )
 
 pub returns-clause-ended : goal.returns-clause-ended
@@ -22,10 +23,16 @@ returns-clause-ended g c =
     let sent = c.direct-directed.new.published in
     record {
       directed = was.stands;
-      kept = record { keeps = was.film.keeps; answering = answers_stay script.setup history c.direct-directed.new.film.last c.direct-directed.new.film.answers was.film.answering c.meet_each.new.last c.in-Ok-meet_each.ensures.stays };
+      kept = record {
+        keeps = was.film.keeps;
+        answering =
+            answers_stay script.setup history c.direct-directed.new.film.last c.direct-directed.new.film.answers was.film.answering c.meet_each.new.last
+            c.in-Ok-meet_each.ensures.stays;
+      };
       own = search rules;
       back = search rules;
-      probed = answered-all script history sent (record { home = sent.home; frames = sent.frames }) c.in-Ok-meet_each.answers.items refl was.published c.in-Ok-meet_each.ensures.answered;
+      probed = answered-all script history sent (record { home = sent.home; frames = sent.frames }) c.in-Ok-meet_each.answers.items refl was.published
+          c.in-Ok-meet_each.ensures.answered;
     }
 
 pub start_each-requires-clause-playable : goal.start_each-requires-clause-playable

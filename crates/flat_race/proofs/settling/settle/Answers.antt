@@ -24,8 +24,14 @@ loop-place-preserved c =
     let at : slice_get c.loop-place.answers n ≡ Some here.0 = ap (λ (ys : List ProbeAnswer). slice_get ys n) was.answers ∙ next-is f n xs within ∙ here.1 in
     let now = c.in_ok-settle_at.ensures in
     record {
-      answers = now.answers here.0 at ∙ (λ i. slice_set (was.answers i) n (same i here.0)) ∙ next-mapped f n xs here.0 here.1 ∙ ap (λ (k : ℕ). first-mapped f k xs) (sym (add-one n));
-      stays = record { frame = now.stays.frame ∙ was.stays.frame; ratio = now.stays.ratio ∙ was.stays.ratio; reuse = now.stays.reuse ∙ was.stays.reuse; is = now.stays.is };
+      answers = now.answers here.0 at ∙ (λ i. slice_set (was.answers i) n (same i here.0)) ∙ next-mapped f n xs here.0 here.1
+          ∙ ap (λ (k : ℕ). first-mapped f k xs) (sym (add-one n));
+      stays = record {
+        frame = now.stays.frame ∙ was.stays.frame;
+        ratio = now.stays.ratio ∙ was.stays.ratio;
+        reuse = now.stays.reuse ∙ was.stays.reuse;
+        is = now.stays.is;
+      };
     }
 
 pub settle_at-requires-clause-setup : goal.settle_at-requires-clause-setup

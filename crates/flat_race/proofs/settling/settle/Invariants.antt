@@ -8,6 +8,7 @@ use Rattle.flat_race.proofs.settling.settle.Given as goal
 
 abbrev pub invariant-loop-place : goal.invariant-loop-place
 invariant-loop-place l = record {
-  answers : l.answers ≡ first-mapped (settled l.initial.last.frame.0 (hit_list (at_ratio l.initial.last.ratio l.setup) l.initial.last.reuse)) l.place l.initial.answers;
+  answers : l.answers ≡ first-mapped (settled l.initial.last.frame.0 (hit_list (at_ratio l.initial.last.ratio l.setup) l.initial.last.reuse)) l.place
+      l.initial.answers;
   stays : StaysLast l.setup l.initial.last l.last;
 }

@@ -14,7 +14,8 @@ pub overflow_cast-session : goal.overflow_cast-session
 overflow_cast-session g c =
     let popped : c.loop-last.out.items ≡ c.pop.new.self.items ++ c.in-Some.last ∷ [] = search rules in
     let long = ap length popped ∙ length-append c.pop.new.self.items (c.in-Some.last ∷ []) in
-    let most : c.args.lent.now.script.now.setup.sessions ≤ 16 = few_sessions c.args.lent.now.script.now.setup (setup_is c.args.lent.now.script.now c.requires.playable) in
+    let most : c.args.lent.now.script.now.setup.sessions ≤ 16 =
+    few_sessions c.args.lent.now.script.now.setup (setup_is c.args.lent.now.script.now c.requires.playable) in
     let few = c.loop-last.invariant.few in
     let is = c.len.ensures in
     omega (arith, long, most, few, is)
@@ -23,7 +24,8 @@ pub overflow_add-session : goal.overflow_add-session
 overflow_add-session g c =
     let popped : c.loop-last.out.items ≡ c.pop.new.self.items ++ c.in-Some.last ∷ [] = search rules in
     let long = ap length popped ∙ length-append c.pop.new.self.items (c.in-Some.last ∷ []) in
-    let most : c.args.lent.now.script.now.setup.sessions ≤ 16 = few_sessions c.args.lent.now.script.now.setup (setup_is c.args.lent.now.script.now c.requires.playable) in
+    let most : c.args.lent.now.script.now.setup.sessions ≤ 16 =
+    few_sessions c.args.lent.now.script.now.setup (setup_is c.args.lent.now.script.now c.requires.playable) in
     let few = c.loop-last.invariant.few in
     let is = c.len.ensures in
     omega (arith, long, most, few, is)
@@ -32,7 +34,8 @@ pub wait-seat-requires : goal.wait-seat-requires
 wait-seat-requires g c =
     let popped : c.loop-last.out.items ≡ c.pop.new.self.items ++ c.in-Some.last ∷ [] = search rules in
     let is : length c.pop.new.self.items ≡ c.len.result = search rules in
-    (out-last c.args.lent.now.stage.now c.args.lent.now.script.now c.loop-last.out.items c.pop.new.self.items c.in-Some.last c.len.result popped is c.loop-last.invariant.out).0
+    (out-last c.args.lent.now.stage.now c.args.lent.now.script.now c.loop-last.out.items c.pop.new.self.items c.in-Some.last c.len.result popped is
+    c.loop-last.invariant.out).0
 
 pub loop-last-preserved : goal.loop-last-preserved
 loop-last-preserved g c =
@@ -51,7 +54,9 @@ loop-last-preserved g c =
       out = (out-last view script c.loop-last.out.items left c.in-Some.last (length left) popped refl was.out).1;
       few = omega (arith, long, few);
       own = ap (λ (s : SeatsView). s.stage) c.put.ensures ∙ was.own;
-      back = back-more view script (length left) c.loop-last.are_whole c.both-are_whole.result c.loop-last.seats.seats c.put.new.self.seats back run (omega (arith, long, few)) (ap (λ (s : SeatsView). s.seats) c.put.ensures)
-          (λ whole. let all = sym c.both-are_whole.ensures ∙ whole in (and-left c.loop-last.are_whole back.is_whole all, and-right c.loop-last.are_whole back.is_whole all))
+      back = back-more view script (length left) c.loop-last.are_whole c.both-are_whole.result c.loop-last.seats.seats c.put.new.self.seats back run
+          (omega (arith, long, few)) (ap (λ (s : SeatsView). s.seats) c.put.ensures)
+          (λ whole. let all = sym c.both-are_whole.ensures ∙ whole in
+          (and-left c.loop-last.are_whole back.is_whole all, and-right c.loop-last.are_whole back.is_whole all))
           (let B : ℕ → Type 0 = λ k. AreBack view script k c.loop-last.are_whole c.loop-last.seats.seats in subst B long was.back);
     }

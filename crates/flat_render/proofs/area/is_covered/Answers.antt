@@ -6,5 +6,7 @@ use Rattle.flat_render.proofs.area.is_covered.Goals as goal
 
 pub returns : goal.returns
 returns c = λ across px py has.
-    and-true (read-between c.args.r.x0 c.args.r.x1 (centre px) _ (search rules) (search rules) (c.if-not-is_across.ensures refl px (pixel-left c.args.area px py has) (pixel-right c.args.area px py has)))
-    (read-between c.args.r.y0 c.args.r.y1 (centre py) _ (search rules) (search rules) (c.is_across-2.ensures across py (pixel-top c.args.area px py has) (pixel-bottom c.args.area px py has)))
+    and-true (read-between c.args.r.x0 c.args.r.x1 (centre px) _ (search rules) (search rules)
+    (c.if-not-is_across.ensures refl px (pixel-left c.args.area px py has) (pixel-right c.args.area px py has)))
+    (read-between c.args.r.y0 c.args.r.y1 (centre py) _ (search rules) (search rules)
+    (c.is_across-2.ensures across py (pixel-top c.args.area px py has) (pixel-bottom c.args.area px py has)))

@@ -11,10 +11,18 @@ use Rattle.flat_render.proofs.Places.{count-most}
 use Rattle.flat_render.proofs.band.draw_each.Goals as goal
 
 pub overflow_mul-row : goal.overflow_mul-row
-overflow_mul-row c = omega (arith, tile-of-band c.args.grid.now c.args.row c.loop-n.n c.requires.row c.loop-n-test.true, count-most c.args.grid.now c.requires.grid)
+overflow_mul-row c = omega (
+  arith,
+  tile-of-band c.args.grid.now c.args.row c.loop-n.n c.requires.row c.loop-n-test.true,
+  count-most c.args.grid.now c.requires.grid,
+)
 
 pub overflow_add-row : goal.overflow_add-row
-overflow_add-row c = omega (arith, tile-of-band c.args.grid.now c.args.row c.loop-n.n c.requires.row c.loop-n-test.true, count-most c.args.grid.now c.requires.grid)
+overflow_add-row c = omega (
+  arith,
+  tile-of-band c.args.grid.now c.args.row c.loop-n.n c.requires.row c.loop-n-test.true,
+  count-most c.args.grid.now c.requires.grid,
+)
 
 pub loop-n-preserved : goal.loop-n-preserved
 loop-n-preserved c =
@@ -24,7 +32,8 @@ loop-n-preserved c =
     let all : length c.loop-n.bytes ≡ c.args.grid.now.across * s =
     c.loop-n.auto.bytes ∙ c.requires.size ∙ ap (λ (m : ℕ). c.args.grid.now.across * m) (sym c.bytes_of_tiles-size.ensures) in
     let fits : n * s + s ≤ length c.loop-n.bytes = omega (arith, one_more, all) in
-    repainted-more (λ k old. drawn_at c.args.grid.now c.args.items.now (c.args.row * band_bytes c.args.grid.now + k)) s c.args.bytes.now c.loop-n.bytes c.draw.new.bytes n _ fits
+    repainted-more (λ k old. drawn_at c.args.grid.now c.args.items.now (c.args.row * band_bytes c.args.grid.now + k)) s c.args.bytes.now c.loop-n.bytes
+    c.draw.new.bytes n _ fits
     (omega arith) (c.draw.auto.bytes ∙ simp (length-take, length-drop) (omega arith)) c.loop-n.invariant
     (λ k small.
     c.draw.ensures k (simp (length-take, length-drop) (omega arith))
@@ -34,25 +43,42 @@ loop-n-preserved c =
 
 pub overflow_mul-start : goal.overflow_mul-start
 overflow_mul-start c =
-    omega (arith, tile-in-band c.args.grid.now c.loop-n.n c.bytes_of_tiles-size.result _ c.requires.grid c.loop-n-test.true c.bytes_of_tiles-size.ensures c.requires.size)
+    omega (
+      arith,
+      tile-in-band c.args.grid.now c.loop-n.n c.bytes_of_tiles-size.result _ c.requires.grid c.loop-n-test.true c.bytes_of_tiles-size.ensures
+          c.requires.size,
+    )
 
 pub overflow_add-bytes_of_tile : goal.overflow_add-bytes_of_tile
 overflow_add-bytes_of_tile c =
-    omega (arith, tile-in-band c.args.grid.now c.loop-n.n c.bytes_of_tiles-size.result _ c.requires.grid c.loop-n-test.true c.bytes_of_tiles-size.ensures c.requires.size)
+    omega (
+      arith,
+      tile-in-band c.args.grid.now c.loop-n.n c.bytes_of_tiles-size.result _ c.requires.grid c.loop-n-test.true c.bytes_of_tiles-size.ensures
+          c.requires.size,
+    )
 
 pub slice_bounds-bytes_of_tile-end : goal.slice_bounds-bytes_of_tile-end
 slice_bounds-bytes_of_tile-end c =
-    omega (arith, c.loop-n.auto.bytes, tile-in-band c.args.grid.now c.loop-n.n c.bytes_of_tiles-size.result _ c.requires.grid c.loop-n-test.true c.bytes_of_tiles-size.ensures c.requires.size)
+    omega (
+      arith,
+      c.loop-n.auto.bytes,
+      tile-in-band c.args.grid.now c.loop-n.n c.bytes_of_tiles-size.result _ c.requires.grid c.loop-n-test.true
+          c.bytes_of_tiles-size.ensures c.requires.size,
+    )
 
 pub tile-requires-clause-there : goal.tile-requires-clause-there
 tile-requires-clause-there c = tile-of-band c.args.grid.now c.args.row c.loop-n.n c.requires.row c.loop-n-test.true
 
 pub draw-requires-clause-size : goal.draw-requires-clause-size
 draw-requires-clause-size c =
-    let fits = (tile-in-band c.args.grid.now c.loop-n.n c.bytes_of_tiles-size.result (length c.loop-n.bytes) c.requires.grid c.loop-n-test.true c.bytes_of_tiles-size.ensures (c.loop-n.auto.bytes ∙ c.requires.size)).0 in
-    tile-part c.bytes_of_tiles-size.result c.loop-n.bytes c.loop-n.n _ fits (omega arith) ∙ c.bytes_of_tiles-size.ensures ∙ ap (λ (t : Tile). 3 * pixels_of t) (sym c.tile.ensures.value)
+    let fits = (tile-in-band c.args.grid.now c.loop-n.n c.bytes_of_tiles-size.result (length c.loop-n.bytes) c.requires.grid c.loop-n-test.true
+    c.bytes_of_tiles-size.ensures (c.loop-n.auto.bytes ∙ c.requires.size)).0 in
+    tile-part c.bytes_of_tiles-size.result c.loop-n.bytes c.loop-n.n _ fits (omega arith) ∙ c.bytes_of_tiles-size.ensures
+    ∙ ap (λ (t : Tile). 3 * pixels_of t) (sym c.tile.ensures.value)
 
 pub draw-requires-clause-black : goal.draw-requires-clause-black
 draw-requires-clause-black c =
-    let fits = (tile-in-band c.args.grid.now c.loop-n.n c.bytes_of_tiles-size.result (length c.loop-n.bytes) c.requires.grid c.loop-n-test.true c.bytes_of_tiles-size.ensures (c.loop-n.auto.bytes ∙ c.requires.size)).0 in
-    tile-part-black _ c.bytes_of_tiles-size.result c.args.bytes.now c.loop-n.bytes c.loop-n.n _ fits (omega arith) c.loop-n.auto.bytes c.loop-n.invariant c.requires.black
+    let fits = (tile-in-band c.args.grid.now c.loop-n.n c.bytes_of_tiles-size.result (length c.loop-n.bytes) c.requires.grid c.loop-n-test.true
+    c.bytes_of_tiles-size.ensures (c.loop-n.auto.bytes ∙ c.requires.size)).0 in
+    tile-part-black _ c.bytes_of_tiles-size.result c.args.bytes.now c.loop-n.bytes c.loop-n.n _ fits (omega arith) c.loop-n.auto.bytes c.loop-n.invariant
+    c.requires.black

@@ -8,4 +8,5 @@ use Rattle.flat_render.proofs.band.draw_tile.Goals as goal
 pub returns : goal.returns
 returns c = λ m small.
     c.draw_chosen.ensures m small
-    ∙ seen-drawn-in c.args.tile c.args.items.now (chosen c.args.items.now c.args.places.now) m c.requires.tile (choice-all (tile_area c.args.tile) c.args.items.now c.args.places.now c.requires.places)
+    ∙ seen-drawn-in c.args.tile c.args.items.now (chosen c.args.items.now c.args.places.now) m c.requires.tile
+    (choice-all (tile_area c.args.tile) c.args.items.now c.args.places.now c.requires.places)

@@ -14,7 +14,8 @@ use Rattle.flat_render.proofs.PreparedLists.{over-same, tile-window-is}
 use Rattle.flat_render.proofs.chosen.draw_chosen.Goals as goal
 
 pub paint_chosen-requires-clause-places : goal.paint_chosen-requires-clause-places
-paint_chosen-requires-clause-places c = All-take (λ p. p < length c.args.items.now) _ _ (All-drop (λ p. p < length c.args.items.now) c.first_chosen-first.result c.args.places.now c.requires.places)
+paint_chosen-requires-clause-places c = All-take (λ p. p < length c.args.items.now) _ _
+    (All-drop (λ p. p < length c.args.items.now) c.first_chosen-first.result c.args.places.now c.requires.places)
 
 pub returns : goal.returns
 returns c = λ m small.
@@ -23,11 +24,13 @@ returns c = λ m small.
     let py : ℕ = y_at c.args.tile m in
     let n : ℕ = channel_at c.args.tile m in
     let was : ℕ = get_or c.args.bytes.now m 0 in
-    let has = ap (λ (area : Area). has_pixel area px py) c.area-window.ensures ∙ tile-has-byte c.args.tile m c.requires.tile (some-pixels c.args.tile c.requires.tile) in
+    let has = ap (λ (area : Area). has_pixel area px py) c.area-window.ensures
+    ∙ tile-has-byte c.args.tile m c.requires.tile (some-pixels c.args.tile c.requires.tile) in
     drawn-fresh n seen c.first_chosen-first.result (has_pixel c.area-window.result px py) px py was (get_or c.paint_chosen.new.bytes m 0)
     has (c.requires.black m small)
     (over-same c.args.items.now c.args.list.now c.args.places.now c.first_chosen-first.result c.area-window.result n px py c.requires.prepared c.requires.places
-    (subst (λ (area : Area). IsWindow area) (sym c.area-window.ensures) (tile-window-is c.args.tile c.requires.tile)) c.first_chosen-first.ensures.inside c.first_chosen-first.ensures.over has)
+    (subst (λ (area : Area). IsWindow area) (sym c.area-window.ensures) (tile-window-is c.args.tile c.requires.tile)) c.first_chosen-first.ensures.inside
+    c.first_chosen-first.ensures.over has)
     (c.paint_chosen.ensures m small
     ∙ ap (λ (xs : List DrawItem). if has_pixel c.area-window.result px py then channel_after n xs px py was else was)
     (ap (chosen c.args.items.now) (take_all _ (drop c.first_chosen-first.result c.args.places.now) (simp length-drop (omega arith)))

@@ -11,7 +11,8 @@ returns-clause-there c = λ m small e.
     plane-there (pixels_of c.args.tile) c.args.c _ c.args.bytes.now c.mix_across.new.plane
     (some-pixels c.args.tile c.requires.tile) (omega arith)
     (omega (arith, c.requires.size, plane-fits (pixels_of c.args.tile) c.args.c c.requires.channel)) c.mix_across.auto.plane
-    (λ k old. if has_pixel c.args.cut (x_of c.args.tile k) (y_of c.args.tile k) then mixed c.args.mix (slice_index c.args.values.now (x_of c.args.tile k - c.args.cut.x0)) old else old)
+    (λ k old. if has_pixel c.args.cut (x_of c.args.tile k) (y_of c.args.tile k) then
+    mixed c.args.mix (slice_index c.args.values.now (x_of c.args.tile k - c.args.cut.x0)) old else old)
     c.mix_across.ensures m e
 
 pub returns-clause-others : goal.returns-clause-others

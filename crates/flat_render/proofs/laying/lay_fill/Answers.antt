@@ -11,7 +11,8 @@ pub returns : goal.returns
 returns c = λ m small.
     let first : m < length c.lay_even.new.bytes = omega (arith, c.lay_even.auto.bytes) in
     let second : m < length c.lay_even-2.new.bytes = omega (arith, c.lay_even-2.auto.bytes) in
-    by-channels (pixels_of c.args.tile) m (has_pixel c.args.cut (x_at c.args.tile m) (y_at c.args.tile m)) (λ n old. mixed c.args.mix (slice_index c.args.tones n) old) _ _ _ _
+    by-channels (pixels_of c.args.tile) m (has_pixel c.args.cut (x_at c.args.tile m) (y_at c.args.tile m))
+    (λ n old. mixed c.args.mix (slice_index c.args.tones n) old) _ _ _ _
     (some-pixels c.args.tile c.requires.tile) (omega (arith, c.requires.size))
     (c.lay_even.ensures.there m small) (c.lay_even.ensures.others m small)
     (c.lay_even-2.ensures.there m first) (c.lay_even-2.ensures.others m first)

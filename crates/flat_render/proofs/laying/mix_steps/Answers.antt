@@ -21,13 +21,21 @@ returns c = λ m small.
     let cut : Area = c.args.cut in
     let area : Area = c.args.it.now.area in
     let has : Bool = has_pixel cut px py in
-    subst (λ (t : Tones). get_or c.lay_even.new.bytes m 0 ≡ (if has then mixed c.args.it.now.mix (toned area t (channel_at c.args.tile m) px py) (get_or c.args.bytes.now m 0) else get_or c.args.bytes.now m 0)) (sym c.requires.steps)
+    subst (λ (t : Tones). get_or c.lay_even.new.bytes m 0
+    ≡ (if has then mixed c.args.it.now.mix (toned area t (channel_at c.args.tile m) px py) (get_or c.args.bytes.now m 0) else get_or c.args.bytes.now m 0))
+    (sym c.requires.steps)
     (by-channels (pixels_of c.args.tile) m has (λ n old. mixed c.args.it.now.mix (toned area (Stepped c.args.steps) n px py) old) _ _ _ _
     (some-pixels c.args.tile c.requires.tile) (omega (arith, c.requires.size))
     (λ e. where-it-holds has c.args.it.now.mix _ _ _ _
-    (λ h. table-step c.args.steps.red (stride_of c.args.steps.rises) area.x0 cut.x0 px _ (λ i few. ap (λ (xs : List ℕ). get_or xs i 0) c.as_slice.ensures ∙ c.steps_from-reds.ensures.values i few) c.requires.covered.x0 (pixel-left cut px py h)
-    (omega (arith, pixel-right cut px py h, c.requires.cut.x0, c.requires.cut.x1, c.requires.tile.narrow))) (c.lay_across.ensures.there m small e)) (c.lay_across.ensures.others m small)
+    (λ h. table-step c.args.steps.red (stride_of c.args.steps.rises) area.x0 cut.x0 px _
+    (λ i few. ap (λ (xs : List ℕ). get_or xs i 0) c.as_slice.ensures ∙ c.steps_from-reds.ensures.values i few) c.requires.covered.x0
+    (pixel-left cut px py h)
+    (omega (arith, pixel-right cut px py h, c.requires.cut.x0, c.requires.cut.x1, c.requires.tile.narrow))) (c.lay_across.ensures.there m small e))
+    (c.lay_across.ensures.others m small)
     (λ e. where-it-holds has c.args.it.now.mix _ _ _ _
-    (λ h. table-step c.args.steps.green (stride_of c.args.steps.sinks) area.y0 cut.y0 py _ (λ i few. ap (λ (xs : List ℕ). get_or xs i 0) c.as_slice-2.ensures ∙ c.steps_from-greens.ensures.values i few) c.requires.covered.y0 (pixel-top cut px py h)
-    (omega (arith, pixel-bottom cut px py h, c.requires.cut.y0, c.requires.cut.y1, c.requires.tile.low))) (c.lay_down.ensures.there m first e)) (c.lay_down.ensures.others m first)
+    (λ h. table-step c.args.steps.green (stride_of c.args.steps.sinks) area.y0 cut.y0 py _
+    (λ i few. ap (λ (xs : List ℕ). get_or xs i 0) c.as_slice-2.ensures ∙ c.steps_from-greens.ensures.values i few) c.requires.covered.y0
+    (pixel-top cut px py h)
+    (omega (arith, pixel-bottom cut px py h, c.requires.cut.y0, c.requires.cut.y1, c.requires.tile.low))) (c.lay_down.ensures.there m first e))
+    (c.lay_down.ensures.others m first)
     (c.lay_even.ensures.there m second) (c.lay_even.ensures.others m second))

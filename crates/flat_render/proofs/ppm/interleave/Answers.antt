@@ -14,6 +14,7 @@ loop-i-preserved c =
     let two : List ℕ = set one (3 * i + 1) green in
     record {
       size = length-set two (3 * i + 2) blue ∙ length-set one (3 * i + 1) green ∙ length-set line (3 * i) red ∙ c.loop-i.invariant.size;
-      first = colour-more (λ k. get_or c.args.reds.now k 0 ∷ get_or c.args.greens.now k 0 ∷ get_or c.args.blues.now k 0 ∷ []) i red green blue line one two (set two (3 * i + 2) blue)
+      first = colour-more (λ k. get_or c.args.reds.now k 0 ∷ get_or c.args.greens.now k 0 ∷ get_or c.args.blues.now k 0 ∷ []) i red green blue line one two
+          (set two (3 * i + 2) blue)
           (omega (arith, c.loop-i.invariant.size, c.requires.few, c.loop-i-test.true)) c.loop-i.invariant.first refl refl refl refl;
     }

@@ -6,7 +6,8 @@ use Rattle.flat_render.specs.Bands.{AreEmpty}
 use Rattle.flat_render.proofs.sorting.empties.Goals as goal
 
 -- one empty list more
-one_more : (n : ℕ) (lists longer : List (Vec ℕ Global)) (new : Vec ℕ Global) → AreEmpty n lists → longer ≡ lists ++ new ∷ [] → new.items ≡ [] → AreEmpty (n + 1) longer
+one_more : (n : ℕ) (lists longer : List (Vec ℕ Global)) (new : Vec ℕ Global) → AreEmpty n lists → longer ≡ lists ++ new ∷ [] → new.items ≡ []
+    → AreEmpty (n + 1) longer
 one_more n lists longer new was more is =
     let P : Vec ℕ Global → Type 0 = λ list. list.items ≡ [] in
     record {

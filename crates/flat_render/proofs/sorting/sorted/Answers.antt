@@ -16,15 +16,22 @@ pub loop-n-preserved : goal.loop-n-preserved
 loop-n-preserved c =
     let d : DrawItem = some-item c.args.items.now c.loop-n.n c.loop-n-test.true in
     let noted : IsNoted c.loop-n.n c.columns_of-columns.result.from c.columns_of-columns.result.upto c.loop-n.lists.items c.note.new.lists =
-    subst (λ (old : List (Vec ℕ Global)). IsNoted c.loop-n.n c.columns_of-columns.result.from c.columns_of-columns.result.upto old c.note.new.lists) c.as_mut_slice.ensures.value c.in_ok-note.ensures in
+    subst (λ (old : List (Vec ℕ Global)). IsNoted c.loop-n.n c.columns_of-columns.result.from c.columns_of-columns.result.upto old c.note.new.lists)
+    c.as_mut_slice.ensures.value c.in_ok-note.ensures in
     subst (λ (lists : List (Vec ℕ Global)). AreChoices c.args.grid.now c.args.row c.args.items.now lists (c.loop-n.n + 1))
     (sym (with_items_is c.loop-n.lists c.note.new.lists (c.note.auto.lists ∙ c.as_mut_slice.ensures.len)))
-    (choices-more c.args.grid.now c.args.row c.loop-n.n c.columns_of-columns.result.from c.columns_of-columns.result.upto c.args.items.now c.loop-n.lists.items c.note.new.lists d
+    (choices-more c.args.grid.now c.args.row c.loop-n.n c.columns_of-columns.result.from c.columns_of-columns.result.upto c.args.items.now c.loop-n.lists.items
+    c.note.new.lists d
     c.loop-n-test.true (c.requires.items c.loop-n.n d c.loop-n-test.true)
     (λ n px py small left right top bottom beyond.
     not-covered c.args.items.now c.args.list.now c.loop-n.n d _ px py c.requires.prepared c.loop-n-test.true
     (omega (arith, right, row_fits n c.args.grid.now.tile_w c.args.grid.now.across c.args.grid.now.tile_w small (omega arith), c.requires.grid.most_right))
-    (omega (arith, bottom, row_fits c.args.row c.args.grid.now.tile_h c.args.grid.now.down c.args.grid.now.tile_h c.requires.row (omega arith), c.requires.grid.most_bottom))
+    (omega (
+      arith,
+      bottom,
+      row_fits c.args.row c.args.grid.now.tile_h c.args.grid.now.down c.args.grid.now.tile_h c.requires.row (omega arith),
+      c.requires.grid.most_bottom,
+    ))
     (c.columns_of-columns.ensures.others n px py small left right top bottom beyond))
     c.loop-n.invariant noted)
 

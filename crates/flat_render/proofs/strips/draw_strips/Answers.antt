@@ -27,6 +27,7 @@ loop-n-preserved c =
     record {
       room = room;
       spare = ap (λ v. v.len) c.swap.ensures.y_after ∙ c.loop-n.invariant.room;
-      last = λ later. c.in_ok-last-2.ensures ∙ ap (λ (m : ℕ). strip_in g m band) same ∙ ap (λ (xs : List ℕ). strip_in g (n + 1 - 1) xs) c.as_slice-in-loop-n-2.ensures.value;
+      last = λ later. c.in_ok-last-2.ensures ∙ ap (λ (m : ℕ). strip_in g m band) same
+          ∙ ap (λ (xs : List ℕ). strip_in g (n + 1 - 1) xs) c.as_slice-in-loop-n-2.ensures.value;
       rows = rows-grow arc_value _ _ _ c.loop-n.strips.items _ c.in_ok-try_clone.field-0 c.loop-n.invariant.rows more c.in_ok-push.ensures.items;
     }

@@ -10,9 +10,11 @@ returns c = λ m small.
     let second : m < length c.ink_channel-2.new.bytes = omega (arith, c.ink_channel-2.auto.bytes) in
     let black = λ (o : ℕ). if has_pixel c.args.window (x_at c.args.tile m) (y_at c.args.tile m) then 0 else o in
     which-channel (pixels_of c.args.tile) m (some-pixels c.args.tile c.requires.tile) (omega (arith, c.requires.size))
-    (λ e. c.ink_channel-3.ensures.others m second (λ f. absurd (omega (arith, e, f))) ∙ c.ink_channel-2.ensures.others m first (λ f. absurd (omega (arith, e, f)))
+    (λ e. c.ink_channel-3.ensures.others m second (λ f. absurd (omega (arith, e, f)))
+    ∙ c.ink_channel-2.ensures.others m first (λ f. absurd (omega (arith, e, f)))
     ∙ c.ink_channel.ensures.there m small e)
     (λ e. c.ink_channel-3.ensures.others m second (λ f. absurd (omega (arith, e, f))) ∙ c.ink_channel-2.ensures.there m first e
     ∙ ap black (c.ink_channel.ensures.others m small (λ f. absurd (omega (arith, e, f)))))
     (λ e. c.ink_channel-3.ensures.there m second e
-    ∙ ap black (c.ink_channel-2.ensures.others m first (λ f. absurd (omega (arith, e, f))) ∙ c.ink_channel.ensures.others m small (λ f. absurd (omega (arith, e, f)))))
+    ∙ ap black (c.ink_channel-2.ensures.others m first (λ f. absurd (omega (arith, e, f)))
+    ∙ c.ink_channel.ensures.others m small (λ f. absurd (omega (arith, e, f)))))

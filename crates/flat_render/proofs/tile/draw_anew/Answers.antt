@@ -20,7 +20,8 @@ returns-then-cut c = λ m small.
     let same : has_pixel c.common-cut.result px py ≡ has_pixel c.args.window px py =
     tile-window c.args.tile c.args.window c.common-cut.result m c.requires.tile (some-pixels c.args.tile c.requires.tile)
     (λ x y. c.common-cut.ensures.pixels x y ∙ ap (λ (a : Area). has_pixel c.args.window x y && has_pixel a x y) c.area.ensures) in
-    sym (ap (λ (b : Bool). if b then channel_after (channel_at c.args.tile m) c.args.items.now px py 0 else old) (sym same ∙ no-columns c.common-cut.result px py c.if-cut.true))
+    sym (ap (λ (b : Bool). if b then channel_after (channel_at c.args.tile m) c.args.items.now px py 0 else old)
+    (sym same ∙ no-columns c.common-cut.result px py c.if-cut.true))
 
 pub returns-then-cut-2 : goal.returns-then-cut-2
 returns-then-cut-2 c = λ m small.
@@ -30,7 +31,8 @@ returns-then-cut-2 c = λ m small.
     let same : has_pixel c.common-cut.result px py ≡ has_pixel c.args.window px py =
     tile-window c.args.tile c.args.window c.common-cut.result m c.requires.tile (some-pixels c.args.tile c.requires.tile)
     (λ x y. c.common-cut.ensures.pixels x y ∙ ap (λ (a : Area). has_pixel c.args.window x y && has_pixel a x y) c.area.ensures) in
-    sym (ap (λ (b : Bool). if b then channel_after (channel_at c.args.tile m) c.args.items.now px py 0 else old) (sym same ∙ no-rows c.common-cut.result px py c.if-cut-2.true))
+    sym (ap (λ (b : Bool). if b then channel_after (channel_at c.args.tile m) c.args.items.now px py 0 else old)
+    (sym same ∙ no-rows c.common-cut.result px py c.if-cut-2.true))
 
 pub returns : goal.returns
 returns c = λ m small.
@@ -48,7 +50,8 @@ returns c = λ m small.
     drawn-anew (channel_at c.args.tile m) c.args.items.now first (has_pixel c.common-cut.result px py) (has_pixel c.args.window px py) px py old
     black (get_or c.paint_all.new.bytes m 0) same
     (c.first_seen-first.ensures.same (channel_at c.args.tile m) px py) (c.blacken.ensures m small)
-    (c.paint_all.ensures m there ∙ ap (λ (items : List DrawItem). if has_pixel c.common-cut.result px py then channel_after (channel_at c.args.tile m) items px py black else black) rest)
+    (c.paint_all.ensures m there ∙ ap (λ (items : List DrawItem). if has_pixel c.common-cut.result px py then
+    channel_after (channel_at c.args.tile m) items px py black else black) rest)
 
 pub paint_all-requires-clause-items : goal.paint_all-requires-clause-items
 paint_all-requires-clause-items c = All-take IsDrawable _ _ (All-drop IsDrawable c.first_seen-first.result c.args.items.now c.requires.items)

@@ -31,7 +31,8 @@ returns-then-cut c = λ m small.
     none-painted (has_pixel c.common-cut.result px py) (has_pixel c.area_of.result px py) (has_pixel c.args.window px py) (covers c.args.item.now px py)
     (channel_painted (channel_at c.args.tile m) c.args.item.now px py old) old
     (c.common-cut.ensures.pixels px py)
-    (λ has. c.area_of.ensures px py (omega (arith, pixel-right c.args.window px py has, c.requires.some.right)) (omega (arith, pixel-bottom c.args.window px py has, c.requires.some.bottom)))
+    (λ has. c.area_of.ensures px py (omega (arith, pixel-right c.args.window px py has, c.requires.some.right))
+    (omega (arith, pixel-bottom c.args.window px py has, c.requires.some.bottom)))
     (no-columns c.common-cut.result px py c.if-cut.true)
 
 pub returns-then-cut-2 : goal.returns-then-cut-2
@@ -42,7 +43,8 @@ returns-then-cut-2 c = λ m small.
     none-painted (has_pixel c.common-cut.result px py) (has_pixel c.area_of.result px py) (has_pixel c.args.window px py) (covers c.args.item.now px py)
     (channel_painted (channel_at c.args.tile m) c.args.item.now px py old) old
     (c.common-cut.ensures.pixels px py)
-    (λ has. c.area_of.ensures px py (omega (arith, pixel-right c.args.window px py has, c.requires.some.right)) (omega (arith, pixel-bottom c.args.window px py has, c.requires.some.bottom)))
+    (λ has. c.area_of.ensures px py (omega (arith, pixel-right c.args.window px py has, c.requires.some.right))
+    (omega (arith, pixel-bottom c.args.window px py has, c.requires.some.bottom)))
     (no-rows c.common-cut.result px py c.if-cut-2.true)
 
 pub returns : goal.returns
@@ -53,5 +55,6 @@ returns c = λ m small.
     cut-painted (has_pixel c.common-cut.result px py) (has_pixel c.area_of.result px py) (has_pixel c.args.window px py) (covers c.args.item.now px py)
     (channel_painted (channel_at c.args.tile m) c.args.item.now px py old) old (get_or c.paint_cut.new.bytes m 0)
     (c.common-cut.ensures.pixels px py)
-    (λ has. c.area_of.ensures px py (omega (arith, pixel-right c.args.window px py has, c.requires.some.right)) (omega (arith, pixel-bottom c.args.window px py has, c.requires.some.bottom)))
+    (λ has. c.area_of.ensures px py (omega (arith, pixel-right c.args.window px py has, c.requires.some.right))
+    (omega (arith, pixel-bottom c.args.window px py has, c.requires.some.bottom)))
     (c.paint_cut.ensures m small)

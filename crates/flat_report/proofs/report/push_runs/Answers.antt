@@ -6,5 +6,6 @@ use Rattle.flat_report.proofs.report.push_runs.Goals as goal
 
 pub loop-run-preserved : goal.loop-run-preserved
 loop-run-preserved c =
-    one-run-more arc_value c.args.runs.now c.loop-run.run-index c.run-item.result c.args.paged.now c.loop-run.paged c.add.new.self c.loop-run-test.true c.loop-run.invariant
+    one-run-more arc_value c.args.runs.now c.loop-run.run-index c.run-item.result c.args.paged.now c.loop-run.paged c.add.new.self c.loop-run-test.true
+    c.loop-run.invariant
     (c.in_ok-add.ensures ∙ ap (λ (run : Arc (List ℕ) Global). c.loop-run.paged ++ arc_value run) c.run-item.is)

@@ -15,7 +15,8 @@ use Rattle.flat_run.proofs.given.read_bytes.Goals as goal
 pub fitting-requires : goal.fitting-requires
 fitting-requires g c =
     record {
-      runnable = runnable c.scripts_are_playable.ensures.playable c.rests_are_read.ensures.focus c.rests_are_read.ensures.pointers c.pointers_rise.ensures c.extra_laws.ensures.pointers_are_known
+      runnable = runnable c.scripts_are_playable.ensures.playable c.rests_are_read.ensures.focus c.rests_are_read.ensures.pointers c.pointers_rise.ensures
+          c.extra_laws.ensures.pointers_are_known
           c.args.form c.args.bytes.now c.in-Ok.reading c.in-Ok.ensures;
     }
 
@@ -27,4 +28,5 @@ returns-in_ok-refusal-in-Err-Fault g c =
     let answer = c.in_ok-refusal-in-Err-Fault.field-0 in
     let V : ScriptError → Type 0 = λ e. answer.text ≡ fault_line (values_d the_error.enum 0 (record { line = 0; kind = TooLong }, tt {0}) e).0 in
     let R : ScriptError → Type 0 = λ e. Reads {A = Reading} (Err e) (form_read c.args.form c.args.bytes.now) in
-    denied c.args.form c.args.bytes.now c.in-Err-Fault.fault (subst R is c.in-Err-Fault.ensures) answer.status answer.text c.in_ok-refusal-in-Err-Fault.ensures.status (subst V is c.in_ok-refusal-in-Err-Fault.ensures.text)
+    denied c.args.form c.args.bytes.now c.in-Err-Fault.fault (subst R is c.in-Err-Fault.ensures) answer.status answer.text
+    c.in_ok-refusal-in-Err-Fault.ensures.status (subst V is c.in_ok-refusal-in-Err-Fault.ensures.text)

@@ -8,4 +8,5 @@ pub returns-in_err-script-clause-kept : goal.returns-in_err-script-clause-kept
 returns-in_err-script-clause-kept g c = kept_none _ _ _ _ _ AreFramesOf.none
 
 pub returns-clause-kept : goal.returns-clause-kept
-returns-clause-kept g c = kept_as _ _ _ _ _ _ _ (λ shown begun. AreFramesOf.some (plain c.in_ok-script.script) (ap (read_as plain) c.in_ok-script.ensures) begun) c.summed-text.ensures.kept
+returns-clause-kept g c = kept_as _ _ _ _ _ _ _ (λ shown begun. AreFramesOf.some (plain c.in_ok-script.script) (ap (read_as plain) c.in_ok-script.ensures)
+    begun) c.summed-text.ensures.kept

@@ -5,7 +5,8 @@ use Rattle.flat_run.specs.Promise.{IsTold}
 use Rattle.flat_run.proofs.load.stress.Goals as goal
 
 -- the same text is told of the same run
-told_same : {D : Type 0} (shown : D → Option (List FrameOut)) (faults : D → ℕ) (olds news : List D) (form : Form) (bytes text text' : List ℕ) → text' ≡ text → IsTold shown faults olds news form bytes text → IsTold shown faults olds news form bytes text'
+told_same : {D : Type 0} (shown : D → Option (List FrameOut)) (faults : D → ℕ) (olds news : List D) (form : Form) (bytes text text' : List ℕ) → text' ≡ text
+    → IsTold shown faults olds news form bytes text → IsTold shown faults olds news form bytes text'
 told_same shown faults olds news form bytes text text' same told = subst (λ t. IsTold shown faults olds news form bytes t) (sym same) told
 
 pub returns-clause-told : goal.returns-clause-told

@@ -13,6 +13,11 @@ returns-clause-told g c = λ bytes read.
     let playable = c.requires.runnable.playable in
     let probes = c.in_ok-played.played.probes.items in
     let seeing = c.frames_are_seen.ensures reading.script board.history probes c.in_ok-played.ensures.probes in
-    let ran = has_run reading board _ _ playable played _ _ form lost (frames_seen probes) _ _ (λ _. c.in_ok-played.ensures.written) (λ _. c.in_ok-played.ensures.in_turn) c.in_ok-played.ensures.seen c.families_are_alone.ensures c.due_presents_are_taken.ensures c.journal-journal.ensures.legal (none_asked form _ c.requires.read) c.requires.fits seeing in
+    let ran = has_run reading board _ _ playable played _ _ form lost (frames_seen probes) _ _ (λ _. c.in_ok-played.ensures.written)
+    (λ _. c.in_ok-played.ensures.in_turn) c.in_ok-played.ensures.seen c.families_are_alone.ensures c.due_presents_are_taken.ensures
+    c.journal-journal.ensures.legal (none_asked form _ c.requires.read) c.requires.fits seeing in
     let had = have_had reading board _ _ playable played _ _ lost _ _ c.in_ok-played.ensures.seen in
-    if_ok _ _ c.text_of.result (λ written is. (record { ran = ran_of reading board.history lost (frames_seen probes); read = read; has_run = ran; is = is }, had)) c.text_of.ensures
+    if_ok _ _ c.text_of.result (λ written is. (
+      record { ran = ran_of reading board.history lost (frames_seen probes); read = read; has_run = ran; is = is },
+      had,
+    )) c.text_of.ensures

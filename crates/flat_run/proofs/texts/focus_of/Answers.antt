@@ -16,7 +16,8 @@ print_focus-requires c =
     let F : List FrameOut → Type 0 = λ shown. list_all (λ (out : FrameOut). nat_le (length out.tree.nodes) script.setup.sessions) shown ≡ true in
     record {
       few = subst F (sym (c.as_slice-2.ensures ∙ c.in_ok-dones.ensures.frames))
-          (few-left script.setup.sessions _ (few-played script _ _ _ c.requires.played c.finished_of.ensures.legal c.views_are_a_tree.ensures.few c.shown_states_fit.ensures.begun c.shown_states_fit.ensures.each));
+          (few-left script.setup.sessions _ (few-played script _ _ _ c.requires.played c.finished_of.ensures.legal c.views_are_a_tree.ensures.few
+          c.shown_states_fit.ensures.begun c.shown_states_fit.ensures.each));
     }
 
 pub returns : goal.returns

@@ -6,7 +6,8 @@ use Rattle.flat_texts.specs.Pictures.{picture_of}
 use Rattle.flat_run.proofs.texts.last_picture.Goals as goal
 
 pub picture_of-requires-clause-items : goal.picture_of-requires-clause-items
-picture_of-requires-clause-items g c κs within = last-drawn c.items_are_drawable.ensures c.args.script.now.setup c.args.played.now.board.history _ (c.last.ensures c.args.script.now _ c.requires.played.keeps)
+picture_of-requires-clause-items g c κs within = last-drawn c.items_are_drawable.ensures c.args.script.now.setup c.args.played.now.board.history _
+    (c.last.ensures c.args.script.now _ c.requires.played.keeps)
 
 pub picture_of-requires-clause-width : goal.picture_of-requires-clause-width
 picture_of-requires-clause-width g c κs within = wide c.args.script.now.setup (setup_is c.args.script.now c.requires.playable)

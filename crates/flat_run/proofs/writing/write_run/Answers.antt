@@ -16,7 +16,8 @@ returns-then-write_text-eq-WRITE_FAULT-clause-part g c = λ is_5.
     let waits : List ℕ = c.as_slice.result.now in
     let same : waits ≡ c.args.waiting.now.items = c.as_slice.ensures.value ∙ c.gather.ensures.stays c.if-gather.false in
     let P : List ℕ → Type 0 = λ t. AppendsPrefix (t ++ c.args.run.now) (g.W.Sink.held c.args.sink.now) (g.W.Sink.held c.write_text.new.sink) in
-    subst P same (prefix-then [] waits c.args.run.now _ _ _ (appends-none (g.W.Sink.held c.args.sink.now)) (c.write_text.ensures.part c.if-write_text-eq-WRITE_FAULT.true))
+    subst P same (prefix-then [] waits c.args.run.now _ _ _ (appends-none (g.W.Sink.held c.args.sink.now))
+    (c.write_text.ensures.part c.if-write_text-eq-WRITE_FAULT.true))
 
 pub returns-clause-whole : goal.returns-clause-whole
 returns-clause-whole g c = λ is.
@@ -25,7 +26,8 @@ returns-clause-whole g c = λ is.
     let first = c.write_text.ensures.whole (is_status c.write_text.result c.args.status c.write_text.ensures.either c.if-write_text-eq-WRITE_FAULT.false) in (
       waits ++ c.args.run.now,
       appends-then _ _ _ _ _ first (c.write_text-2.ensures.whole is),
-      ap (λ t. t ++ c.args.run.now) (sym same) ∙ sym (append-nil (waits ++ c.args.run.now)) ∙ ap (λ t. (waits ++ c.args.run.now) ++ t) (sym c.clear.ensures.items),
+      ap (λ t. t ++ c.args.run.now) (sym same) ∙ sym (append-nil (waits ++ c.args.run.now))
+          ∙ ap (λ t. (waits ++ c.args.run.now) ++ t) (sym c.clear.ensures.items),
     )
 
 pub returns-clause-part : goal.returns-clause-part

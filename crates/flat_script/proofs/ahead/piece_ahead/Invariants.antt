@@ -9,7 +9,8 @@ use Rattle.flat_script.proofs.ahead.piece_ahead.Given as goal
 
 abbrev pub invariant-loop-first : goal.invariant-loop-first
 invariant-loop-first l = record {
-  ahead : (more : List Ahead) → AreAhead (head_of l.script.script) more (lines_of l.text) → AreAhead (head_of l.script.script) (l.known.items ++ more) (lines_of l.fn.piece);
+  ahead : (more : List Ahead) → AreAhead (head_of l.script.script) more (lines_of l.text)
+      → AreAhead (head_of l.script.script) (l.known.items ++ more) (lines_of l.fn.piece);
   known : l.plain ≡ true → list_all is_text_byte l.text ≡ true;
 }
 

@@ -12,11 +12,17 @@ loop-first-preserved c =
     let read = c.in-Ok.ensures.steps in
     let left = line_stays (sofar_of c.loop-first.parser) (sofar_of c.take_line.new.parser) c.loop-first.number c.in-Some.first.now was.body read in
     record {
-      stands = record { kept = c.in-Ok.ensures.kept; begins = omega (arith, c.take_line.ensures.few.0, was.stands.begins); dones = omega (arith, c.take_line.ensures.few.1, was.stands.dones) };
+      stands = record {
+        kept = c.in-Ok.ensures.kept;
+        begins = omega (arith, c.take_line.ensures.few.0, was.stands.begins);
+        dones = omega (arith, c.take_line.ensures.few.1, was.stands.dones);
+      };
       body = left.body;
       head = left.head ∙ was.head;
-      known = (ahead_first (head_of c.args.parser.now.text.script) c.pop_front.result c.loop-first.known.items c.pop_front.new.self.items (lines_of c.loop-first.text.now) c.in-Some.first.now (lines_of c.in-Some.rest.now)
+      known = (ahead_first (head_of c.args.parser.now.text.script) c.pop_front.result c.loop-first.known.items c.pop_front.new.self.items
+          (lines_of c.loop-first.text.now) c.in-Some.first.now (lines_of c.in-Some.rest.now)
           c.pop_front.ensures.items c.pop_front.ensures.rest begins was.known).more;
       counted = omega (arith, was.counted, ap length begins);
-      same = λ later. was.same later ∙ goes_on c.loop-first.number (sofar_of c.loop-first.parser) (sofar_of c.take_line.new.parser) (lines_of c.loop-first.text.now) c.in-Some.first.now (lines_of c.in-Some.rest.now) later begins read;
+      same = λ later. was.same later ∙ goes_on c.loop-first.number (sofar_of c.loop-first.parser) (sofar_of c.take_line.new.parser)
+          (lines_of c.loop-first.text.now) c.in-Some.first.now (lines_of c.in-Some.rest.now) later begins read;
     }

@@ -14,7 +14,8 @@ invariant-loop-first l = record {
   head : head_of l.parser.text.script ≡ head_of l.fn.parser.text.script;
   known : AreAhead (head_of l.fn.parser.text.script) l.known.items (lines_of l.text);
   counted : l.number + length (lines_of l.text) ≤ l.fn.first + length (lines_of l.fn.piece);
-  same : (later : List (List ℕ)) → lines_read l.fn.first (sofar_of l.fn.parser) (lines_of l.fn.piece ++ later) ≡ lines_read l.number (sofar_of l.parser) (lines_of l.text ++ later);
+  same : (later : List (List ℕ)) → lines_read l.fn.first (sofar_of l.fn.parser) (lines_of l.fn.piece ++ later)
+      ≡ lines_read l.number (sofar_of l.parser) (lines_of l.text ++ later);
 }
 
 abbrev pub decreases-loop-first : goal.decreases-loop-first

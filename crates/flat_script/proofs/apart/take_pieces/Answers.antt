@@ -22,7 +22,8 @@ loop-piece-preserved c =
       stands = c.in_ok-number.ensures.stands;
       body = c.in_ok-number.ensures.body;
       head = c.in_ok-number.ensures.head ∙ was.head;
-      known = (ahead_in_first (head_of c.args.parser.now.text.script) c.pop_front.result c.loop-piece.known.items c.pop_front.new.self.items (drop i pieces) p left c.pop_front.ensures.items c.pop_front.ensures.rest next was.known).more;
+      known = (ahead_in_first (head_of c.args.parser.now.text.script) c.pop_front.result c.loop-piece.known.items c.pop_front.new.self.items (drop i pieces) p
+          left c.pop_front.ensures.items c.pop_front.ensures.rest next was.known).more;
       counted = omega (arith, was.counted, ap length lines, length-append (lines_of p.now) (lines_in left), c.in_ok-number.ensures.counted);
       same = λ later.
           was.same later ∙ ap (λ ls. lines_read c.loop-piece.number (sofar_of c.loop-piece.parser) (ls ++ later)) lines

@@ -13,5 +13,6 @@ invariant-loop-piece l = record {
   head : head_of l.parser.text.script ≡ head_of l.fn.parser.text.script;
   known : AreAheadIn (head_of l.fn.parser.text.script) l.known.items (drop l.piece-index l.pieces);
   counted : l.number + length (lines_in (drop l.piece-index l.pieces)) ≤ 16777217;
-  same : (later : List (List ℕ)) → lines_read l.fn.first (sofar_of l.fn.parser) (lines_in l.fn.pieces ++ later) ≡ lines_read l.number (sofar_of l.parser) (lines_in (drop l.piece-index l.pieces) ++ later);
+  same : (later : List (List ℕ)) → lines_read l.fn.first (sofar_of l.fn.parser) (lines_in l.fn.pieces ++ later)
+      ≡ lines_read l.number (sofar_of l.parser) (lines_in (drop l.piece-index l.pieces) ++ later);
 }

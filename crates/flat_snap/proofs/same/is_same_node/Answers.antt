@@ -13,5 +13,8 @@ returns c =
     let turn : one.turn ≡ other.turn = search rules in
     let place : one.place ≡ other.place = search rules in
     let clip : one.clip ≡ other.clip = c.if-not-is_same_area.ensures.0 refl in
-    let content : one.content ≡ other.content = c.if-not-is_same_content.ensures.0 refl in
-    (λ same. let hits : one.hits.now ≡ other.hits.now = c.are_same_regions.ensures.0 same in cc, λ equal. c.are_same_regions.ensures.1 (ap (λ (n : FlatNode). n.hits) equal))
+    let content : one.content ≡ other.content = c.if-not-is_same_content.ensures.0 refl in (
+      λ same. let hits : one.hits.now ≡ other.hits.now = c.are_same_regions.ensures.0 same in
+          cc,
+      λ equal. c.are_same_regions.ensures.1 (ap (λ (n : FlatNode). n.hits) equal),
+    )

@@ -12,7 +12,8 @@ use Rattle.flat_states.specs.Presents.{frame_takes}
 use Rattle.flat_states.proofs.state.take_ready.Goals as goal
 
 -- what is taken of a list whose first item is ready
-takes-first : {T : Type 0} (time : ℕ) (signalled : FenceNo → Bool) (was now : List (WaitingPresent T)) (first : WaitingPresent T) → ready_of time signalled was ≡ first ∷ ready_of time signalled now → (b : Bool) → first.args.unsquashable ≡ b
+takes-first : {T : Type 0} (time : ℕ) (signalled : FenceNo → Bool) (was now : List (WaitingPresent T)) (first : WaitingPresent T)
+    → ready_of time signalled was ≡ first ∷ ready_of time signalled now → (b : Bool) → first.args.unsquashable ≡ b
     → frame_takes time signalled was ≡ first ∷ cond b [] (frame_takes time signalled now)
 takes-first {T} time signalled was now first ready b is =
     ap (up_to_first (λ (kept : WaitingPresent T). kept.args.unsquashable)) ready ∙ ap (λ b. first ∷ cond b [] (frame_takes time signalled now)) is
@@ -21,7 +22,8 @@ pub loop-queued-preserved : goal.loop-queued-preserved
 loop-queued-preserved c =
     let first = c.in-Some.ensures.first in
     let kept : WaitingPresent (Arc Snapshot Global) = c.in-Some.queued in
-    let ready = takes-first c.args.time (has c.args.fences.now) c.loop-queued.state.queue.waiting c.take.new.self.waiting kept c.in-Some.ensures.ready false c.if-unsquashable.false in
+    let ready = takes-first c.args.time (has c.args.fences.now) c.loop-queued.state.queue.waiting c.take.new.self.waiting kept c.in-Some.ensures.ready false
+    c.if-unsquashable.false in
     record {
       waiting = drop-next _ _ c.args.state.now.queue.waiting c.loop-queued.state.took (sym first.waiting ∙ c.loop-queued.invariant.waiting);
       took = omega (arith, ap length ready, c.loop-queued.invariant.took);
@@ -42,7 +44,8 @@ pub returns-then-unsquashable : goal.returns-then-unsquashable
 returns-then-unsquashable c =
     let first = c.in-Some.ensures.first in
     let kept : WaitingPresent (Arc Snapshot Global) = c.in-Some.queued in
-    let ready = takes-first c.args.time (has c.args.fences.now) c.loop-queued.state.queue.waiting c.take.new.self.waiting kept c.in-Some.ensures.ready true c.if-unsquashable.true in
+    let ready = takes-first c.args.time (has c.args.fences.now) c.loop-queued.state.queue.waiting c.take.new.self.waiting kept c.in-Some.ensures.ready true
+    c.if-unsquashable.true in
     record {
       took = omega (arith, ap length ready, c.loop-queued.invariant.took);
       taken = omega arith;

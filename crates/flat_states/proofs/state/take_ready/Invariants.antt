@@ -9,8 +9,10 @@ invariant-loop-queued l = record {
   waiting : l.state.queue.waiting ≡ drop l.state.took l.fn.state.queue.waiting;
   took : l.state.took + length (frame_takes l.time (has l.fences) l.state.queue.waiting) ≡ length (frame_takes l.time (has l.fences) l.fn.state.queue.waiting);
   taken : l.state.queue.taken ≡ l.fn.state.queue.taken + l.state.took;
-  going : l.state.going.items ++ map (λ kept. kept.args.release) (frame_takes l.time (has l.fences) l.state.queue.waiting) ≡ map (λ kept. kept.args.release) (frame_takes l.time (has l.fences) l.fn.state.queue.waiting);
-  last : last_from l.last (map (λ kept. kept.item) (frame_takes l.time (has l.fences) l.state.queue.waiting)) ≡ last_from None (map (λ kept. kept.item) (frame_takes l.time (has l.fences) l.fn.state.queue.waiting));
+  going : l.state.going.items ++ map (λ kept. kept.args.release) (frame_takes l.time (has l.fences) l.state.queue.waiting)
+      ≡ map (λ kept. kept.args.release) (frame_takes l.time (has l.fences) l.fn.state.queue.waiting);
+  last : last_from l.last (map (λ kept. kept.item) (frame_takes l.time (has l.fences) l.state.queue.waiting))
+      ≡ last_from None (map (λ kept. kept.item) (frame_takes l.time (has l.fences) l.fn.state.queue.waiting));
   few : length l.state.going.items + length l.state.queue.waiting ≤ 5;
   count : l.state.took + length l.state.queue.waiting ≤ 5;
   within : All (λ kept. All (λ f. f.0 < length l.fences) kept.args.acquire) l.state.queue.waiting;

@@ -8,4 +8,5 @@ use Rattle.flat_stress.proofs.load.push_host.Goals as goal
 pub returns : goal.returns
 returns c =
     let viewports = flat_map (λ i. node 1 i ++ viewport i) (from_to 2 8) in
-    two (opening 1 ++ viewports) (present 1 0 ∷ []) _ _ _ (two (opening 1) viewports _ _ _ c.in_ok-push_opening.ensures c.in_ok-push_viewports.ensures) c.in_ok-push_present.ensures
+    two (opening 1 ++ viewports) (present 1 0 ∷ []) _ _ _ (two (opening 1) viewports _ _ _ c.in_ok-push_opening.ensures c.in_ok-push_viewports.ensures)
+    c.in_ok-push_present.ensures

@@ -11,4 +11,5 @@ returns c =
     let moves = map (λ i. move 1 i ((100 * i + k) % 900) ((50 * i + k) % 900)) (from_to 2 8) in
     let guests = flat_map (λ i. move i 2 (k % 90) 0 ∷ present i k ∷ []) (from_to 2 8) in
     let first = two moves (present 1 k ∷ []) _ _ _ c.in_ok-push_host_moves.ensures c.in_ok-push_present.ensures in
-    two (moves ++ present 1 k ∷ [] ++ guests) (frame k) _ _ _ (two (moves ++ present 1 k ∷ []) guests _ _ _ first c.in_ok-push_guest_moves.ensures) c.in_ok-push_frame.ensures
+    two (moves ++ present 1 k ∷ [] ++ guests) (frame k) _ _ _ (two (moves ++ present 1 k ∷ []) guests _ _ _ first c.in_ok-push_guest_moves.ensures)
+    c.in_ok-push_frame.ensures

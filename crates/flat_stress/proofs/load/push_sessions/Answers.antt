@@ -7,4 +7,5 @@ pub loop-i-preserved : goal.loop-i-preserved
 loop-i-preserved c = line_more (λ i. codes "session" ∷ session i ∷ []) _ _ _ 1 c.loop-i.i c.loop-i.auto.i c.loop-i.invariant c.in_ok-push_lines.ensures
 
 pub returns : goal.returns
-returns c = lines_end (λ i. codes "session" ∷ session i ∷ []) _ _ 1 c.loop-i.i 9 (omega (arith, c.loop-i-test.false, c.loop-i.auto.i-end (omega arith))) c.loop-i.invariant
+returns c = lines_end (λ i. codes "session" ∷ session i ∷ []) _ _ 1 c.loop-i.i 9 (omega (arith, c.loop-i-test.false, c.loop-i.auto.i-end (omega arith)))
+    c.loop-i.invariant

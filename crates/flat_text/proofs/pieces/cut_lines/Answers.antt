@@ -6,4 +6,5 @@ use Rattle.flat_text.proofs.pieces.cut_lines.Goals as goal
 pub returns-then-end-text-clause-lines : goal.returns-then-end-text-clause-lines
 returns-then-end-text-clause-lines c =
     let text = c.args.text.now in
-    lines_found text _ _ _ c.args.from c.place_of_feed.result (take_rest text c.args.from) c.place_of_feed.ensures.place c.if-end-text.true refl (take_rest text (c.args.from + c.place_of_feed.result + 1))
+    lines_found text _ _ _ c.args.from c.place_of_feed.result (take_rest text c.args.from) c.place_of_feed.ensures.place c.if-end-text.true refl
+    (take_rest text (c.args.from + c.place_of_feed.result + 1))

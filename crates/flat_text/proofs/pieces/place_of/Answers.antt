@@ -11,7 +11,8 @@ returns c =
     let text = c.args.text.now in
     let place = position_or_len (λ b. b == c.args.separator) text in
     let found : c.position.result ≡ cond (nat_lt place (length text)) (Some place) None =
-    position_from_yields_List (λ b. b == c.args.separator) _ _ c.position.result c.position.ensures.ran (YieldsList-from_slice _ c.iter.ensures.rest) (λ x b q k. search (rules, tests)) in
+    position_from_yields_List (λ b. b == c.args.separator) _ _ c.position.result c.position.ensures.ran (YieldsList-from_slice _ c.iter.ensures.rest)
+    (λ x b q k. search (rules, tests)) in
     let within : place ≤ length text = prefix_len-le-length (λ b. not (b == c.args.separator)) text in
     let same : c.unwrap_or.result ≡ place = grind (arith, common_steps, found, within) in
     record { place = same; within = omega arith }

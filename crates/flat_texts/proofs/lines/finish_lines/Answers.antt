@@ -9,7 +9,8 @@ use Rattle.flat_texts.proofs.lines.finish_lines.Goals as goal
 use Rattle.flat_texts.proofs.lines.finish_lines.Goals.{then-is_finish+in_ok-push, else-is_finish}
 
 -- the lines of entries and one more
-more : (entries : List Entry) (i : ℕ) (entry : Entry) → i < length entries → entry ≡ get_or entries i entry → finish_lines (take (i + 1) entries) ≡ finish_lines (take i entries) ++ finish_lines (entry ∷ [])
+more : (entries : List Entry) (i : ℕ) (entry : Entry) → i < length entries → entry ≡ get_or entries i entry
+    → finish_lines (take (i + 1) entries) ≡ finish_lines (take i entries) ++ finish_lines (entry ∷ [])
 more entries i entry within is =
     let p = λ (entry : Entry). is_finish entry.kind in
     let line = λ (entry : Entry). entry.line in

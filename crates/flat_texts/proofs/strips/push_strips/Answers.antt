@@ -18,6 +18,8 @@ loop-n-preserved c =
     ap (λ runs. map arc_value runs) c.in_ok-push-2.ensures.items ∙ map-append arc_value c.loop-n.runs.items (c.in_ok-run.run' ∷ []) in
     record {
       count = ap length all ∙ length-append texts (strip ∷ []) ∙ ap (λ (m : ℕ). m + 1) c.loop-n.invariant.count;
-      strips = subst (λ (ts : List (List ℕ)). AreStrips w h colour ts) (sym all) (strips-more w h colour n texts strip c.loop-n.invariant.count c.loop-n.invariant.strips c.in_ok-run.ensures);
-      text = text-more w h colour n c.args.text.now c.loop-n.text (arc_value c.in_ok-try_clone.field-0) c.push.new.self c.loop-n.invariant.text (c.in_ok-try_clone.ensures ∙ c.in_ok-run.ensures) c.in_ok-push.ensures;
+      strips = subst (λ (ts : List (List ℕ)). AreStrips w h colour ts) (sym all)
+          (strips-more w h colour n texts strip c.loop-n.invariant.count c.loop-n.invariant.strips c.in_ok-run.ensures);
+      text = text-more w h colour n c.args.text.now c.loop-n.text (arc_value c.in_ok-try_clone.field-0) c.push.new.self c.loop-n.invariant.text
+          (c.in_ok-try_clone.ensures ∙ c.in_ok-run.ensures) c.in_ok-push.ensures;
     }

@@ -4,12 +4,14 @@ use Rattle.flat_topology.proofs.walk.viewer.Goals as goal
 
 pub returns-then-shows-clause-found : goal.returns-then-shows-clause-found
 returns-then-shows-clause-found c =
-    let next = viewer-next c.args.shown.now c.loop-number.number c.args.pair (record { 0 = c.loop-number.number }) c.shows.result refl (omega arith) (omega arith) c.shows.ensures in
+    let next = viewer-next c.args.shown.now c.loop-number.number c.args.pair (record { 0 = c.loop-number.number }) c.shows.result refl (omega arith)
+    (omega arith) c.shows.ensures in
     sym (rw c.if-shows.true at next) ∙ c.loop-number.invariant
 
 pub loop-number-preserved : goal.loop-number-preserved
 loop-number-preserved c =
-    let next = viewer-next c.args.shown.now c.loop-number.number c.args.pair (record { 0 = c.loop-number.number }) c.shows.result refl (omega arith) (omega arith) c.shows.ensures in
+    let next = viewer-next c.args.shown.now c.loop-number.number c.args.pair (record { 0 = c.loop-number.number }) c.shows.result refl (omega arith)
+    (omega arith) c.shows.ensures in
     sym (rw c.if-shows.false at next) ∙ c.loop-number.invariant
 
 pub returns-clause-found : goal.returns-clause-found

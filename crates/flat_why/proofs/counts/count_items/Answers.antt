@@ -10,5 +10,6 @@ count_one-requires c =
 pub loop-item-preserved : goal.loop-item-preserved
 loop-item-preserved c = record {
   count = ap length c.count_one.ensures ∙ length-with_item _ c.loop-item.counts.items ∙ c.loop-item.invariant.count;
-  each = counted-next c.args.items.now c.loop-item.item-index c.args.sessions _ c.loop-item.counts.items c.count_one.new.counts.items c.loop-item-test.true c.loop-item.invariant.count c.count_one.ensures c.loop-item.invariant.each;
+  each = counted-next c.args.items.now c.loop-item.item-index c.args.sessions _ c.loop-item.counts.items c.count_one.new.counts.items c.loop-item-test.true
+      c.loop-item.invariant.count c.count_one.ensures c.loop-item.invariant.each;
 }

@@ -10,5 +10,6 @@ loop-preserved c =
     let n = length standings in
     let low : c.loop.counter < n = c.loop-test.true in
     ap (comes stands c.args.s (n - (c.loop.counter + 1))) c.standing_of-standing-in-loop.ensures
-    ∙ sym (go-on stands c.args.s n c.loop.counter c.loop.standing c.in-Below.above low c.in-Below.is (apart-tested c.in-Below.above.0 c.args.s.0 c.if-above-s.false))
+    ∙ sym (go-on stands c.args.s n c.loop.counter c.loop.standing c.in-Below.above low c.in-Below.is
+    (apart-tested c.in-Below.above.0 c.args.s.0 c.if-above-s.false))
     ∙ c.loop.invariant

@@ -7,4 +7,5 @@ use Rattle.flat_why.proofs.standings.hanging.Goals as goal
 pub hanging_below-requires-clause-owner : goal.hanging_below-requires-clause-owner
 hanging_below-requires-clause-owner c =
     owner-declared c.args.board.now.setup c.args.p c.in-Some-Session.q c.requires.owners
-    (ap (λ (setup : Setup). viewport_owner setup c.args.p) (sym c.setup.ensures) ∙ sym c.viewport_owner.ensures ∙ c.in-Some-Session.is ∙ ap Some c.in-Some-Session.field-0-is)
+    (ap (λ (setup : Setup). viewport_owner setup c.args.p) (sym c.setup.ensures) ∙ sym c.viewport_owner.ensures ∙ c.in-Some-Session.is
+    ∙ ap Some c.in-Some-Session.field-0-is)

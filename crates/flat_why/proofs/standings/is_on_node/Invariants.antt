@@ -5,4 +5,5 @@ use Rattle.flat_why.proofs.ShownPairs.{contents_of, leads_at}
 use Rattle.flat_why.proofs.standings.is_on_node.Given as goal
 
 abbrev pub invariant-loop-i : goal.invariant-loop-i
-invariant-loop-i l = list_any (leads_at l.p.0 (contents_of (flat_nodes l.state))) (take l.i-index (viewport_places 0 (contents_of (flat_nodes l.state)))) ≡ false
+invariant-loop-i l = list_any (leads_at l.p.0 (contents_of (flat_nodes l.state))) (take l.i-index (viewport_places 0 (contents_of (flat_nodes l.state))))
+    ≡ false

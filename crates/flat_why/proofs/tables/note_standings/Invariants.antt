@@ -9,5 +9,7 @@ use Rattle.flat_why.proofs.tables.note_standings.Given as goal
 abbrev pub invariant-loop-i : goal.invariant-loop-i
 invariant-loop-i l = record {
   count : length l.standings ≡ length l.fn.standings;
-  each : (k : ℕ) (d : Standing) → k < l.i → slice_index_or l.standings k d ≡ standing_in l.board.setup l.shown (taken l.board.setup l.board.history) (uses_in l.last_uses) (nothing_by (closings_in l.closings (number k)) (first_of (number k) l.waits)) (number k);
+  each : (k : ℕ) (d : Standing) → k < l.i → slice_index_or l.standings k d
+      ≡ standing_in l.board.setup l.shown (taken l.board.setup l.board.history) (uses_in l.last_uses)
+      (nothing_by (closings_in l.closings (number k)) (first_of (number k) l.waits)) (number k);
 }

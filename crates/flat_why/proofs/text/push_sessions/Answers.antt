@@ -29,4 +29,5 @@ push_session-requires-clause-counted c =
     let place : i ≡ i + 1 - 1 = omega arith in
     let low : i < length counts = omega (arith, c.loop-i-test.true, c.in_ok-counts.ensures.count) in
     c.index.ensures ∙ whatever counts i _ 0 low ∙ ap (λ (n : ℕ). get_or counts n 0) place
-    ∙ c.in_ok-counts.ensures.each (number i) (omega arith) (omega (arith, c.loop-i-test.true)) ∙ ap (count_by (λ (item : DrawItem). item.session.0 == i + 1)) c.as_slice.ensures
+    ∙ c.in_ok-counts.ensures.each (number i) (omega arith) (omega (arith, c.loop-i-test.true))
+    ∙ ap (count_by (λ (item : DrawItem). item.session.0 == i + 1)) c.as_slice.ensures

@@ -5,4 +5,5 @@ use Rattle.flat_why.specs.Noted.{session_line}
 use Rattle.flat_why.proofs.text.push_sessions.Given as goal
 
 abbrev pub invariant-loop-i : goal.invariant-loop-i
-invariant-loop-i l = WritesLines (map (session_line l.script l.scene.ratio l.scene.shown.now l.scene.frame.now l.scene.standings.now) (sessions_to l.i)) l.fn.page l.page
+invariant-loop-i l = WritesLines (map (session_line l.script l.scene.ratio l.scene.shown.now l.scene.frame.now l.scene.standings.now) (sessions_to l.i))
+    l.fn.page l.page

@@ -24,7 +24,8 @@ returns-in_err-read_frames-in-stress-clause-only c form named =
     let name_is : c.in_ok-name.name.now ≡ codes "stress" = search rules in
     let call_is : subcommand_rows_of c.args.matches.now ≡ Some (c.in_ok-name.name.now, rows_of (found_of c.in_ok-name.given.now)) =
     told _ _ _ _ _ c.in_ok-name.ensures.name c.in_ok-name.ensures.rows in
-    let word : option_map (λ s. s.now) c.get_str.result ≡ Some c.in_ok-get_str-in-stress.field-0.now = ap (option_map (λ s. s.now)) c.in_ok-get_str-in-stress.was in
+    let word : option_map (λ s. s.now) c.get_str.result ≡ Some c.in_ok-get_str-in-stress.field-0.now =
+    ap (option_map (λ s. s.now)) c.in_ok-get_str-in-stress.was in
     let load = load_only _ _ _ (call_is ∙ ap (λ (t : Text). Some (t, rows_of (found_of c.in_ok-name.given.now))) name_is)
     (sym (first_value-rows (found_of c.in_ok-name.given.now) (codes "frames")) ∙ sym c.get_str.ensures ∙ word) form named in
     let refused = c.in_err-read_frames-in-stress.ensures.only load.0 (sym (ap (λ o. unwrap_or o c.in_ok-get_str-in-stress.field-0.now) load.2)) load.3 load.4 in
@@ -37,7 +38,8 @@ returns-in_ok-read_frames-in-stress-clause-form c =
     let name_is : c.in_ok-name.name.now ≡ codes "stress" = search rules in
     let call_is : subcommand_rows_of c.args.matches.now ≡ Some (c.in_ok-name.name.now, rows_of (found_of c.in_ok-name.given.now)) =
     told _ _ _ _ _ c.in_ok-name.ensures.name c.in_ok-name.ensures.rows in
-    let word : option_map (λ s. s.now) c.get_str.result ≡ Some c.in_ok-get_str-in-stress.field-0.now = ap (option_map (λ s. s.now)) c.in_ok-get_str-in-stress.was in
+    let word : option_map (λ s. s.now) c.get_str.result ≡ Some c.in_ok-get_str-in-stress.field-0.now =
+    ap (option_map (λ s. s.now)) c.in_ok-get_str-in-stress.was in
     let read = c.in_ok-read_frames-in-stress.ensures.text in
     load_form _ _ _ _ (call_is ∙ ap (λ (t : Text). Some (t, rows_of (found_of c.in_ok-name.given.now))) name_is)
     (sym (first_value-rows (found_of c.in_ok-name.given.now) (codes "frames")) ∙ sym c.get_str.ensures ∙ word) read.0 read.1 read.2
@@ -49,7 +51,8 @@ returns-in_ok-read_frames-in-stress-clause-only c form named =
     let name_is : c.in_ok-name.name.now ≡ codes "stress" = search rules in
     let call_is : subcommand_rows_of c.args.matches.now ≡ Some (c.in_ok-name.name.now, rows_of (found_of c.in_ok-name.given.now)) =
     told _ _ _ _ _ c.in_ok-name.ensures.name c.in_ok-name.ensures.rows in
-    let word : option_map (λ s. s.now) c.get_str.result ≡ Some c.in_ok-get_str-in-stress.field-0.now = ap (option_map (λ s. s.now)) c.in_ok-get_str-in-stress.was in
+    let word : option_map (λ s. s.now) c.get_str.result ≡ Some c.in_ok-get_str-in-stress.field-0.now =
+    ap (option_map (λ s. s.now)) c.in_ok-get_str-in-stress.was in
     let load = load_only _ _ _ (call_is ∙ ap (λ (t : Text). Some (t, rows_of (found_of c.in_ok-name.given.now))) name_is)
     (sym (first_value-rows (found_of c.in_ok-name.given.now) (codes "frames")) ∙ sym c.get_str.ensures ∙ word) form named in
     let same = c.in_ok-read_frames-in-stress.ensures.only load.0 (sym (ap (λ o. unwrap_or o c.in_ok-get_str-in-stress.field-0.now) load.2)) load.3 load.4 in

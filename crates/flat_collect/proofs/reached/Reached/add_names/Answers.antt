@@ -12,7 +12,8 @@ add-requires-clause-within c =
 
 pub loop-name-preserved : goal.loop-name-preserved
 loop-name-preserved c =
-    adds-next-name c.args.names.now c.loop-name.name-index (record { id = 0; key = 0 }) c.args.self.now c.loop-name.self c.add.new.self c.loop-name-test.true c.loop-name.invariant c.in_ok-add.ensures
+    adds-next-name c.args.names.now c.loop-name.name-index (record { id = 0; key = 0 }) c.args.self.now c.loop-name.self c.add.new.self c.loop-name-test.true
+    c.loop-name.invariant c.in_ok-add.ensures
 
 pub loop-name-init : goal.loop-name-init
 loop-name-init c = adds-none c.args.self.now c.requires.listed

@@ -7,7 +7,8 @@ use Rattle.flat_collect.proofs.reached.Reached.find.Goals as goal
 
 pub add_all-requires-clause-within : goal.add_all-requires-clause-within
 add_all-requires-clause-within c = λ k has.
-    c.loop-done.invariant.covers k (child_kept c.args.graph.now c.root.ensures.sound c.index-key.result.now k (subst (λ (keys : List ℕ). Contains keys k) c.children.ensures has))
+    c.loop-done.invariant.covers k (child_kept c.args.graph.now c.root.ensures.sound c.index-key.result.now k
+    (subst (λ (keys : List ℕ). Contains keys k) c.children.ensures has))
 
 pub loop-done-smaller : goal.loop-done-smaller
 loop-done-smaller c =
@@ -22,4 +23,5 @@ loop-done-preserved c =
     (subst (λ (keys : List ℕ). Adds keys c.loop-done.found c.add_all.new.self) c.children.ensures c.in_ok-add_all.ensures)
 
 pub returns : goal.returns
-returns c = finding-end c.args.graph.now c.loop-done.found c.loop-done.done c.loop-done.invariant (omega (arith, c.loop-done-test.false, c.len.ensures, c.loop-done.found.keys.ok.0))
+returns c = finding-end c.args.graph.now c.loop-done.found c.loop-done.done c.loop-done.invariant
+    (omega (arith, c.loop-done-test.false, c.len.ensures, c.loop-done.found.keys.ok.0))

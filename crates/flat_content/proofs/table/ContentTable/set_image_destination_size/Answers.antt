@@ -13,20 +13,32 @@ use Rattle.flat_content.proofs.Refusals.{hands_on}
 use Rattle.flat_content.proofs.table.ContentTable.set_image_destination_size.Goals as goal
 
 pub invariant_of-self : goal.invariant_of-self
-invariant_of-self c = (rw c.put.ensures.items (table-set _ c.in_ok-serial.serial _ c.self.invariant.0), λ e. room-same (c.self.invariant.1 e) c.put.ensures.count c.put.ensures.capacity)
+invariant_of-self c = (
+  rw c.put.ensures.items (table-set _ c.in_ok-serial.serial _ c.self.invariant.0),
+  λ e. room-same (c.self.invariant.1 e) c.put.ensures.count c.put.ensures.capacity,
+)
 
 pub returns-clause-set : goal.returns-clause-set
 returns-clause-set c =
-    let table : TableState = record { buffers = c.self.inside.buffers; contents = c.self.inside.contents.items; names = c.self.inside.names.items; viewports = c.self.inside.viewports.items; has_room = c.self.inside.has_room } in
+    let table : TableState = record {
+      buffers = c.self.inside.buffers;
+      contents = c.self.inside.contents.items;
+      names = c.self.inside.names.items;
+      viewports = c.self.inside.viewports.items;
+      has_room = c.self.inside.has_room;
+    } in
     let named : key_named table.names c.args.c.0 ≡ Some c.in_ok-serial.serial = search rules in
     let there : of_serial table.contents c.in_ok-serial.serial ≡ Some (Image c.in_ok-serial.image) = search rules in
     rw (← c.self.view_is) (set-by table c.args.c.0 c.in_ok-serial.serial (Image c.in_ok-serial.image) _ _ _ named there refl c.put.ensures.items)
 
 pub returns-in_err-serial-clause-fault : goal.returns-in_err-serial-clause-fault
-returns-in_err-serial-clause-fault c = hands_on c.from_residual.result (sort_tests c.args.self.now is_image c.args.c.0) ((is_bad_side c.args.w || is_bad_side c.args.h, BadSize) ∷ []) c.in_err-serial.field-0.0 c.from_residual.ensures.1 c.in_err-serial.ensures.fault
+returns-in_err-serial-clause-fault c = hands_on c.from_residual.result (sort_tests c.args.self.now is_image c.args.c.0)
+    ((is_bad_side c.args.w || is_bad_side c.args.h, BadSize) ∷ []) c.in_err-serial.field-0.0 c.from_residual.ensures.1 c.in_err-serial.ensures.fault
 
 pub returns-then-is_bad_size-clause-fault : goal.returns-then-is_bad_size-clause-fault
-returns-then-is_bad_size-clause-fault c = refused_by (sort_tests c.args.self.now is_image c.args.c.0) _ _ c.in_ok-serial.ensures.allowed (sym c.is_bad_size.ensures ∙ c.if-is_bad_size.true)
+returns-then-is_bad_size-clause-fault c = refused_by (sort_tests c.args.self.now is_image c.args.c.0) _ _ c.in_ok-serial.ensures.allowed
+    (sym c.is_bad_size.ensures ∙ c.if-is_bad_size.true)
 
 pub returns-clause-allowed : goal.returns-clause-allowed
-returns-clause-allowed c = allowed_by (sort_tests c.args.self.now is_image c.args.c.0) _ _ c.in_ok-serial.ensures.allowed (sym c.is_bad_size.ensures ∙ c.if-is_bad_size.false)
+returns-clause-allowed c = allowed_by (sort_tests c.args.self.now is_image c.args.c.0) _ _ c.in_ok-serial.ensures.allowed
+    (sym c.is_bad_size.ensures ∙ c.if-is_bad_size.false)

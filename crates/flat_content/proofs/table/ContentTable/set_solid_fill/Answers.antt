@@ -8,13 +8,19 @@ use Rattle.flat_content.proofs.Refusals.{hands_on}
 use Rattle.flat_content.proofs.table.ContentTable.set_solid_fill.Goals as goal
 
 pub invariant_of-self : goal.invariant_of-self
-invariant_of-self c = (rw c.put.ensures.items (table-set _ c.in_ok-serial.serial _ c.self.invariant.0), λ e. room-same (c.self.invariant.1 e) c.put.ensures.count c.put.ensures.capacity)
+invariant_of-self c = (
+  rw c.put.ensures.items (table-set _ c.in_ok-serial.serial _ c.self.invariant.0),
+  λ e. room-same (c.self.invariant.1 e) c.put.ensures.count c.put.ensures.capacity,
+)
 
 pub returns-in_err-serial-clause-fault : goal.returns-in_err-serial-clause-fault
-returns-in_err-serial-clause-fault c = hands_on c.from_residual.result (sort_tests c.args.self.now is_fill c.args.c.0) ((is_bad_side c.args.w || is_bad_side c.args.h, BadSize) ∷ []) c.in_err-serial.field-0.0 c.from_residual.ensures.1 c.in_err-serial.ensures.fault
+returns-in_err-serial-clause-fault c = hands_on c.from_residual.result (sort_tests c.args.self.now is_fill c.args.c.0)
+    ((is_bad_side c.args.w || is_bad_side c.args.h, BadSize) ∷ []) c.in_err-serial.field-0.0 c.from_residual.ensures.1 c.in_err-serial.ensures.fault
 
 pub returns-then-is_bad_size-clause-fault : goal.returns-then-is_bad_size-clause-fault
-returns-then-is_bad_size-clause-fault c = refused_by (sort_tests c.args.self.now is_fill c.args.c.0) _ _ c.in_ok-serial.ensures.allowed (sym c.is_bad_size.ensures ∙ c.if-is_bad_size.true)
+returns-then-is_bad_size-clause-fault c = refused_by (sort_tests c.args.self.now is_fill c.args.c.0) _ _ c.in_ok-serial.ensures.allowed
+    (sym c.is_bad_size.ensures ∙ c.if-is_bad_size.true)
 
 pub returns-clause-allowed : goal.returns-clause-allowed
-returns-clause-allowed c = allowed_by (sort_tests c.args.self.now is_fill c.args.c.0) _ _ c.in_ok-serial.ensures.allowed (sym c.is_bad_size.ensures ∙ c.if-is_bad_size.false)
+returns-clause-allowed c = allowed_by (sort_tests c.args.self.now is_fill c.args.c.0) _ _ c.in_ok-serial.ensures.allowed
+    (sym c.is_bad_size.ensures ∙ c.if-is_bad_size.false)

@@ -10,5 +10,6 @@ loop-serial-preserved c =
     let pushed : c.push_some.new.uses ≡ c.loop-serial.uses ++ option_to_list c.use_of.result = search rules in
     record {
       items = c.loop-serial.invariant.items;
-      listed = rw (pushed, c.loop-serial.invariant.listed, c.use_of.ensures) (sym (filter-more (use_at c.args.self.now) c.deref-serial-items.result.now c.loop-serial.serial-index 0 within));
+      listed = rw (pushed, c.loop-serial.invariant.listed, c.use_of.ensures)
+          (sym (filter-more (use_at c.args.self.now) c.deref-serial-items.result.now c.loop-serial.serial-index 0 within));
     }

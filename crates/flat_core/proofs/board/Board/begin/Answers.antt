@@ -41,7 +41,8 @@ pub begin_all-count-requires-clause-within : goal.begin_all-count-requires-claus
 begin_all-count-requires-clause-within c = (few-declared c.self.inside.setup c.self.invariant.1.limits).0
 
 pub returns-clause-changed : goal.returns-clause-changed
-returns-clause-changed c = changes-same c.begin_all-count.new.changed c.args.into.now c.begin_all-count.new.into (λ k none. (c.begin_all-count.ensures.changes k none).1)
+returns-clause-changed c = changes-same c.begin_all-count.new.changed c.args.into.now c.begin_all-count.new.into
+    (λ k none. (c.begin_all-count.ensures.changes k none).1)
 
 pub begin_all-count-requires-clause-place : goal.begin_all-count-requires-clause-place
 begin_all-count-requires-clause-place c =
@@ -75,7 +76,8 @@ begin-requires-clause-fit c =
     let inside = c.self.inside in
     let e : Entry = begin_entry c.args.line c.args.time in
     let m : Machine = record { setup = inside.setup; shares = inside.shares; history = inside.log.history } in
-    let legal : Legal inside.setup (inside.log.history ▹ e) = (c.self.invariant.0.legal, legal-entered m Display c.args.line [] (Begin c.args.time) Done may refl) in
+    let legal : Legal inside.setup (inside.log.history ▹ e) =
+    (c.self.invariant.0.legal, legal-entered m Display c.args.line [] (Begin c.args.time) Done may refl) in
     subst (λ (shows : Shown). FitsSetup inside.setup shows) (sym c.begin_all-count.ensures.shown) (begun-fits inside.setup (inside.log.history ▹ e) legal)
 
 pub invariant_of-self : goal.invariant_of-self
@@ -84,20 +86,26 @@ invariant_of-self c =
     let all = c.begin_all-count.ensures in
     let log = c.enter.ensures in
     let history : c.enter.new.log.history ≡ (c.begin_all-count.new.log.history ▹ begin_entry c.args.line c.args.time) =
-    log.history ∙ ap (λ (carries : List Call). c.begin_all-count.new.log.history ▹ entry_of Display c.args.line carries (Begin c.args.time) Done) c.new.ensures in
+    log.history ∙ ap (λ (carries : List Call). c.begin_all-count.new.log.history ▹ entry_of Display c.args.line carries (Begin c.args.time) Done)
+    c.new.ensures in
     let inside = c.self.inside in
     let e : Entry = begin_entry c.args.line c.args.time in
     let m : Machine = record { setup = inside.setup; shares = inside.shares; history = inside.log.history } in
-    let legal : Legal inside.setup (inside.log.history ▹ e) = (c.self.invariant.0.legal, legal-entered m Display c.args.line [] (Begin c.args.time) Done may refl) in
-    let ends : AreEnds inside.setup (inside.log.history ▹ e) inside.viewports.items = ends-other inside.setup inside.log.history e legal refl inside.viewports.items (λ j. refl) c.self.invariant.2 in
+    let legal : Legal inside.setup (inside.log.history ▹ e) =
+    (c.self.invariant.0.legal, legal-entered m Display c.args.line [] (Begin c.args.time) Done may refl) in
+    let ends : AreEnds inside.setup (inside.log.history ▹ e) inside.viewports.items =
+    ends-other inside.setup inside.log.history e legal refl inside.viewports.items (λ j. refl) c.self.invariant.2 in
     let now : c.enter.new.log.history ≡ (inside.log.history ▹ e) = history ∙ ap (λ (h : List Entry). h ▹ e) all.history in
     let states = c.as_slice.ensures.value in
     let tied = c.begin.ensures.tied inside.log.history c.args.line c.args.time (record {
       legal = legal;
-      kept = subst (λ (xs : List SessionState). AllNumbered (λ i. IsKept inside.setup (seen_of inside.setup (begun inside.log.history c.args.line c.args.time) (number i))) xs) (sym states) all.kept;
+      kept = subst (λ (xs : List SessionState). AllNumbered
+          (λ i. IsKept inside.setup (seen_of inside.setup (begun inside.log.history c.args.line c.args.time) (number i))) xs) (sym states) all.kept;
       shown = all.shown;
     }) c.self.invariant.3 in
-    let kept = kept-begun m c.args.line c.args.time may _ _ _ _ _ _ _ _ _ _ {dues = all_due inside.sessions.items inside.viewports.items inside.watchers} {dues_now = all_due c.begin_all-count.new.sessions.items inside.viewports.items inside.watchers} refl c.self.invariant.0 c.self.invariant.1 all.all all.kept
+    let kept = kept-begun m c.args.line c.args.time may _ _ _ _ _ _ _ _ _ _ {dues = all_due inside.sessions.items inside.viewports.items inside.watchers}
+    {dues_now = all_due c.begin_all-count.new.sessions.items inside.viewports.items inside.watchers} refl c.self.invariant.0 c.self.invariant.1 all.all
+    all.kept
     (record {
       posts = all.posts;
       posted = all.count;
@@ -107,7 +115,14 @@ invariant_of-self c =
       due = omega (arith, all.due);
       entered = record { history = history; posts = log.posts; room = log.room; post_room = log.post_room };
     }) c.begin-ratios.result (c.begin-ratios.ensures inside.setup inside.log.history c.args.line c.args.time) in
-    rw (log.sessions, log.ends.0, log.ends.1) (kept.0, kept.1, rw now ends, rw now tied, rw now (watched-after m Display c.args.line [] (Begin c.args.time) Done may refl refl refl refl c.self.invariant.0.legal inside.watchers c.self.invariant.4))
+    rw (log.sessions, log.ends.0, log.ends.1) (
+      kept.0,
+      kept.1,
+      rw now ends,
+      rw now tied,
+      rw now (watched-after m Display c.args.line [] (Begin c.args.time) Done may refl refl refl refl c.self.invariant.0.legal inside.watchers
+          c.self.invariant.4),
+    )
 
 pub returns-clause-next : goal.returns-clause-next
 returns-clause-next c =
@@ -115,9 +130,11 @@ returns-clause-next c =
     let m : Machine = record { setup = inside.setup; shares = inside.shares; history = inside.log.history } in
     let after = c.enter.new.log.history in
     let new : after ≡ begun inside.log.history c.args.line c.args.time =
-    c.enter.ensures.history ∙ ap (λ (carries : List Call). c.begin_all-count.new.log.history ▹ entry_of Display c.args.line carries (Begin c.args.time) Done) c.new.ensures
+    c.enter.ensures.history ∙ ap (λ (carries : List Call). c.begin_all-count.new.log.history ▹ entry_of Display c.args.line carries (Begin c.args.time) Done)
+    c.new.ensures
     ∙ ap (λ (h : List Entry). begun h c.args.line c.args.time) c.begin_all-count.ensures.history in
-    let P : List Entry → Machine → Type 0 = λ h n. (s : SessionNo) (present : Published) → is_closed s n.history ≡ false → slice_get (waiting inside.setup h s) 0 ≡ Some present
+    let P : List Entry → Machine → Type 0 = λ h n. (s : SessionNo) (present : Published) → is_closed s n.history ≡ false
+    → slice_get (waiting inside.setup h s) 0 ≡ Some present
     → (not (list_any is_unsquashable (going inside.setup h s)) && is_ready c.args.time (is_signalled n.setup n.history) present.args) ≡ false in
     subst (P after) c.self.view_is (subst (λ (h : List Entry). P h m) (sym new) (held-back inside.setup inside.log.history c.args.line c.args.time))
 
@@ -127,17 +144,21 @@ returns-clause-unsquashable c =
     let m : Machine = record { setup = inside.setup; shares = inside.shares; history = inside.log.history } in
     let after = c.enter.new.log.history in
     let new : after ≡ begun inside.log.history c.args.line c.args.time =
-    c.enter.ensures.history ∙ ap (λ (carries : List Call). c.begin_all-count.new.log.history ▹ entry_of Display c.args.line carries (Begin c.args.time) Done) c.new.ensures
+    c.enter.ensures.history ∙ ap (λ (carries : List Call). c.begin_all-count.new.log.history ▹ entry_of Display c.args.line carries (Begin c.args.time) Done)
+    c.new.ensures
     ∙ ap (λ (h : List Entry). begun h c.args.line c.args.time) c.begin_all-count.ensures.history in
     let P : List Entry → Machine → Type 0 = λ h n. (s : SessionNo) (earlier later : List Published) (present : Published) → is_closed s n.history ≡ false
-    → going inside.setup h s ≡ earlier ++ present ∷ later → is_unsquashable present ≡ true → (later ≡ []) × (shown inside.setup h s ≡ tree_of inside.setup present) in
+    → going inside.setup h s ≡ earlier ++ present ∷ later → is_unsquashable present ≡ true
+    → (later ≡ []) × (shown inside.setup h s ≡ tree_of inside.setup present) in
     subst (P after) c.self.view_is (subst (λ (h : List Entry). P h m) (sym new) (unsquashable-shown inside.setup inside.log.history c.args.line c.args.time))
 
 pub returns-clause-ratio : goal.returns-clause-ratio
 returns-clause-ratio c =
     let inside = c.self.inside in
     let new : c.enter.new.log.history ≡ begun inside.log.history c.args.line c.args.time =
-    c.enter.ensures.history ∙ ap (λ (carries : List Call). c.begin_all-count.new.log.history ▹ entry_of Display c.args.line carries (Begin c.args.time) Done) c.new.ensures
+    c.enter.ensures.history ∙ ap (λ (carries : List Call). c.begin_all-count.new.log.history ▹ entry_of Display c.args.line carries (Begin c.args.time) Done)
+    c.new.ensures
     ∙ ap (λ (h : List Entry). begun h c.args.line c.args.time) c.begin_all-count.ensures.history in
-    let noted = c.begin-ratios.ensures inside.setup inside.log.history c.args.line c.args.time (ratios-kept inside.setup inside.log.history _ _ _ _ c.self.invariant.0) in
+    let noted = c.begin-ratios.ensures inside.setup inside.log.history c.args.line c.args.time
+    (ratios-kept inside.setup inside.log.history _ _ _ _ c.self.invariant.0) in
     ap (λ (r : Ratios). r.begun) noted ∙ sym (ap (ratio inside.setup) new)

@@ -41,7 +41,9 @@ invariant_of-self c =
     let is = replied ∙ sym (reply-close setup h (Session c.args.s) c.args.calls c.args.why) in
     let shut : closes reply ≡ true = ap closes replied ∙ closes-close c.args.why in
     let stands = standing m (Session c.args.s) c.args.calls (Close c.args.why) call inside.clock inside.fences inside.view_ends states c.self.invariant.0 in
-    let ends = ends-after m (Session c.args.s) c.args.line c.args.calls (Close c.args.why) reply call is refl refl (λ opened. let wrong : true ≡ false = sym shut ∙ opened in absurd (cc)) c.self.invariant.0.legal states inside.viewports.items c.enter.new.ends.items inside.ties c.enter.new.ties stands at c.self.invariant.2 c.self.invariant.3 in
+    let ends = ends-after m (Session c.args.s) c.args.line c.args.calls (Close c.args.why) reply call is refl refl
+    (λ opened. let wrong : true ≡ false = sym shut ∙ opened in absurd (cc)) c.self.invariant.0.legal states inside.viewports.items c.enter.new.ends.items
+    inside.ties c.enter.new.ties stands at c.self.invariant.2 c.self.invariant.3 in
     let placed = placed-of setup (Close c.args.why) (Session c.args.s) _ c.self.invariant.0.count call.may.acts in
     let closed : SessionState = record at.state { closed = true } in
     let sessions : c.enter.new.sessions.items ≡ slice_set states (c.args.s.0 - 1) closed =
@@ -49,7 +51,15 @@ invariant_of-self c =
     ∙ ap (slice_set states (c.args.s.0 - 1)) (ap (λ (r : Reply). after_reply (Close c.args.why) r at.state) replied ∙ heard-close c.args.why at.state) in
     let kept = kept-one m c.args.s c.args.line c.args.calls (Close c.args.why) reply call is refl refl refl _ _ _ _ _ _ _ _ _
     at.state closed at.of_state refl c.self.invariant.0 c.self.invariant.1 (unchanged _ _ _ _ (λ sessions g f. refl) (λ p. refl))
-    (λ kept. rw (seen-closed setup h (entry_of (Session c.args.s) c.args.line c.args.calls (Close c.args.why) reply) c.args.s (plain-close _ _ _ _ _) shut (is-session c.args.s))
+    (λ kept. rw (seen-closed setup h (entry_of (Session c.args.s) c.args.line c.args.calls (Close c.args.why) reply) c.args.s (plain-close _ _ _ _ _) shut
+    (is-session c.args.s))
     (kept-closed setup _ _ kept))
     refl (told-too inside.watchers ends.1) (record { history = did.history; posts = did.posts; room = did.room; post_room = did.post_room }) in
-    rw sessions (kept.0, kept.1, rw did.history ends.0, rw did.history ends.2, rw did.history (watched-after m (Session c.args.s) c.args.line c.args.calls (Close c.args.why) reply call is refl refl refl c.self.invariant.0.legal inside.watchers c.self.invariant.4))
+    rw sessions (
+      kept.0,
+      kept.1,
+      rw did.history ends.0,
+      rw did.history ends.2,
+      rw did.history (watched-after m (Session c.args.s) c.args.line c.args.calls (Close c.args.why) reply call is refl refl refl c.self.invariant.0.legal
+          inside.watchers c.self.invariant.4),
+    )

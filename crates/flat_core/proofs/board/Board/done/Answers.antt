@@ -32,10 +32,18 @@ done_all-count-requires-clause-tells c =
     let may = rw (← c.self.view_is) at c.requires in
     let inside = c.self.inside in
     let m : Machine = record { setup = inside.setup; shares = inside.shares; history = inside.log.history } in
-    let legal : Legal inside.setup (finished inside.log.history c.args.line) = (c.self.invariant.0.legal, legal-entered m Display c.args.line [] Finish Done may refl) in
+    let legal : Legal inside.setup (finished inside.log.history c.args.line) =
+    (c.self.invariant.0.legal, legal-entered m Display c.args.line [] Finish Done may refl) in
     let tied = c.finish-heard.ensures.tied inside.log.history c.args.line legal c.self.invariant.3 in
     let noted = c.finish-ratios.ensures inside.setup inside.log.history c.args.line (ratios-kept inside.setup inside.log.history _ _ _ _ c.self.invariant.0) in
-    record { same = refl; shows = port-kept inside.setup (finished inside.log.history c.args.line) c.finish-ratios.result c.port_of.result noted c.port_of.ensures; legal = legal; tied = tied; viewed = c.self.invariant.0.viewed }
+    record {
+      same = refl;
+      shows = port-kept inside.setup (finished inside.log.history c.args.line) c.finish-ratios.result c.port_of.result noted
+          c.port_of.ensures;
+      legal = legal;
+      tied = tied;
+      viewed = c.self.invariant.0.viewed;
+    }
 
 pub done_all-count-requires-clause-within : goal.done_all-count-requires-clause-within
 done_all-count-requires-clause-within c = (few-declared c.self.inside.setup c.self.invariant.1.limits).0
@@ -54,16 +62,19 @@ done_all-count-requires-clause-others c s declared unheard =
     let few : setup.sessions ≤ SESSIONS_MAX = (few-declared setup c.self.invariant.1.limits).0 in
     let told : ratio_told setup (finished h c.args.line) ≡ c.finish-ratios.result.finished = sym (ap (λ (r : Ratios). r.finished) noted) in
     let told_before : inside.clock.ratios.finished ≡ ratio_told setup h = ap (λ (r : Ratios). r.finished) kept in
-    c.finish-heard.ensures.others h c.args.line s legal c.self.invariant.3 (λ same. told ∙ same-number _ _ same ∙ told_before) here.0 (omega (arith, here.1, few)) unheard
+    c.finish-heard.ensures.others h c.args.line s legal c.self.invariant.3 (λ same. told ∙ same-number _ _ same ∙ told_before) here.0
+    (omega (arith, here.1, few)) unheard
 
 pub port_of-requires-clause-ratio : goal.port_of-requires-clause-ratio
 port_of-requires-clause-ratio c =
     let may = rw (← c.self.view_is) at c.requires in
     let inside = c.self.inside in
     let m : Machine = record { setup = inside.setup; shares = inside.shares; history = inside.log.history } in
-    let legal : Legal inside.setup (finished inside.log.history c.args.line) = (c.self.invariant.0.legal, legal-entered m Display c.args.line [] Finish Done may refl) in
+    let legal : Legal inside.setup (finished inside.log.history c.args.line) =
+    (c.self.invariant.0.legal, legal-entered m Display c.args.line [] Finish Done may refl) in
     let noted = c.finish-ratios.ensures inside.setup inside.log.history c.args.line (ratios-kept inside.setup inside.log.history _ _ _ _ c.self.invariant.0) in
-    finished-least inside.setup (finished inside.log.history c.args.line) c.finish-ratios.result noted legal (has-display inside.setup c.self.invariant.1.limits)
+    finished-least inside.setup (finished inside.log.history c.args.line) c.finish-ratios.result noted legal
+    (has-display inside.setup c.self.invariant.1.limits)
 
 pub port_of-requires-clause-width : goal.port_of-requires-clause-width
 port_of-requires-clause-width c = (has-display c.self.inside.setup c.self.invariant.1.limits).width
@@ -109,5 +120,6 @@ invariant_of-self c =
     let now = history ∙ ap (λ (h : List Entry). h ▹ finish_entry c.args.line) all.history in
     let inside = c.self.inside in
     let m : Machine = record { setup = inside.setup; shares = inside.shares; history = inside.log.history } in
-    let tied = c.finish-heard.ensures.tied inside.log.history c.args.line (c.self.invariant.0.legal, legal-entered m Display c.args.line [] Finish Done may refl) c.self.invariant.3 in
+    let tied = c.finish-heard.ensures.tied inside.log.history c.args.line
+    (c.self.invariant.0.legal, legal-entered m Display c.args.line [] Finish Done may refl) c.self.invariant.3 in
     rw (log.sessions, log.ends.0, log.ends.1) (kept.0, kept.1, rw now all.ends, rw now tied, rw now all.watched)

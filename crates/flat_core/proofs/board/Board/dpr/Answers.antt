@@ -32,7 +32,17 @@ invariant_of-self c =
     let m : Machine = record { setup = inside.setup; shares = inside.shares; history = inside.log.history } in
     let history : c.enter.new.log.history ≡ (inside.log.history ▹ entry_of Display c.args.line [] (Dpr c.args.ratio) Done) =
     log.history ∙ rw c.new.ensures refl in
-    let ends = ends-after m Display c.args.line [] (Dpr c.args.ratio) Done call refl refl refl (λ opened. refl) c.self.invariant.0.legal inside.sessions.items inside.viewports.items c.enter.new.ends.items inside.ties c.enter.new.ties tt log.ends c.self.invariant.2 c.self.invariant.3 in
-    let kept = kept-quiet m Display c.args.line [] (Dpr c.args.ratio) Done call refl (record { no_begin = refl; no_finish = refl; no_poll = refl; no_view = refl; none = λ made. refl }) refl refl _ _ _ _ _ _ _ _ _ _ refl c.self.invariant.0 c.self.invariant.1
-    (unchanged _ _ _ _ (λ sessions g f. refl) (λ p. refl)) log.sessions (told-too inside.watchers ends.1) (record { history = history; posts = log.posts; room = log.room; post_room = log.post_room }) in
-    (rw c.set-self-inside.ensures kept.0, kept.1, rw history ends.0, rw history ends.2, rw history (watched-after m Display c.args.line [] (Dpr c.args.ratio) Done call refl refl refl refl c.self.invariant.0.legal inside.watchers c.self.invariant.4))
+    let ends = ends-after m Display c.args.line [] (Dpr c.args.ratio) Done call refl refl refl (λ opened. refl) c.self.invariant.0.legal inside.sessions.items
+    inside.viewports.items c.enter.new.ends.items inside.ties c.enter.new.ties tt log.ends c.self.invariant.2 c.self.invariant.3 in
+    let kept = kept-quiet m Display c.args.line [] (Dpr c.args.ratio) Done call refl
+    (record { no_begin = refl; no_finish = refl; no_poll = refl; no_view = refl; none = λ made. refl }) refl refl _ _ _ _ _ _ _ _ _ _ refl
+    c.self.invariant.0 c.self.invariant.1
+    (unchanged _ _ _ _ (λ sessions g f. refl) (λ p. refl)) log.sessions (told-too inside.watchers ends.1)
+    (record { history = history; posts = log.posts; room = log.room; post_room = log.post_room }) in (
+      rw c.set-self-inside.ensures kept.0,
+      kept.1,
+      rw history ends.0,
+      rw history ends.2,
+      rw history (watched-after m Display c.args.line [] (Dpr c.args.ratio) Done call refl refl refl refl c.self.invariant.0.legal inside.watchers
+          c.self.invariant.4),
+    )

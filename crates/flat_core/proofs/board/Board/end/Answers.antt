@@ -31,8 +31,17 @@ invariant_of-self c =
     let who : Actor = Session c.args.s in
     let states = inside.sessions.items in
     let stands = standing m who c.args.calls (End c.args.refused) call inside.clock inside.fences inside.view_ends states c.self.invariant.0 in
-    let ends = ends-after m who c.args.line c.args.calls (End c.args.refused) Done call refl refl refl (λ opened. refl) c.self.invariant.0.legal states inside.viewports.items c.enter.new.ends.items inside.ties c.enter.new.ties stands did.ends c.self.invariant.2 c.self.invariant.3 in
-    let kept = kept-quiet m who c.args.line c.args.calls (End c.args.refused) Done call refl (plain-end _ _ _ _) refl refl _ _ _ _ _ _ _ _ _ _ refl c.self.invariant.0 c.self.invariant.1
-    (unchanged _ _ _ _ (λ sessions g f. refl) (λ p. refl)) (did.sessions ∙ entered-none who c.args.line c.args.calls (End c.args.refused) Done states (λ state. refl)) (told-too inside.watchers ends.1)
-    (record { history = did.history; posts = did.posts; room = did.room; post_room = did.post_room }) in
-    (kept.0, kept.1, rw did.history ends.0, rw did.history ends.2, rw did.history (watched-after m who c.args.line c.args.calls (End c.args.refused) Done call refl refl refl refl c.self.invariant.0.legal inside.watchers c.self.invariant.4))
+    let ends = ends-after m who c.args.line c.args.calls (End c.args.refused) Done call refl refl refl (λ opened. refl) c.self.invariant.0.legal states
+    inside.viewports.items c.enter.new.ends.items inside.ties c.enter.new.ties stands did.ends c.self.invariant.2 c.self.invariant.3 in
+    let kept = kept-quiet m who c.args.line c.args.calls (End c.args.refused) Done call refl (plain-end _ _ _ _) refl refl _ _ _ _ _ _ _ _ _ _ refl
+    c.self.invariant.0 c.self.invariant.1
+    (unchanged _ _ _ _ (λ sessions g f. refl) (λ p. refl))
+    (did.sessions ∙ entered-none who c.args.line c.args.calls (End c.args.refused) Done states (λ state. refl)) (told-too inside.watchers ends.1)
+    (record { history = did.history; posts = did.posts; room = did.room; post_room = did.post_room }) in (
+      kept.0,
+      kept.1,
+      rw did.history ends.0,
+      rw did.history ends.2,
+      rw did.history (watched-after m who c.args.line c.args.calls (End c.args.refused) Done call refl refl refl refl c.self.invariant.0.legal inside.watchers
+          c.self.invariant.4),
+    )

@@ -42,7 +42,8 @@ invariant_of-self c =
     let inside = c.self.inside in
     let log = c.ask.ensures in (
       rw log.history c.self.invariant.0,
-      room-more inside.setup inside.shares inside.log c.ask.new.log inside.owed _ _ c.self.invariant.1 log.history log.posts log.room log.post_room (omega (arith, c.in-Err.ensures.same_due)),
+      room-more inside.setup inside.shares inside.log c.ask.new.log inside.owed _ _ c.self.invariant.1 log.history log.posts log.room log.post_room
+          (omega (arith, c.in-Err.ensures.same_due)),
       rw log.history c.self.invariant.2,
       rw log.history c.self.invariant.3,
       rw log.history (c.in-Err.ensures.watched inside.setup inside.log.history c.self.invariant.4),
@@ -77,27 +78,42 @@ invariant_of-self-2 c =
     let did = c.enter.ensures in
     let at = did.ends in
     let reply = c.in-Ok.reply in
-    let telling : IsTelling inside.setup c.port_of.result inside.ties inside.view_ends inside.setup h = record { same = refl; shows = port-kept inside.setup h inside.clock.ratios c.port_of.result (ratios-kept inside.setup h _ _ _ _ c.self.invariant.0) c.port_of.ensures; legal = c.self.invariant.0.legal; tied = c.self.invariant.3; viewed = c.self.invariant.0.viewed } in
+    let telling : IsTelling inside.setup c.port_of.result inside.ties inside.view_ends inside.setup h =
+    record {
+      same = refl;
+      shows = port-kept inside.setup h inside.clock.ratios c.port_of.result (ratios-kept inside.setup h _ _ _ _ c.self.invariant.0)
+          c.port_of.ensures;
+      legal = c.self.invariant.0.legal;
+      tied = c.self.invariant.3;
+      viewed = c.self.invariant.0.viewed;
+    } in
     let asked = c.in-Ok.ensures.asked inside.setup h telling in
     let declared = declared-of inside.setup (Get c.args.get) c.args.s call.may.acts in
     let known = asked-known inside.setup h c.self.invariant.0.legal c.args.s c.args.calls c.args.get call.may c.args.p means in
     let replied : reply ≡ reply_to inside.setup h (Session c.args.s) c.args.calls (Get c.args.get) =
     asked-replied inside.setup h c.args.s c.args.calls c.args.get c.args.p known means _ _ reply asked c.self.invariant.4 in
     let stands = standing m (Session c.args.s) c.args.calls (Get c.args.get) call inside.clock inside.fences inside.view_ends states c.self.invariant.0 in
-    let ends = ends-after m (Session c.args.s) c.args.line c.args.calls (Get c.args.get) reply call replied refl refl (λ opened. refl) c.self.invariant.0.legal states inside.viewports.items c.enter.new.ends.items inside.ties c.enter.new.ties stands at c.self.invariant.2 c.self.invariant.3 in
+    let ends = ends-after m (Session c.args.s) c.args.line c.args.calls (Get c.args.get) reply call replied refl refl (λ opened. refl) c.self.invariant.0.legal
+    states inside.viewports.items c.enter.new.ends.items inside.ties c.enter.new.ties stands at c.self.invariant.2 c.self.invariant.3 in
     let placed = placed-of inside.setup (Get c.args.get) (Session c.args.s) _ c.self.invariant.0.count call.may.acts in
     let sessions : c.enter.new.sessions.items ≡ slice_set states (c.args.s.0 - 1) (after_get reply at.state) =
     did.sessions ∙ entered-set c.args.s c.args.line c.args.calls (Get c.args.get) reply states at.state placed at.of_state
     ∙ ap (λ (x : SessionState). slice_set states (c.args.s.0 - 1) x) (heard-get c.args.get reply at.state) in
     let e : Entry = entry_of (Session c.args.s) c.args.line c.args.calls (Get c.args.get) reply in
-    let legal : Legal inside.setup (h ▹ e) = (c.self.invariant.0.legal, legal-entered m (Session c.args.s) c.args.line c.args.calls (Get c.args.get) reply call replied) in
+    let legal : Legal inside.setup (h ▹ e) = (
+      c.self.invariant.0.legal,
+      legal-entered m (Session c.args.s) c.args.line c.args.calls (Get c.args.get) reply call replied,
+    ) in
     let watched = watched-asked inside.setup h e legal c.args.s refl c.args.get refl c.args.p means declared known _ _ asked c.self.invariant.4 in
     let history : c.enter.new.log.history ≡ (h ▹ e) = did.history ∙ rw c.ask.ensures.history refl in
-    let kept = kept-got m c.args.s c.args.line c.args.calls c.args.get call reply replied inside.clock inside.fences inside.view_ends states at.state at.of_state c.self.invariant.0 in
+    let kept = kept-got m c.args.s c.args.line c.args.calls c.args.get call reply replied inside.clock inside.fences inside.view_ends states at.state
+    at.of_state c.self.invariant.0 in
     rw (sessions, c.number_if.ensures, c.is_held.ensures) (
       rw history kept.0,
-      room-got m c.args.s c.args.line c.args.calls c.args.get call reply replied inside.clock inside.fences inside.view_ends states c.self.invariant.0 inside.log c.ask.new.log c.enter.new.log inside.owed _ _ refl c.self.invariant.1
-          c.ask.ensures.history c.ask.ensures.posts c.ask.ensures.room c.in-Ok.ensures.reserved did.history did.posts did.room did.post_room (omega (arith, kept.1, ends.1, c.in-Ok.ensures.due)),
+      room-got m c.args.s c.args.line c.args.calls c.args.get call reply replied inside.clock inside.fences inside.view_ends states c.self.invariant.0
+          inside.log c.ask.new.log c.enter.new.log inside.owed _ _ refl c.self.invariant.1
+          c.ask.ensures.history c.ask.ensures.posts c.ask.ensures.room c.in-Ok.ensures.reserved did.history did.posts did.room did.post_room
+          (omega (arith, kept.1, ends.1, c.in-Ok.ensures.due)),
       rw history ends.0,
       rw history ends.2,
       rw history watched,
@@ -109,7 +125,15 @@ returns-clause-reply c =
     let means = rw (← c.self.view_is) at c.requires.meant in
     let inside = c.self.inside in
     let h = inside.log.history in
-    let telling : IsTelling inside.setup c.port_of.result inside.ties inside.view_ends inside.setup h = record { same = refl; shows = port-kept inside.setup h inside.clock.ratios c.port_of.result (ratios-kept inside.setup h _ _ _ _ c.self.invariant.0) c.port_of.ensures; legal = c.self.invariant.0.legal; tied = c.self.invariant.3; viewed = c.self.invariant.0.viewed } in
+    let telling : IsTelling inside.setup c.port_of.result inside.ties inside.view_ends inside.setup h =
+    record {
+      same = refl;
+      shows = port-kept inside.setup h inside.clock.ratios c.port_of.result (ratios-kept inside.setup h _ _ _ _ c.self.invariant.0)
+          c.port_of.ensures;
+      legal = c.self.invariant.0.legal;
+      tied = c.self.invariant.3;
+      viewed = c.self.invariant.0.viewed;
+    } in
     let asked = c.in-Ok.ensures.asked inside.setup h telling in
     let declared = declared-of inside.setup (Get c.args.get) c.args.s call.may.acts in
     let known = asked-known inside.setup h c.self.invariant.0.legal c.args.s c.args.calls c.args.get call.may c.args.p means in
@@ -120,7 +144,8 @@ pub port_of-requires-clause-ratio : goal.port_of-requires-clause-ratio
 port_of-requires-clause-ratio c =
     let stands = c.self.invariant.0 in
     let setup = c.self.inside.setup in
-    finished-least setup c.self.inside.log.history c.self.inside.clock.ratios (ratios-kept setup c.self.inside.log.history _ _ _ _ stands) stands.legal (has-display setup c.self.invariant.1.limits)
+    finished-least setup c.self.inside.log.history c.self.inside.clock.ratios (ratios-kept setup c.self.inside.log.history _ _ _ _ stands) stands.legal
+    (has-display setup c.self.invariant.1.limits)
 
 pub port_of-requires-clause-width : goal.port_of-requires-clause-width
 port_of-requires-clause-width c = (has-display c.self.inside.setup c.self.invariant.1.limits).width

@@ -15,7 +15,8 @@ pub returns-clause-neighbours : goal.returns-clause-neighbours
 returns-clause-neighbours c =
     let inside = c.self.inside in
     let P : Machine → Type 0 = λ m. (s : SessionNo) → IsDecidedByGlimpses m.setup s m.history in
-    subst P c.self.view_is (λ s other legal same. c.glimpses_decide_outcomes.ensures.decided inside.setup inside.log.history other c.self.invariant.0.legal legal s same)
+    subst P c.self.view_is (λ s other legal same. c.glimpses_decide_outcomes.ensures.decided inside.setup inside.log.history other c.self.invariant.0.legal
+    legal s same)
 
 pub returns-clause-others : goal.returns-clause-others
 returns-clause-others c =

@@ -33,8 +33,17 @@ invariant_of-self c =
     let m : Machine = record { setup = inside.setup; shares = inside.shares; history = inside.log.history } in
     let states = inside.sessions.items in
     let stands = standing m c.args.who c.args.calls (Signal c.args.f) call inside.clock inside.fences inside.view_ends states c.self.invariant.0 in
-    let ends = ends-after m c.args.who c.args.line c.args.calls (Signal c.args.f) Done call refl refl refl (λ opened. refl) c.self.invariant.0.legal states inside.viewports.items c.enter.new.ends.items inside.ties c.enter.new.ties stands did.ends c.self.invariant.2 c.self.invariant.3 in
-    let kept = kept-quiet m c.args.who c.args.line c.args.calls (Signal c.args.f) Done call refl (plain-signal _ _ _ _) refl refl _ _ _ _ _ _ _ _ _ _ refl c.self.invariant.0 c.self.invariant.1
-    (signalled _ _ _ _ _ c.args.f c.signal.ensures.size c.signal.ensures.members) (did.sessions ∙ entered-none c.args.who c.args.line c.args.calls (Signal c.args.f) Done states (λ state. refl)) (told-too inside.watchers ends.1)
-    (record { history = did.history; posts = did.posts; room = did.room; post_room = did.post_room }) in
-    (kept.0, kept.1, rw did.history ends.0, rw did.history ends.2, rw did.history (watched-after m c.args.who c.args.line c.args.calls (Signal c.args.f) Done call refl refl refl refl c.self.invariant.0.legal inside.watchers c.self.invariant.4))
+    let ends = ends-after m c.args.who c.args.line c.args.calls (Signal c.args.f) Done call refl refl refl (λ opened. refl) c.self.invariant.0.legal states
+    inside.viewports.items c.enter.new.ends.items inside.ties c.enter.new.ties stands did.ends c.self.invariant.2 c.self.invariant.3 in
+    let kept = kept-quiet m c.args.who c.args.line c.args.calls (Signal c.args.f) Done call refl (plain-signal _ _ _ _) refl refl _ _ _ _ _ _ _ _ _ _ refl
+    c.self.invariant.0 c.self.invariant.1
+    (signalled _ _ _ _ _ c.args.f c.signal.ensures.size c.signal.ensures.members)
+    (did.sessions ∙ entered-none c.args.who c.args.line c.args.calls (Signal c.args.f) Done states (λ state. refl)) (told-too inside.watchers ends.1)
+    (record { history = did.history; posts = did.posts; room = did.room; post_room = did.post_room }) in (
+      kept.0,
+      kept.1,
+      rw did.history ends.0,
+      rw did.history ends.2,
+      rw did.history (watched-after m c.args.who c.args.line c.args.calls (Signal c.args.f) Done call refl refl refl refl c.self.invariant.0.legal
+          inside.watchers c.self.invariant.4),
+    )

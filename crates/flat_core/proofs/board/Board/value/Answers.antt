@@ -10,13 +10,15 @@ use Rattle.flat_core.proofs.board.Board.value.Goals as goal
 pub returns-in-Session : goal.returns-in-Session
 returns-in-Session c =
     let acts = rw (← c.self.view_is, c.in-Session.is) at c.requires.acts in
-    let kept = kept-session _ _ _ _ _ _ c.in-Session.s c.index-in-Session.result.now c.self.invariant.0 (looks-declared c.self.inside.setup c.args.c c.in-Session.s acts) c.index-in-Session.ensures in
+    let kept = kept-session _ _ _ _ _ _ c.in-Session.s c.index-in-Session.result.now c.self.invariant.0
+    (looks-declared c.self.inside.setup c.args.c c.in-Session.s acts) c.index-in-Session.ensures in
     rw (← c.self.view_is, c.in-Credits.is, c.in-Session.is) (c.credits.ensures ∙ credits-kept _ _ _ kept (seen-count c.self.inside.setup _ _))
 
 pub returns-in-Session-who : goal.returns-in-Session-who
 returns-in-Session-who c =
     let acts = rw (← c.self.view_is, c.in-Session-who.is) at c.requires.acts in
-    let kept = kept-session _ _ _ _ _ _ c.in-Session-who.s c.index-in-Session-who.result.now c.self.invariant.0 (looks-declared c.self.inside.setup c.args.c c.in-Session-who.s acts) c.index-in-Session-who.ensures in
+    let kept = kept-session _ _ _ _ _ _ c.in-Session-who.s c.index-in-Session-who.result.now c.self.invariant.0
+    (looks-declared c.self.inside.setup c.args.c c.in-Session-who.s acts) c.index-in-Session-who.ensures in
     rw (← c.self.view_is, c.in-Taken.is, c.in-Session-who.is) (c.taken.ensures ∙ taken-kept _ _ _ kept (seen-count c.self.inside.setup _ _))
 
 pub returns-in-Session-who-2 : goal.returns-in-Session-who-2
@@ -30,5 +32,7 @@ returns-in-Session-who-2 c =
     let below : s.0 - 1 < length all = omega (arith, here.0, here.1, c.self.invariant.4.sessions) in
     let own : KeptGets = slice_index_or all (s.0 - 1) no_gets in
     let is : own ≡ slice_index_or all (s.0 - 1) own = get_or_default all (s.0 - 1) no_gets own below in
-    let counted : own.answers ≡ answers inside.setup s inside.log.history = at-session (λ t one. one.answers ≡ answers inside.setup t inside.log.history) all s own c.self.invariant.4.answered here.0 (omega (arith, here.1, c.self.invariant.4.sessions)) is in
+    let counted : own.answers ≡ answers inside.setup s inside.log.history =
+    at-session (λ t one. one.answers ≡ answers inside.setup t inside.log.history) all s own c.self.invariant.4.answered here.0
+    (omega (arith, here.1, c.self.invariant.4.sessions)) is in
     rw (← c.self.view_is, c.in-Answers.is, c.in-Session-who-2.is) (c.answers.ensures own is ∙ counted)

@@ -42,9 +42,11 @@ invariant_of-self c =
     let count : length ends ≡ inside.setup.sessions = c.self.invariant.2.count in
     let below : c.args.s.0 - 1 < length ends = omega (arith, here.0, here.1, count) in
     let log = c.make_room.ensures in
-    let same = ends-same inside.setup inside.log.history ends (c.args.s.0 - 1) c.index_mut-ends.result.now c.make_room.new.ends c.index_mut-ends.ensures.value below log.live log.out c.self.invariant.2 in (
+    let same = ends-same inside.setup inside.log.history ends (c.args.s.0 - 1) c.index_mut-ends.result.now c.make_room.new.ends c.index_mut-ends.ensures.value
+    below log.live log.out c.self.invariant.2 in (
       rw log.history c.self.invariant.0,
-      room-more inside.setup inside.shares inside.log c.make_room.new.log inside.owed _ _ c.self.invariant.1 log.history log.posts log.room log.post_room (omega (arith, same.1, c.make_room.ensures.told)),
+      room-more inside.setup inside.shares inside.log c.make_room.new.log inside.owed _ _ c.self.invariant.1 log.history log.posts log.room log.post_room
+          (omega (arith, same.1, c.make_room.ensures.told)),
       rw log.history same.0,
       rw log.history c.self.invariant.3,
       rw log.history (c.make_room.ensures.watched inside.setup inside.log.history c.self.invariant.4),
@@ -63,14 +65,20 @@ use_ends-is_held-requires-clause-last c =
 pub join-told-requires-clause-some : goal.join-told-requires-clause-some
 join-told-requires-clause-some c opened =
     let inside = c.self.inside in
-    let known = shut-known inside.setup inside.log.history inside.clock inside.fences inside.view_ends inside.sessions.items c.at.result.now.view c.self.invariant.0 in
-    (declared-some c.at.result.now.view.0 inside.setup.sessions (known.0 (ap (λ (xs : List SessionState). is_shut xs c.at.result.now.view) (sym c.as_slice.ensures.value) ∙ sym c.is_shut-is_shut.ensures ∙ opened)).0).0
+    let known = shut-known inside.setup inside.log.history inside.clock inside.fences inside.view_ends inside.sessions.items c.at.result.now.view
+    c.self.invariant.0 in
+    (declared-some c.at.result.now.view.0 inside.setup.sessions
+    (known.0 (ap (λ (xs : List SessionState). is_shut xs c.at.result.now.view) (sym c.as_slice.ensures.value) ∙ sym c.is_shut-is_shut.ensures
+    ∙ opened)).0).0
 
 pub join-told-requires-clause-within : goal.join-told-requires-clause-within
 join-told-requires-clause-within c opened =
     let inside = c.self.inside in
-    let known = shut-known inside.setup inside.log.history inside.clock inside.fences inside.view_ends inside.sessions.items c.at.result.now.view c.self.invariant.0 in
-    let here = declared-some c.at.result.now.view.0 inside.setup.sessions (known.0 (ap (λ (xs : List SessionState). is_shut xs c.at.result.now.view) (sym c.as_slice.ensures.value) ∙ sym c.is_shut-is_shut.ensures ∙ opened)).0 in
+    let known = shut-known inside.setup inside.log.history inside.clock inside.fences inside.view_ends inside.sessions.items c.at.result.now.view
+    c.self.invariant.0 in
+    let here = declared-some c.at.result.now.view.0 inside.setup.sessions
+    (known.0 (ap (λ (xs : List SessionState). is_shut xs c.at.result.now.view) (sym c.as_slice.ensures.value) ∙ sym c.is_shut-is_shut.ensures
+    ∙ opened)).0 in
     omega (arith, here.1, (c.make_room.ensures.watched inside.setup inside.log.history c.self.invariant.4).sessions)
 
 pub join-told-requires-clause-known : goal.join-told-requires-clause-known
@@ -86,7 +94,8 @@ join-told-requires-clause-place c =
 pub join-told-requires-clause-few : goal.join-told-requires-clause-few
 join-told-requires-clause-few c =
     let call = rw (← c.self.view_is) at c.requires in
-    few-all _ _ _ (c.make_room.ensures.watched c.self.inside.setup c.self.inside.log.history c.self.invariant.4) ((short-history _ _ _ _ call c.self.invariant.0.legal _ _ _ refl c.self.invariant.1))
+    few-all _ _ _ (c.make_room.ensures.watched c.self.inside.setup c.self.inside.log.history c.self.invariant.4)
+    ((short-history _ _ _ _ call c.self.invariant.0.legal _ _ _ refl c.self.invariant.1))
 
 pub overflow_add-self : goal.overflow_add-self
 overflow_add-self c =
@@ -111,25 +120,36 @@ invariant_of-self-2 c =
     let count : length ends ≡ inside.setup.sessions = c.self.invariant.2.count in
     let below : c.args.s.0 - 1 < length ends = omega (arith, here.0, here.1, count) in
     let took = c.make_room.ensures in
-    let same = ends-same inside.setup h ends place c.index_mut-ends.result.now c.make_room.new.ends c.index_mut-ends.ensures.value below took.live took.out c.self.invariant.2 in
+    let same = ends-same inside.setup h ends place c.index_mut-ends.result.now c.make_room.new.ends c.index_mut-ends.ensures.value below took.live took.out
+    c.self.invariant.2 in
     let roomy : List Viewports = slice_set ends place c.make_room.new.ends in
     let m : Machine = record { setup = inside.setup; shares = inside.shares; history = h } in
     let held = c.use_ends-is_held.result in
     let state = c.index_mut-state.result.now in
     let did = c.use_ends-is_held.ensures in
-    let is : held ≡ has_token inside.setup c.args.p h = held-told m c.args.s c.args.line c.args.calls c.args.p c.args.props call roomy c.index_mut-ends-2.result.now c.index_mut-ends-2.ensures.value same.0 held did.held in
-    let used_by = subst (λ (calls : List Call). IsUsed c.args.p calls state.account.presents held c.index_mut-ends-2.result.now c.use_ends-is_held.new.ends) c.as_slice-2.ensures did.used in
-    let ties = subst (λ (calls : List Call). TiesUsed c.args.s calls c.args.p c.args.props held state c.index_mut-ends-2.result.now inside.ties c.use_ends-is_held.new.ties) c.as_slice-2.ensures did.ties in
+    let is : held ≡ has_token inside.setup c.args.p h = held-told m c.args.s c.args.line c.args.calls c.args.p c.args.props call roomy
+    c.index_mut-ends-2.result.now c.index_mut-ends-2.ensures.value same.0 held did.held in
+    let used_by = subst (λ (calls : List Call). IsUsed c.args.p calls state.account.presents held c.index_mut-ends-2.result.now c.use_ends-is_held.new.ends)
+    c.as_slice-2.ensures did.used in
+    let ties = subst (λ (calls : List Call). TiesUsed c.args.s calls c.args.p c.args.props held state c.index_mut-ends-2.result.now inside.ties
+    c.use_ends-is_held.new.ties) c.as_slice-2.ensures did.ties in
     let e : Entry = entry_of (Session c.args.s) c.args.line c.args.calls (Viewport c.args.p c.args.props) (use_reply held) in
-    let used = kept-used m c.args.s c.args.line c.args.calls c.args.p c.args.props call held is inside.clock inside.fences inside.view_ends inside.sessions.items roomy state c.index_mut-ends-2.result.now c.use_ends-is_held.new.ends
-    c.index_mut-state.ensures.value c.index_mut-ends-2.ensures.value c.self.invariant.0 same.0 used_by inside.ties c.use_ends-is_held.new.ties c.self.invariant.3 ties in
-    let telling = telling-used m c.args.s c.args.line c.args.calls c.args.p c.args.props call held inside.clock inside.fences inside.view_ends inside.sessions.items c.port_of.result c.use_ends-is_held.new.ties c.port_of.ensures c.self.invariant.0 used.0 used.3 in
+    let used = kept-used m c.args.s c.args.line c.args.calls c.args.p c.args.props call held is inside.clock inside.fences inside.view_ends
+    inside.sessions.items roomy state c.index_mut-ends-2.result.now c.use_ends-is_held.new.ends
+    c.index_mut-state.ensures.value c.index_mut-ends-2.ensures.value c.self.invariant.0 same.0 used_by inside.ties c.use_ends-is_held.new.ties
+    c.self.invariant.3 ties in
+    let telling = telling-used m c.args.s c.args.line c.args.calls c.args.p c.args.props call held inside.clock inside.fences inside.view_ends
+    inside.sessions.items c.port_of.result c.use_ends-is_held.new.ties c.port_of.ensures c.self.invariant.0 used.0 used.3 in
     let room : HasRoom inside.setup inside.shares c.make_room.new.log inside.owed (all_due inside.sessions.items roomy c.make_room.new.watchers) =
-    room-more inside.setup inside.shares inside.log c.make_room.new.log inside.owed _ (all_due inside.sessions.items roomy c.make_room.new.watchers) c.self.invariant.1 took.history took.posts took.room took.post_room (omega (arith, same.1, c.make_room.ensures.told)) in
-    let asks = join-used m c.args.s c.args.line c.args.calls c.args.p c.args.props call held inside.clock inside.fences inside.view_ends inside.sessions.items c.at.result.now c.self.invariant.0 used.0 c.at.ensures in
-    let shut : c.is_shut-is_shut.result ≡ is_shut inside.sessions.items c.at.result.now.view = c.is_shut-is_shut.ensures ∙ ap (λ (xs : List SessionState). is_shut xs c.at.result.now.view) c.as_slice.ensures.value in
+    room-more inside.setup inside.shares inside.log c.make_room.new.log inside.owed _ (all_due inside.sessions.items roomy c.make_room.new.watchers)
+    c.self.invariant.1 took.history took.posts took.room took.post_room (omega (arith, same.1, c.make_room.ensures.told)) in
+    let asks = join-used m c.args.s c.args.line c.args.calls c.args.p c.args.props call held inside.clock inside.fences inside.view_ends inside.sessions.items
+    c.at.result.now c.self.invariant.0 used.0 c.at.ensures in
+    let shut : c.is_shut-is_shut.result ≡ is_shut inside.sessions.items c.at.result.now.view =
+    c.is_shut-is_shut.ensures ∙ ap (λ (xs : List SessionState). is_shut xs c.at.result.now.view) c.as_slice.ensures.value in
     let join : IsJoin inside.setup h e held c.at.result.now.view c.is_shut-is_shut.result c.args.p = rw shut asks in
-    let told = c.join-told.ensures.watched inside.setup h e join telling took.history (took.posts ∙ c.self.invariant.1.posts) (c.make_room.ensures.watched inside.setup h c.self.invariant.4) in
+    let told = c.join-told.ensures.watched inside.setup h e join telling took.history (took.posts ∙ c.self.invariant.1.posts)
+    (c.make_room.ensures.watched inside.setup h c.self.invariant.4) in
     let log = c.enter.ensures in
     let replied = c.use_reply-reply.ensures in
     let history : c.enter.new.self.history ≡ (h ▹ e) = log.history ∙ rw (c.join-told.ensures.history, took.history, replied) refl in
@@ -138,8 +158,10 @@ invariant_of-self-2 c =
     let dues = used.4 (due_told c.join-told.new.self) in
     rw (heard, c.number_if.ensures) (
       rw history used.1,
-      room-used m c.args.s c.args.line c.args.calls c.args.p c.args.props call held c.make_room.new.log c.enter.new.self inside.owed (all_due inside.sessions.items roomy c.make_room.new.watchers) _ c.join-told.result took.history room
-          (history ∙ rw took.history refl) (log.posts ∙ told.1) (omega (arith, ap length log.posts, c.join-told.ensures.count)) (omega (arith, log.room, c.join-told.ensures.room)) (omega (arith, log.post_room, c.join-told.ensures.post_room)) c.in-Ok.ensures.reserved
+      room-used m c.args.s c.args.line c.args.calls c.args.p c.args.props call held c.make_room.new.log c.enter.new.self inside.owed
+          (all_due inside.sessions.items roomy c.make_room.new.watchers) _ c.join-told.result took.history room
+          (history ∙ rw took.history refl) (log.posts ∙ told.1) (omega (arith, ap length log.posts, c.join-told.ensures.count))
+          (omega (arith, log.room, c.join-told.ensures.room)) (omega (arith, log.post_room, c.join-told.ensures.post_room)) c.in-Ok.ensures.reserved
           (omega (arith, dues, c.join-told.ensures.due)),
       rw history used.2,
       rw history used.3,
@@ -157,13 +179,15 @@ returns-clause-reply c =
     let count : length ends ≡ inside.setup.sessions = c.self.invariant.2.count in
     let below : c.args.s.0 - 1 < length ends = omega (arith, here.0, here.1, count) in
     let took = c.make_room.ensures in
-    let same = ends-same inside.setup h ends place c.index_mut-ends.result.now c.make_room.new.ends c.index_mut-ends.ensures.value below took.live took.out c.self.invariant.2 in
+    let same = ends-same inside.setup h ends place c.index_mut-ends.result.now c.make_room.new.ends c.index_mut-ends.ensures.value below took.live took.out
+    c.self.invariant.2 in
     let roomy : List Viewports = slice_set ends place c.make_room.new.ends in
     let m : Machine = record { setup = inside.setup; shares = inside.shares; history = h } in
     let held = c.use_ends-is_held.result in
     let state = c.index_mut-state.result.now in
     let did = c.use_ends-is_held.ensures in
-    let is : held ≡ has_token inside.setup c.args.p h = held-told m c.args.s c.args.line c.args.calls c.args.p c.args.props call roomy c.index_mut-ends-2.result.now c.index_mut-ends-2.ensures.value same.0 held did.held in
+    let is : held ≡ has_token inside.setup c.args.p h = held-told m c.args.s c.args.line c.args.calls c.args.p c.args.props call roomy
+    c.index_mut-ends-2.result.now c.index_mut-ends-2.ensures.value same.0 held did.held in
     let P : Machine → Type 0 = λ k. c.use_reply-reply.result ≡ reply_to k.setup k.history (Session c.args.s) c.args.calls (Viewport c.args.p c.args.props) in
     subst P c.self.view_is (c.use_reply-reply.ensures ∙ replied m c.args.s c.args.line c.args.calls c.args.p c.args.props call held is)
 
@@ -171,7 +195,8 @@ pub port_of-requires-clause-ratio : goal.port_of-requires-clause-ratio
 port_of-requires-clause-ratio c =
     let stands = c.self.invariant.0 in
     let setup = c.self.inside.setup in
-    finished-least setup c.self.inside.log.history c.self.inside.clock.ratios (ratios-kept setup c.self.inside.log.history _ _ _ _ stands) stands.legal (has-display setup c.self.invariant.1.limits)
+    finished-least setup c.self.inside.log.history c.self.inside.clock.ratios (ratios-kept setup c.self.inside.log.history _ _ _ _ stands) stands.legal
+    (has-display setup c.self.invariant.1.limits)
 
 pub port_of-requires-clause-width : goal.port_of-requires-clause-width
 port_of-requires-clause-width c = (has-display c.self.inside.setup c.self.invariant.1.limits).width

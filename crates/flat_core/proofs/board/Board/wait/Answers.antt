@@ -36,10 +36,19 @@ invariant_of-self c =
     let states = inside.sessions.items in
     let is : reply ≡ reply_to inside.setup inside.log.history c.args.who c.args.calls (Wait c.args.c) = rw (← asked, ← value) replied in
     let stands = standing m c.args.who c.args.calls (Wait c.args.c) call inside.clock inside.fences inside.view_ends states c.self.invariant.0 in
-    let ends = ends-after m c.args.who c.args.line c.args.calls (Wait c.args.c) reply call is refl refl (λ opened. refl) c.self.invariant.0.legal states inside.viewports.items c.enter.new.ends.items inside.ties c.enter.new.ties stands did.ends c.self.invariant.2 c.self.invariant.3 in
+    let ends = ends-after m c.args.who c.args.line c.args.calls (Wait c.args.c) reply call is refl refl (λ opened. refl) c.self.invariant.0.legal states
+    inside.viewports.items c.enter.new.ends.items inside.ties c.enter.new.ties stands did.ends c.self.invariant.2 c.self.invariant.3 in
     let kept = kept-quiet m c.args.who c.args.line c.args.calls (Wait c.args.c) reply call is (plain-wait _ _ _ _ _)
     (rw replied (closes-waited c.asked.result c.value-value.result)) refl _ _ _ _ _ _ _ _ _ _ refl c.self.invariant.0 c.self.invariant.1
     (unchanged _ _ _ _ (λ sessions g f. refl) (λ p. refl))
-    (did.sessions ∙ entered-none c.args.who c.args.line c.args.calls (Wait c.args.c) reply states (λ state. ap (λ (r : Reply). after_reply (Wait c.args.c) r state) replied ∙ heard-wait c.args.c c.asked.result c.value-value.result state)) (told-too inside.watchers ends.1)
-    (record { history = did.history; posts = did.posts; room = did.room; post_room = did.post_room }) in
-    (kept.0, kept.1, rw did.history ends.0, rw did.history ends.2, rw did.history (watched-after m c.args.who c.args.line c.args.calls (Wait c.args.c) reply call is refl refl refl c.self.invariant.0.legal inside.watchers c.self.invariant.4))
+    (did.sessions ∙ entered-none c.args.who c.args.line c.args.calls (Wait c.args.c) reply states
+    (λ state. ap (λ (r : Reply). after_reply (Wait c.args.c) r state) replied ∙ heard-wait c.args.c c.asked.result c.value-value.result state))
+    (told-too inside.watchers ends.1)
+    (record { history = did.history; posts = did.posts; room = did.room; post_room = did.post_room }) in (
+      kept.0,
+      kept.1,
+      rw did.history ends.0,
+      rw did.history ends.2,
+      rw did.history (watched-after m c.args.who c.args.line c.args.calls (Wait c.args.c) reply call is refl refl refl c.self.invariant.0.legal
+          inside.watchers c.self.invariant.4),
+    )

@@ -12,7 +12,8 @@ loop-place-preserved g c =
     let so_far = c.loop-place.invariant in
     let many : c.self.inside.displays ≡ c.args.self.now.displays = ap (λ v. v.displays) c.self.view_is in
     let step = c.show_to.ensures.shows in
-    let next = next_shown _ _ _ _ _ _ so_far.0 step.2 c.loop-place.place _ _ _ step.0 step.1 (omega (arith, c.loop-place-test.true, many, c.requires)) so_far.1 so_far.2 step.3 step.4 step.5 step.6 in
+    let next = next_shown _ _ _ _ _ _ so_far.0 step.2 c.loop-place.place _ _ _ step.0 step.1 (omega (arith, c.loop-place-test.true, many, c.requires)) so_far.1
+    so_far.2 step.3 step.4 step.5 step.6 in
     (so_far.0 ++ step.2, next.0, next.1, c.show_to.ensures.kinds ∙ so_far.3)
 
 -- src/set.rt:54:5

@@ -25,7 +25,11 @@ returns-then-has_too_many-clause-answered c = λ setup draft s.
     let g : graph.StandsFor c.self.inside.graph draft = rw (← c.self.view_is) at s.graph in
     let verdict = verdict_stands c.self.inside.graph draft (Good c.in-Ok-Good.nodes) g judged in
     let many_so : many c.args.args.now ≡ true = sym c.has_too_many.ensures ∙ c.if-has_too_many.true in
-    rw c.close-then-has_too_many.ensures.fault (not_closed, fences-refuse draft c.args.args.now verdict.no_reason many_so, c.close-then-has_too_many.ensures.closed)
+    rw c.close-then-has_too_many.ensures.fault (
+      not_closed,
+      fences-refuse draft c.args.args.now verdict.no_reason many_so,
+      c.close-then-has_too_many.ensures.closed,
+    )
 
 pub returns-in-Ok-clause-answered : goal.returns-in-Ok-clause-answered
 returns-in-Ok-clause-answered c = λ setup draft s.
@@ -35,11 +39,13 @@ returns-in-Ok-clause-answered c = λ setup draft s.
     let verdict = verdict_stands c.self.inside.graph draft (Good c.in-Ok-Good.nodes) g judged in
     let many_so : many c.args.args.now ≡ false = sym c.has_too_many.ensures ∙ c.if-has_too_many.false in
     let has : HasTree c.args.self.now.graph = subst (λ (state : DraftState). HasTree state.graph) c.self.view_is judged.0 in
-    let shown : tree draft ≡ Some (shown_tree draft.view c.args.self.now.graph c.args.self.now.contents) = tree-stands setup c.args.self.now.graph c.args.self.now.contents draft s.graph s.contents has verdict.no_reason in
+    let shown : tree draft ≡ Some (shown_tree draft.view c.args.self.now.graph c.args.self.now.contents) =
+    tree-stands setup c.args.self.now.graph c.args.self.now.contents draft s.graph s.contents has verdict.no_reason in
     record {
       still_open = not_closed;
       allowed = fences-allow draft c.args.args.now verdict.no_reason many_so;
-      shows = shown ∙ ap (λ (view : Option PairNo). Some (shown_tree view c.args.self.now.graph c.args.self.now.contents)) (sym s.view) ∙ ap Some (sym c.in-Ok.ensures.shown);
+      shows = shown ∙ ap (λ (view : Option PairNo). Some (shown_tree view c.args.self.now.graph c.args.self.now.contents)) (sym s.view)
+          ∙ ap Some (sym c.in-Ok.ensures.shown);
       swept = c.in-Ok.ensures.swept;
       rest = c.in-Ok.ensures.rest;
       stands = λ other_setup other stands. stands-swept other_setup c.args.self.now c.snapshot.new.self other c.in-Ok.ensures.swept c.in-Ok.ensures.rest stands;

@@ -5,23 +5,27 @@ use Rattle.flat_forms.proofs.DeclareLemmas.{fence_declares, one_longer, fences_f
 use Rattle.flat_forms.proofs.parser.Parser.fence.Goals as goal
 
 pub add_name-requires-clause-name : goal.add_name-requires-clause-name
-add_name-requires-clause-name c = let read = fence_declares c.args.self.now.text.script (pieces_left is_space c.args.words) (nat_lt c.len-number.result 4096) (c.in_ok-name.name.now, c.in_ok-name.decl) c.in_ok-name.ensures in read.fresh.name
+add_name-requires-clause-name c = let read = fence_declares c.args.self.now.text.script (pieces_left is_space c.args.words) (nat_lt c.len-number.result 4096)
+    (c.in_ok-name.name.now, c.in_ok-name.decl) c.in_ok-name.ensures in read.fresh.name
 
 pub returns-clause-kept : goal.returns-clause-kept
 returns-clause-kept c =
     let old = c.args.self.now.text.script in
     let had = c.requires.indexed in
-    let read = fence_declares c.args.self.now.text.script (pieces_left is_space c.args.words) (nat_lt c.len-number.result 4096) (c.in_ok-name.name.now, c.in_ok-name.decl) c.in_ok-name.ensures in
+    let read = fence_declares c.args.self.now.text.script (pieces_left is_space c.args.words) (nat_lt c.len-number.result 4096)
+    (c.in_ok-name.name.now, c.in_ok-name.decl) c.in_ok-name.ensures in
     record {
       indexed = record {
         cache = c.in_ok-add_name.ensures.cache;
         finds = λ w.
-            fences_found old _ c.in_ok-name.name.now c.in_ok-name.name.now w c.in_ok-name.decl c.len-number.result _ _ c.in_ok-add_name.ensures.list refl refl refl refl refl c.len-number.ensures read.fresh (c.in_ok-add_name.ensures.found w) (had.finds w);
+            fences_found old _ c.in_ok-name.name.now c.in_ok-name.name.now w c.in_ok-name.decl c.len-number.result _ _ c.in_ok-add_name.ensures.list refl refl
+            refl refl refl c.len-number.ensures read.fresh (c.in_ok-add_name.ensures.found w) (had.finds w);
         sessions = had.sessions;
         probes = had.probes;
         buffers = had.buffers;
         pairs = had.pairs;
-        fences = one_longer old.fences c.add_name.new.list c.in_ok-name.name.now c.len-number.result 4096 c.in_ok-add_name.ensures.list c.len-number.ensures read.allowed;
+        fences = one_longer old.fences c.add_name.new.list c.in_ok-name.name.now c.len-number.result 4096 c.in_ok-add_name.ensures.list c.len-number.ensures
+            read.allowed;
       };
       sessions = c.requires.sessions;
       probes = c.requires.probes;

@@ -8,27 +8,32 @@ use Rattle.flat_forms.proofs.DeclareLemmas.{pair_declares, one_longer, pairs_fou
 use Rattle.flat_forms.proofs.parser.Parser.pair.Goals as goal
 
 pub add_name-requires-clause-name : goal.add_name-requires-clause-name
-add_name-requires-clause-name c = let read = pair_declares c.args.self.now.text.script (pieces_left is_space c.args.words) (nat_lt c.len-number.result 4096) (c.in_ok-name.name.now, c.in_ok-name.decl) c.in_ok-name.ensures in read.fresh.name
+add_name-requires-clause-name c = let read = pair_declares c.args.self.now.text.script (pieces_left is_space c.args.words) (nat_lt c.len-number.result 4096)
+    (c.in_ok-name.name.now, c.in_ok-name.decl) c.in_ok-name.ensures in read.fresh.name
 
 pub returns-clause-kept : goal.returns-clause-kept
 returns-clause-kept c =
     let old = c.args.self.now.text.script in
     let had = c.requires.indexed in
-    let read = pair_declares c.args.self.now.text.script (pieces_left is_space c.args.words) (nat_lt c.len-number.result 4096) (c.in_ok-name.name.now, c.in_ok-name.decl) c.in_ok-name.ensures in
+    let read = pair_declares c.args.self.now.text.script (pieces_left is_space c.args.words) (nat_lt c.len-number.result 4096)
+    (c.in_ok-name.name.now, c.in_ok-name.decl) c.in_ok-name.ensures in
     record {
       indexed = record {
         cache = c.in_ok-add_name.ensures.cache;
         finds = λ w.
-            pairs_found old _ c.in_ok-name.name.now c.in_ok-name.name.now w c.in_ok-name.decl c.len-number.result _ _ c.in_ok-add_name.ensures.list refl refl refl refl refl c.len-number.ensures read.fresh (c.in_ok-add_name.ensures.found w) (had.finds w);
+            pairs_found old _ c.in_ok-name.name.now c.in_ok-name.name.now w c.in_ok-name.decl c.len-number.result _ _ c.in_ok-add_name.ensures.list refl refl
+            refl refl refl c.len-number.ensures read.fresh (c.in_ok-add_name.ensures.found w) (had.finds w);
         sessions = had.sessions;
         probes = had.probes;
         buffers = had.buffers;
-        pairs = one_longer old.pairs c.add_name.new.list c.in_ok-name.name.now c.len-number.result 4096 c.in_ok-add_name.ensures.list c.len-number.ensures read.allowed;
+        pairs = one_longer old.pairs c.add_name.new.list c.in_ok-name.name.now c.len-number.result 4096 c.in_ok-add_name.ensures.list c.len-number.ensures
+            read.allowed;
         fences = had.fences;
       };
       sessions = c.requires.sessions;
       probes = c.requires.probes;
-      paired = any_more (λ p. is_actor Display p.viewport) old.setup.pairs c.push.new.self c.in_ok-name.decl _ _ c.in_ok-push.ensures.ok c.requires.paired c.or_display-self.ensures;
+      paired = any_more (λ p. is_actor Display p.viewport) old.setup.pairs c.push.new.self c.in_ok-name.decl _ _ c.in_ok-push.ensures.ok c.requires.paired
+          c.or_display-self.ensures;
       begins = c.requires.begins;
       dones = c.requires.dones;
       last = c.requires.last;

@@ -5,19 +5,23 @@ use Rattle.flat_forms.proofs.DeclareLemmas.{name_declares, one_longer, sessions_
 use Rattle.flat_forms.proofs.parser.Parser.session.Goals as goal
 
 pub add_name-requires-clause-name : goal.add_name-requires-clause-name
-add_name-requires-clause-name c = let read = name_declares c.args.self.now.text.script (pieces_left is_space c.args.words) (nat_lt c.len-number.result 16) c.in_ok-name.name.now c.in_ok-name.ensures in read.fresh.name
+add_name-requires-clause-name c = let read = name_declares c.args.self.now.text.script (pieces_left is_space c.args.words) (nat_lt c.len-number.result 16)
+    c.in_ok-name.name.now c.in_ok-name.ensures in read.fresh.name
 
 pub returns-clause-kept : goal.returns-clause-kept
 returns-clause-kept c =
     let old = c.args.self.now.text.script in
     let had = c.requires.indexed in
-    let read = name_declares c.args.self.now.text.script (pieces_left is_space c.args.words) (nat_lt c.len-number.result 16) c.in_ok-name.name.now c.in_ok-name.ensures in
+    let read = name_declares c.args.self.now.text.script (pieces_left is_space c.args.words) (nat_lt c.len-number.result 16) c.in_ok-name.name.now
+    c.in_ok-name.ensures in
     record {
       indexed = record {
         cache = c.in_ok-add_name.ensures.cache;
         finds = λ w.
-            sessions_found old _ c.in_ok-name.name.now c.in_ok-name.name.now w c.len-number.result _ _ c.in_ok-add_name.ensures.list refl refl refl refl refl c.len-number.ensures read.fresh (c.in_ok-add_name.ensures.found w) (had.finds w);
-        sessions = one_longer old.sessions c.add_name.new.list c.in_ok-name.name.now c.len-number.result 16 c.in_ok-add_name.ensures.list c.len-number.ensures read.allowed;
+            sessions_found old _ c.in_ok-name.name.now c.in_ok-name.name.now w c.len-number.result _ _ c.in_ok-add_name.ensures.list refl refl refl refl refl
+            c.len-number.ensures read.fresh (c.in_ok-add_name.ensures.found w) (had.finds w);
+        sessions = one_longer old.sessions c.add_name.new.list c.in_ok-name.name.now c.len-number.result 16 c.in_ok-add_name.ensures.list c.len-number.ensures
+            read.allowed;
         probes = had.probes;
         buffers = had.buffers;
         pairs = had.pairs;

@@ -23,8 +23,11 @@ returns-clause-kept c =
       sessions = kept.sessions;
       probes = kept.probes;
       paired = kept.paired;
-      begins = begins_more lines c.push.new.self _ old.begins c.one_if.result pushed kept.begins (c.one_if.ensures ∙ ap (λ b. cond b 1 0) c.is_some.ensures ∙ ap (λ o. cond (is_some o) 1 0) c.time_begun-begun.ensures);
+      begins = begins_more lines c.push.new.self _ old.begins c.one_if.result pushed kept.begins
+          (c.one_if.ensures ∙ ap (λ b. cond b 1 0) c.is_some.ensures ∙ ap (λ o. cond (is_some o) 1 0) c.time_begun-begun.ensures);
       dones = dones_more lines c.push.new.self _ old.dones c.one_if-2.result pushed kept.dones (c.one_if-2.ensures ∙ ap (λ b. cond b 1 0) c.ends_frame.ensures);
-      last = last_more lines c.push.new.self _ old.last c.last_after-self.result pushed kept.last (c.last_after-self.ensures ∙ ap (λ o. option_map_or (λ t. max old.last t) o old.last) c.time_begun-begun.ensures);
-      lines = λ b q. lines_more old.counts lines c.push.new.self _ c.args.actor b c.slot.result c.slot.ensures.slot (search rules) c.requires.counted q refl pushed (kept.lines b q);
+      last = last_more lines c.push.new.self _ old.last c.last_after-self.result pushed kept.last
+          (c.last_after-self.ensures ∙ ap (λ o. option_map_or (λ t. max old.last t) o old.last) c.time_begun-begun.ensures);
+      lines = λ b q. lines_more old.counts lines c.push.new.self _ c.args.actor b c.slot.result c.slot.ensures.slot (search rules) c.requires.counted q refl
+          pushed (kept.lines b q);
     }

@@ -16,4 +16,5 @@ returns-then-knows c = λ setup history n stands.
     subst R stands.same (c.child.ensures history n (subst A (sym stands.same) stands.tied) (subst L (sym stands.same) stands.legal))
 
 pub returns-else-knows : goal.returns-else-knows
-returns-else-knows c = λ setup history n stands. sym ((undeclared-untold setup history stands.legal c.args.p (unknown _ _ _ _ setup history stands c.args.p (sym c.knows.ensures ∙ c.if-knows.false))).1.1 n)
+returns-else-knows c = λ setup history n stands. sym ((undeclared-untold setup history stands.legal c.args.p
+    (unknown _ _ _ _ setup history stands c.args.p (sym c.knows.ensures ∙ c.if-knows.false))).1.1 n)

@@ -4,4 +4,5 @@ use Rattle.flat_gets.proofs.TellingSteps.{unknown}
 use Rattle.flat_gets.proofs.telling.TellingTells.layout.Goals as goal
 
 pub returns-else-knows : goal.returns-else-knows
-returns-else-knows c = λ setup history stands. sym (undeclared-untold setup history stands.legal c.args.p (unknown _ _ _ _ setup history stands c.args.p (sym c.knows.ensures ∙ c.if-knows.false))).0
+returns-else-knows c = λ setup history stands. sym (undeclared-untold setup history stands.legal c.args.p
+    (unknown _ _ _ _ setup history stands c.args.p (sym c.knows.ensures ∙ c.if-knows.false))).0

@@ -18,12 +18,15 @@ returns-in_err-list-clause-watched g c =
     let own = c.args.self.now in
     let session : c.list.new.self ≡ c.index_mut-session.result.now = c.in_err-list.ensures.same in
     if-err c.from_residual-in_err-list.result _ (λ setup history are.
-    watched-items setup history own (record { pairs = _; sessions = _ }) (same-set own.pairs.items c.args.p.0 c.index_mut-pair.result.now c.index_mut-pair.ensures.value)
-    (ap (slice_set own.sessions.items (c.args.s.0 - 1)) session ∙ same-set own.sessions.items (c.args.s.0 - 1) c.index_mut-session.result.now c.index_mut-session.ensures.value) are)
+    watched-items setup history own (record { pairs = _; sessions = _ })
+    (same-set own.pairs.items c.args.p.0 c.index_mut-pair.result.now c.index_mut-pair.ensures.value)
+    (ap (slice_set own.sessions.items (c.args.s.0 - 1)) session
+    ∙ same-set own.sessions.items (c.args.s.0 - 1) c.index_mut-session.result.now c.index_mut-session.ensures.value) are)
 
 pub returns-in_err-list-clause-same_due : goal.returns-in_err-list-clause-same_due
 returns-in_err-list-clause-same_due g c =
-    if-err c.from_residual-in_err-list.result _ (ap (sum_by waiting_in) (same-set c.args.self.now.pairs.items c.args.p.0 c.index_mut-pair.result.now c.index_mut-pair.ensures.value))
+    if-err c.from_residual-in_err-list.result _ (ap (sum_by waiting_in)
+    (same-set c.args.self.now.pairs.items c.args.p.0 c.index_mut-pair.result.now c.index_mut-pair.ensures.value))
 
 pub returns-clause-asked : goal.returns-clause-asked
 returns-clause-asked g c = λ setup history stands.
@@ -33,10 +36,12 @@ returns-clause-asked g c = λ setup history stands.
     let get = c.args.get in
     let p = c.args.p in
     let part : c.of-part.result ≡ part_of get = c.of-part.ensures in
-    let now : c.told_of-now.result ≡ told setup history (watcher_at (part_of get) p 0) = c.told_of-now.ensures setup history stands ∙ ap (λ (k : Part). told setup history (watcher_at k p 0)) part in
+    let now : c.told_of-now.result ≡ told setup history (watcher_at (part_of get) p 0) =
+    c.told_of-now.ensures setup history stands ∙ ap (λ (k : Part). told setup history (watcher_at k p 0)) part in
     let value : Option Told = told setup history (watcher_at (part_of get) p 0) in
     let answer : c.reply_of-reply.result ≡ got (is_some (cell_at (part_of get) was).waits) (news value (cell_at (part_of get) was).last) =
-    c.reply_of-reply.ensures ∙ ap replied c.get.ensures.answer ∙ reply-is (is_some (cell_at (part_of get) was).waits) (news c.told_of-now.result (cell_at (part_of get) was).last)
+    c.reply_of-reply.ensures ∙ ap replied c.get.ensures.answer
+    ∙ reply-is (is_some (cell_at (part_of get) was).waits) (news c.told_of-now.result (cell_at (part_of get) was).last)
     ∙ ap (λ (o : Option Told). got (is_some (cell_at (part_of get) was).waits) (news o (cell_at (part_of get) was).last)) now in
     let waits : c.would_wait.result ≡ is_held c.reply_of-reply.result =
     c.would_wait.ensures ∙ ap (λ (k : Part). not (is_some (cell_at k was).waits) && not (is_some (news c.told_of-now.result (cell_at k was).last))) part
@@ -55,10 +60,12 @@ returns-clause-asked g c = λ setup history stands.
       replied = answer;
       counted = ap (λ (k : KeptGets). k.answers) c.count.ensures ∙ omega (arith, c.list.ensures.answers, c.count_now.ensures);
       views =
-          ap (λ (k : KeptGets). k.views) c.count.ensures ∙ c.in_ok-list.ensures.views ∙ ap (λ (k : Part). cond (c.would_wait.result && not (is_child k)) (with_pair p from.views) from.views) part
+          ap (λ (k : KeptGets). k.views) c.count.ensures ∙ c.in_ok-list.ensures.views
+          ∙ ap (λ (k : Part). cond (c.would_wait.result && not (is_child k)) (with_pair p from.views) from.views) part
           ∙ ap (λ (b : Bool). cond (b && not (is_child (part_of get))) (with_pair p from.views) from.views) waits;
       viewports =
-          ap (λ (k : KeptGets). k.viewports) c.count.ensures ∙ c.in_ok-list.ensures.viewports ∙ ap (λ (k : Part). cond (c.would_wait.result && is_child k) (with_pair p from.viewports) from.viewports) part
+          ap (λ (k : KeptGets). k.viewports) c.count.ensures ∙ c.in_ok-list.ensures.viewports
+          ∙ ap (λ (k : Part). cond (c.would_wait.result && is_child k) (with_pair p from.viewports) from.viewports) part
           ∙ ap (λ (b : Bool). cond (b && is_child (part_of get)) (with_pair p from.viewports) from.viewports) waits;
     }
 
@@ -69,6 +76,12 @@ returns-clause-due g c =
     let get = c.args.get in
     let own = c.args.self.now.pairs.items in
     let answer : c.reply_of-reply.result ≡ got (is_some (cell_at (part_of get) was).waits) (news c.told_of-now.result (cell_at (part_of get) was).last) =
-    c.reply_of-reply.ensures ∙ ap replied c.get.ensures.answer ∙ reply-is (is_some (cell_at (part_of get) was).waits) (news c.told_of-now.result (cell_at (part_of get) was).last) in
+    c.reply_of-reply.ensures ∙ ap replied c.get.ensures.answer
+    ∙ reply-is (is_some (cell_at (part_of get) was).waits) (news c.told_of-now.result (cell_at (part_of get) was).last) in
     let held = ap (λ (r : Reply). number_if (is_held r)) answer in
-    omega (arith, due-set own c.args.p.0 was then c.requires.known c.index_mut-pair.ensures.value, got-due get c.told_of-now.result was then (part_of get) c.get.ensures.gets, held)
+    omega (
+      arith,
+      due-set own c.args.p.0 was then c.requires.known c.index_mut-pair.ensures.value,
+      got-due get c.told_of-now.result was then (part_of get) c.get.ensures.gets,
+      held,
+    )

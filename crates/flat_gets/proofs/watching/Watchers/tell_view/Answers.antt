@@ -24,10 +24,13 @@ returns-clause-told g c = λ setup history stands.
     let statuses : List Event = event_of p was.status.waits (answer (now (status_of p)) was.status) in
     let given : List Event = event_of p c.tell-first.new.self.status.waits (answer c.status-status.result c.tell-first.new.self.status) in
     let same : given ≡ statuses =
-    ap (λ (w : Watching). event_of p w.waits (answer c.status-status.result w)) first.told.status ∙ ap (λ o. event_of p was.status.waits (answer o was.status)) status_is in
+    ap (λ (w : Watching). event_of p w.waits (answer c.status-status.result w)) first.told.status
+    ∙ ap (λ o. event_of p was.status.waits (answer o was.status)) status_is in
     let place : length c.tell-first.new.log.history ≡ length c.args.log.now.history = ap (length {A = Entry}) first.history in
-    let one : c.tell-first.new.log.posts ≡ c.args.log.now.posts ++ map f layouts = first.posts ∙ ap (λ o. c.args.log.now.posts ++ map f (event_of p was.layout.waits (answer o was.layout))) layout_is in
-    let two : c.tell-second.new.log.posts ≡ c.tell-first.new.log.posts ++ map f given = second.posts ∙ ap (λ (n : ℕ). c.tell-first.new.log.posts ++ map (post_of n c.args.owner) given) place in
+    let one : c.tell-first.new.log.posts ≡ c.args.log.now.posts ++ map f layouts =
+    first.posts ∙ ap (λ o. c.args.log.now.posts ++ map f (event_of p was.layout.waits (answer o was.layout))) layout_is in
+    let two : c.tell-second.new.log.posts ≡ c.tell-first.new.log.posts ++ map f given =
+    second.posts ∙ ap (λ (n : ℕ). c.tell-first.new.log.posts ++ map (post_of n c.args.owner) given) place in
     record {
       was = was;
       then = c.tell-second.new.self;
@@ -43,7 +46,14 @@ returns-clause-told g c = λ setup history stands.
         former = second.told.former ∙ first.told.former;
       };
       posted = two-posted f c.args.log.now.posts c.tell-first.new.log.posts c.tell-second.new.log.posts layouts given statuses one two same;
-      counted = omega (arith, first.count, ap (λ o. length (event_of p was.layout.waits (answer o was.layout))) layout_is, second.count, ap (length {A = Event}) same, length-append layouts statuses);
+      counted = omega (
+        arith,
+        first.count,
+        ap (λ o. length (event_of p was.layout.waits (answer o was.layout))) layout_is,
+        second.count,
+        ap (length {A = Event}) same,
+        length-append layouts statuses,
+      );
     }
 
 pub returns-clause-free : goal.returns-clause-free

@@ -22,7 +22,8 @@ invariant_of-self-2 c =
     rw named
     (graph-created c.self.inside.nodes.capacity c.insert_reserved.new.self.capacity c.args.t.0 c.vacant_key-key.result (c.self.inside.made + 1) _
     c.insert_reserved.new.self.slots c.self.invariant adds (is-none (key_named c.self.inside.names.items c.args.t.0) unnamed) c.if-t-eq0.false
-    (rw slots at c.insert_reserved.ensures.len) (omega (arith, c.reserve.ensures.capacity, c.insert_reserved.ensures.capacity)) (rw key at c.insert_reserved.ensures.key_in_range))
+    (rw slots at c.insert_reserved.ensures.len) (omega (arith, c.reserve.ensures.capacity, c.insert_reserved.ensures.capacity))
+    (rw key at c.insert_reserved.ensures.key_in_range))
 
 pub returns-clause-created : goal.returns-clause-created
 returns-clause-created c =

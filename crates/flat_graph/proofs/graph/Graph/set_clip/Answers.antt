@@ -18,10 +18,13 @@ invariant_of-self c = elim c.match-get_mut.branch [
 ]
 
 pub returns-in_err-key-clause-fault : goal.returns-in_err-key-clause-fault
-returns-in_err-key-clause-fault c = hands_on c.from_residual.result (name_tests c.args.self.now c.args.t.0) ((is_bad_area c.args.clip, BadRect) ∷ []) c.in_err-key.field-0.0 c.from_residual.ensures.1 c.in_err-key.ensures.fault
+returns-in_err-key-clause-fault c = hands_on c.from_residual.result (name_tests c.args.self.now c.args.t.0) ((is_bad_area c.args.clip, BadRect) ∷ [])
+    c.in_err-key.field-0.0 c.from_residual.ensures.1 c.in_err-key.ensures.fault
 
 pub returns-then-is_bad_area-clause-fault : goal.returns-then-is_bad_area-clause-fault
-returns-then-is_bad_area-clause-fault c = refused_by (name_tests c.args.self.now c.args.t.0) _ _ c.in_ok-key.ensures.allowed (sym c.is_bad_area.ensures ∙ c.if-is_bad_area.true)
+returns-then-is_bad_area-clause-fault c = refused_by (name_tests c.args.self.now c.args.t.0) _ _ c.in_ok-key.ensures.allowed
+    (sym c.is_bad_area.ensures ∙ c.if-is_bad_area.true)
 
 pub returns-clause-allowed : goal.returns-clause-allowed
-returns-clause-allowed c = allowed_by (name_tests c.args.self.now c.args.t.0) _ _ c.in_ok-key.ensures.allowed (sym c.is_bad_area.ensures ∙ c.if-is_bad_area.false)
+returns-clause-allowed c = allowed_by (name_tests c.args.self.now c.args.t.0) _ _ c.in_ok-key.ensures.allowed
+    (sym c.is_bad_area.ensures ∙ c.if-is_bad_area.false)

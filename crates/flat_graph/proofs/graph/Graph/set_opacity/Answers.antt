@@ -19,10 +19,12 @@ invariant_of-self c = elim c.match-get_mut.branch [
 ]
 
 pub returns-in_err-key-clause-fault : goal.returns-in_err-key-clause-fault
-returns-in_err-key-clause-fault c = hands_on c.from_residual.result (name_tests c.args.self.now c.args.t.0) ((nat_lt OPACITY_MAX c.args.opacity, BadOpacity) ∷ []) c.in_err-key.field-0.0 c.from_residual.ensures.1 c.in_err-key.ensures.fault
+returns-in_err-key-clause-fault c = hands_on c.from_residual.result (name_tests c.args.self.now c.args.t.0)
+    ((nat_lt OPACITY_MAX c.args.opacity, BadOpacity) ∷ []) c.in_err-key.field-0.0 c.from_residual.ensures.1 c.in_err-key.ensures.fault
 
 pub returns-then-opacity-gt-OPACITY_MAX-clause-fault : goal.returns-then-opacity-gt-OPACITY_MAX-clause-fault
-returns-then-opacity-gt-OPACITY_MAX-clause-fault c = refused_by (name_tests c.args.self.now c.args.t.0) _ _ c.in_ok-key.ensures.allowed (lt-ltb _ _ c.if-opacity-gt-OPACITY_MAX.true)
+returns-then-opacity-gt-OPACITY_MAX-clause-fault c = refused_by (name_tests c.args.self.now c.args.t.0) _ _ c.in_ok-key.ensures.allowed
+    (lt-ltb _ _ c.if-opacity-gt-OPACITY_MAX.true)
 
 pub returns-clause-allowed : goal.returns-clause-allowed
 returns-clause-allowed c = allowed_by (name_tests c.args.self.now c.args.t.0) _ _ c.in_ok-key.ensures.allowed (le-ltb _ _ c.if-opacity-gt-OPACITY_MAX.false)

@@ -18,10 +18,13 @@ invariant_of-self c = elim c.match-get_mut.branch [
 ]
 
 pub returns-in_err-key-clause-fault : goal.returns-in_err-key-clause-fault
-returns-in_err-key-clause-fault c = hands_on c.from_residual.result (name_tests c.args.self.now c.args.t.0) ((is_bad_scale c.args.x || is_bad_scale c.args.y, BadScale) ∷ []) c.in_err-key.field-0.0 c.from_residual.ensures.1 c.in_err-key.ensures.fault
+returns-in_err-key-clause-fault c = hands_on c.from_residual.result (name_tests c.args.self.now c.args.t.0)
+    ((is_bad_scale c.args.x || is_bad_scale c.args.y, BadScale) ∷ []) c.in_err-key.field-0.0 c.from_residual.ensures.1 c.in_err-key.ensures.fault
 
 pub returns-then-has_bad_scale-clause-fault : goal.returns-then-has_bad_scale-clause-fault
-returns-then-has_bad_scale-clause-fault c = refused_by (name_tests c.args.self.now c.args.t.0) _ _ c.in_ok-key.ensures.allowed (sym c.has_bad_scale.ensures ∙ c.if-has_bad_scale.true)
+returns-then-has_bad_scale-clause-fault c = refused_by (name_tests c.args.self.now c.args.t.0) _ _ c.in_ok-key.ensures.allowed
+    (sym c.has_bad_scale.ensures ∙ c.if-has_bad_scale.true)
 
 pub returns-clause-allowed : goal.returns-clause-allowed
-returns-clause-allowed c = allowed_by (name_tests c.args.self.now c.args.t.0) _ _ c.in_ok-key.ensures.allowed (sym c.has_bad_scale.ensures ∙ c.if-has_bad_scale.false)
+returns-clause-allowed c = allowed_by (name_tests c.args.self.now c.args.t.0) _ _ c.in_ok-key.ensures.allowed
+    (sym c.has_bad_scale.ensures ∙ c.if-has_bad_scale.false)

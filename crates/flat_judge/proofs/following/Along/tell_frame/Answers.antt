@@ -24,13 +24,15 @@ returns-in_ok-behind-in-Some-clause-tells c = λ before entry is finish line.
     let along = c.args.self.now in
     let fb = frame_text script (frame_at script.setup (suc (frames before)) (to_begin before)) in
     let P : Option ℕ → Type 0 = Passes text along.at fb in
-    let number : c.args.play.now.last.frame.0 ≡ suc (frames before) = before-finish before entry finish c.args.play.now.last.frame.0 (c.requires.shows.answers.number ∙ ap frames is) in
+    let number : c.args.play.now.last.frame.0 ≡ suc (frames before) =
+    before-finish before entry finish c.args.play.now.last.frame.0 (c.requires.shows.answers.number ∙ ap frames is) in
     let R : ℕ → Type 0 = λ n. ReadsLosses n along.lost c.read_losses.new.lost text c.in-Some.at c.in_ok-behind-in-Some.behind in
     let passes = subst P c.in-Some.is (c.pass_frame.ensures.passes script before entry c.requires.shows is finish) in
     let reads = subst R number c.in_ok-behind-in-Some.ensures.reads in
     let first = pass-on text along.at c.in-Some.at fb c.requires.within passes in
     let second = pass-on text c.in-Some.at c.in_ok-behind-in-Some.behind (text_of (map lost_line reads.more)) passes.0 reads.passes in
-    Stays.stays (frame-passes script text before entry finish along line c.in-Some.at c.in_ok-behind-in-Some.behind c.read_losses.new.lost passes reads c.in_ok-behind-in-Some.ensures.within) (omega (arith, first, second))
+    Stays.stays (frame-passes script text before entry finish along line c.in-Some.at c.in_ok-behind-in-Some.behind c.read_losses.new.lost passes reads
+    c.in_ok-behind-in-Some.ensures.within) (omega (arith, first, second))
 
 pub returns-in-None-clause-tells : goal.returns-in-None-clause-tells
 returns-in-None-clause-tells c = λ before entry is finish line.
@@ -39,4 +41,6 @@ returns-in-None-clause-tells c = λ before entry is finish line.
     let along = c.args.self.now in
     let fb = frame_text script (frame_at script.setup (suc (frames before)) (to_begin before)) in
     let P : Option ℕ → Type 0 = Passes text along.at fb in
-    Stays.parts (frame-parts script text before entry finish along line (subst P c.in-None.is (c.pass_frame.ensures.passes script before entry c.requires.shows is finish))) (losses-later (frames before) (frames (before ▹ entry)) along.lost (frames-upto before entry) line.losses)
+    Stays.parts (frame-parts script text before entry finish along line
+    (subst P c.in-None.is (c.pass_frame.ensures.passes script before entry c.requires.shows is finish)))
+    (losses-later (frames before) (frames (before ▹ entry)) along.lost (frames-upto before entry) line.losses)

@@ -17,4 +17,5 @@ pub returns-in-None-clause-tells : goal.returns-in-None-clause-tells
 returns-in-None-clause-tells c = λ before is part.
     let script = c.args.script.now in
     let P : Option ℕ → Type 0 = Passes c.args.text.now c.args.self.now.at (own_text script before c.args.entry.now) in
-    Stays.parts (line-parts script c.args.text.now before c.args.entry.now c.args.self.now part (subst P c.in-None.is (c.in_ok-at.ensures.passes before is))) part.losses
+    Stays.parts (line-parts script c.args.text.now before c.args.entry.now c.args.self.now part (subst P c.in-None.is (c.in_ok-at.ensures.passes before is)))
+    part.losses

@@ -16,7 +16,8 @@ follow-requires-clause-along c =
     let none : c.answer_probes.new.self.play.board.history ≡ [] = ap (λ (m : Machine). m.history) c.in_ok-answer_probes.ensures.board ∙ c.requires.no_entry in
     let P : List ℕ → Type 0 = λ b. Passes text 0 b (Some c.in-Some.at) in
     let A : List Entry → Type 0 = λ h. IsAlong script text h (record c.args.self.now.along { at = c.in-Some.at }) in
-    subst A (sym none) (first-along script text c.args.self.now.along c.requires.no_loss c.in-Some.at c.requires.no_event (subst P (c.as_slice.ensures.value ∙ c.in_ok-title.ensures) c.in-Some.ensures))
+    subst A (sym none) (first-along script text c.args.self.now.along c.requires.no_loss c.in-Some.at c.requires.no_event
+    (subst P (c.as_slice.ensures.value ∙ c.in_ok-title.ensures) c.in-Some.ensures))
 
 pub returns-clause-stops : goal.returns-clause-stops
 returns-clause-stops c =
@@ -25,7 +26,8 @@ returns-clause-stops c =
     let none : c.answer_probes.new.self.play.board.history ≡ [] = ap (λ (m : Machine). m.history) c.in_ok-answer_probes.ensures.board ∙ c.requires.no_entry in
     let P : List ℕ → Type 0 = λ b. Passes text 0 b None in
     let H : List Entry → Type 0 = λ h. HasStopped script text h c.args.self.now.along in
-    subst H (sym none) (first-parts script text c.args.self.now.along c.requires.no_loss (subst P (c.as_slice.ensures.value ∙ c.in_ok-title.ensures) c.in-None.ensures))
+    subst H (sym none) (first-parts script text c.args.self.now.along c.requires.no_loss
+    (subst P (c.as_slice.ensures.value ∙ c.in_ok-title.ensures) c.in-None.ensures))
 
 pub returns-clause-heeds : goal.returns-clause-heeds
 returns-clause-heeds c = λ last.

@@ -21,7 +21,8 @@ loop-preserved c =
       on.0,
       omega (arith, low, more),
       c.loop.invariant.3,
-      λ last heeds. heeds-on c.args.script.now c.args.text.now c.args.guide.now.seen.items last c.loop.self.run c.turn.new.self.run (c.loop.invariant.4 last heeds) (c.in_ok-turn.ensures.heeds last),
+      λ last heeds. heeds-on c.args.script.now c.args.text.now c.args.guide.now.seen.items last c.loop.self.run c.turn.new.self.run
+          (c.loop.invariant.4 last heeds) (c.in_ok-turn.ensures.heeds last),
     )
 
 -- each turn passes a byte of the text at least
@@ -33,7 +34,8 @@ returns-clause-stops c =
     absurd (omega (arith, low, within, was, c.loop-test.false, c.loop.auto.counter-end, c.loop.invariant.3))
 
 pub returns-then-not-branch-clause-heeds : goal.returns-then-not-branch-clause-heeds
-returns-then-not-branch-clause-heeds c = λ last heeds. heeds-on c.args.script.now c.args.text.now c.args.guide.now.seen.items last c.loop.self.run c.turn.new.self.run (c.loop.invariant.4 last heeds) (c.in_ok-turn.ensures.heeds last)
+returns-then-not-branch-clause-heeds c = λ last heeds. heeds-on c.args.script.now c.args.text.now c.args.guide.now.seen.items last c.loop.self.run
+    c.turn.new.self.run (c.loop.invariant.4 last heeds) (c.in_ok-turn.ensures.heeds last)
 
 pub returns-clause-heeds : goal.returns-clause-heeds
 returns-clause-heeds c = λ last heeds. c.loop.invariant.4 last heeds

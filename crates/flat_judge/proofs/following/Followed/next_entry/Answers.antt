@@ -8,11 +8,14 @@ use Rattle.flat_judge.proofs.Pass.{rest-all}
 use Rattle.flat_judge.proofs.following.Followed.next_entry.Goals as goal
 
 pub session_entry-requires-clause-declared : goal.session_entry-requires-clause-declared
-session_entry-requires-clause-declared c = next-declared c.args.script.now (take (length c.args.text.now - c.args.self.now.along.at) (drop c.args.self.now.along.at c.args.text.now)) c.in-Some-Session.s (sym c.next_actor.ensures ∙ c.in-Some-Session.is ∙ ap Some c.in-Some-Session.field-0-is)
+session_entry-requires-clause-declared c = next-declared c.args.script.now
+    (take (length c.args.text.now - c.args.self.now.along.at) (drop c.args.self.now.along.at c.args.text.now)) c.in-Some-Session.s
+    (sym c.next_actor.ensures ∙ c.in-Some-Session.is ∙ ap Some c.in-Some-Session.field-0-is)
 
 pub session_entry-requires-clause-turn : goal.session_entry-requires-clause-turn
 session_entry-requires-clause-turn c =
-    ap (next_actor c.args.script.now) (sym (rest-all c.args.text.now c.args.self.now.along.at)) ∙ sym c.next_actor.ensures ∙ c.in-Some-Session.is ∙ ap Some c.in-Some-Session.field-0-is
+    ap (next_actor c.args.script.now) (sym (rest-all c.args.text.now c.args.self.now.along.at)) ∙ sym c.next_actor.ensures ∙ c.in-Some-Session.is
+    ∙ ap Some c.in-Some-Session.field-0-is
 
 pub returns-in-Some-Probe-clause-makes : goal.returns-in-Some-Probe-clause-makes
 returns-in-Some-Probe-clause-makes c =

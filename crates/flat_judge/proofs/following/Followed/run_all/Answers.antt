@@ -29,5 +29,6 @@ returns-clause-sees c = λ read run is same.
     let H : List Entry → Type 0 = λ h. AllHeed script hints (frames h) (suc (frames h)) c.end.new.self.answers.items in
     elim (c.in_ok-begin.ensures.heeds (frames stop)) [
       | inl none ↦ absurd (none read run is)
-      | inr heeds ↦ saw-all script c.args.text.now hints c.end.new.self.answers.items c.requires.hints whole.stands.probes.count read run is (subst N (sym (ap frames same)) few) (subst H (sym at) (c.in_ok-end.ensures.heeds (sym at ∙ same) heeds))
+      | inr heeds ↦ saw-all script c.args.text.now hints c.end.new.self.answers.items c.requires.hints whole.stands.probes.count read run is
+          (subst N (sym (ap frames same)) few) (subst H (sym at) (c.in_ok-end.ensures.heeds (sym at ∙ same) heeds))
     ]

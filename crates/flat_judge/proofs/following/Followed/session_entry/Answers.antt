@@ -12,7 +12,8 @@ returns-then-index-clause-makes c =
     let seat : Seat = c.index.result.now in
     let found : seat ≡ get_or guided.seats.items k seat = search rules in
     let ended : seat.has_ended ≡ true = search rules in
-    ended-makes c.args.script.now c.args.text.now guided c.args.self.now.along c.requires.along c.args.s c.requires.stands c.requires.declared c.requires.turn seat found ended
+    ended-makes c.args.script.now c.args.text.now guided c.args.self.now.along c.requires.along c.args.s c.requires.stands c.requires.declared c.requires.turn
+    seat found ended
 
 pub session_turn-requires-clause-open : goal.session_turn-requires-clause-open
 session_turn-requires-clause-open c = λ seat at.
@@ -21,8 +22,10 @@ session_turn-requires-clause-open c = λ seat at.
     let first : Seat = c.index.result.now in
     let found : first ≡ get_or guided.seats.items k first = search rules in
     let goes_on : first.has_ended ≡ false = search rules in
-    sym (ap (λ (p : Seat). p.has_ended) (seat_found guided.seats.items k first seat (seat-within c.args.script.now guided c.args.s c.requires.stands c.requires.declared) found at)) ∙ goes_on
+    sym (ap (λ (p : Seat). p.has_ended) (seat_found guided.seats.items k first seat
+    (seat-within c.args.script.now guided c.args.s c.requires.stands c.requires.declared) found at)) ∙ goes_on
 
 pub returns-clause-makes : goal.returns-clause-makes
 returns-clause-makes c =
-    session-enters c.args.script.now c.args.text.now c.args.self.now.run c.session_turn.new.self c.args.self.now.along c.requires.along c.requires.playable c.args.s c.requires.declared c.requires.turn c.in_ok-session_turn.ensures.goes c.in_ok-session_turn.ensures.stands c.journal-journal.ensures.legal
+    session-enters c.args.script.now c.args.text.now c.args.self.now.run c.session_turn.new.self c.args.self.now.along c.requires.along c.requires.playable
+    c.args.s c.requires.declared c.requires.turn c.in_ok-session_turn.ensures.goes c.in_ok-session_turn.ensures.stands c.journal-journal.ensures.legal

@@ -13,13 +13,15 @@ pub returns-then-not-branch-clause-tells : goal.returns-then-not-branch-clause-t
 returns-then-not-branch-clause-tells c = λ before entry is part.
     let script = c.args.script.now in
     let text = c.args.text.now in
-    let last : Some c.in-Some.entry.now ≡ Some entry = c.in-Some.ensures.value ∙ newest-is c.as_slice-entries.result.now before entry (ap history_of c.as_slice-entries.ensures.value ∙ c.journal.ensures.entries ∙ is) in
+    let last : Some c.in-Some.entry.now ≡ Some entry = c.in-Some.ensures.value
+    ∙ newest-is c.as_slice-entries.result.now before entry (ap history_of c.as_slice-entries.ensures.value ∙ c.journal.ensures.entries ∙ is) in
     let same : entry ≡ c.in-Some.entry.now = cc in
     let is_its : c.args.self.now.run.play.board.history ≡ (before ▹ c.in-Some.entry.now) = is ∙ ap (λ (e : Entry). before ▹ e) same in
     let P : Entry → Type 0 = λ e. IsPart script text before e [] (frames before) c.args.self.now.along in
     let line = c.in_ok-tell_line.ensures.tells before is_its (subst P same part) in
     let none : c.in_ok-tell_line.field-0 ≡ false = search rules in
-    parted script text (frames before) (frames (before ▹ entry)) _ _ c.tell_line.new.self c.in_ok-tell_line.field-0 none (losses-later (frames before) (frames (before ▹ entry)) c.tell_line.new.self.lost (frames-upto before entry)) line
+    parted script text (frames before) (frames (before ▹ entry)) _ _ c.tell_line.new.self c.in_ok-tell_line.field-0 none
+    (losses-later (frames before) (frames (before ▹ entry)) c.tell_line.new.self.lost (frames-upto before entry)) line
 
 pub tell_shown-requires-clause-within : goal.tell_shown-requires-clause-within
 tell_shown-requires-clause-within c = c.in_ok-tell_line.ensures.within
@@ -28,7 +30,8 @@ pub returns-then-not-branch-2-clause-tells : goal.returns-then-not-branch-2-clau
 returns-then-not-branch-2-clause-tells c = λ before entry is part.
     let script = c.args.script.now in
     let text = c.args.text.now in
-    let last : Some c.in-Some.entry.now ≡ Some entry = c.in-Some.ensures.value ∙ newest-is c.as_slice-entries.result.now before entry (ap history_of c.as_slice-entries.ensures.value ∙ c.journal.ensures.entries ∙ is) in
+    let last : Some c.in-Some.entry.now ≡ Some entry = c.in-Some.ensures.value
+    ∙ newest-is c.as_slice-entries.result.now before entry (ap history_of c.as_slice-entries.ensures.value ∙ c.journal.ensures.entries ∙ is) in
     let same : entry ≡ c.in-Some.entry.now = cc in
     let is_its : c.args.self.now.run.play.board.history ≡ (before ▹ c.in-Some.entry.now) = is ∙ ap (λ (e : Entry). before ▹ e) same in
     let P : Entry → Type 0 = λ e. IsPart script text before e [] (frames before) c.args.self.now.along in
@@ -37,8 +40,10 @@ returns-then-not-branch-2-clause-tells c = λ before entry is part.
     let has = held script text (frames before) (c.args.self.now.along.at + 1) c.tell_line.new.self c.in_ok-tell_line.field-0 yes line in
     let shown = c.in_ok-tell_shown.ensures.tells before is_its has.0 in
     let none : c.in_ok-tell_shown.field-0 ≡ false = search rules in
-    let F : Entry → Type 0 = λ e. Stays script text (frames (before ▹ e)) (c.args.self.now.along.at + 1) (IsAlong script text (before ▹ e)) c.tell_shown.new.self false in
-    subst F (sym same) (parted script text (frames (before ▹ c.in-Some.entry.now)) (frames (before ▹ c.in-Some.entry.now)) _ _ c.tell_shown.new.self c.in_ok-tell_shown.field-0 none (λ losses. losses) shown)
+    let F : Entry → Type 0 = λ e. Stays script text (frames (before ▹ e)) (c.args.self.now.along.at + 1) (IsAlong script text (before ▹ e))
+    c.tell_shown.new.self false in
+    subst F (sym same) (parted script text (frames (before ▹ c.in-Some.entry.now)) (frames (before ▹ c.in-Some.entry.now)) _ _ c.tell_shown.new.self
+    c.in_ok-tell_shown.field-0 none (λ losses. losses) shown)
 
 pub tell_events-requires-clause-within : goal.tell_events-requires-clause-within
 tell_events-requires-clause-within c = c.in_ok-tell_shown.ensures.within
@@ -47,7 +52,8 @@ pub returns-clause-tells : goal.returns-clause-tells
 returns-clause-tells c = λ before entry is part.
     let script = c.args.script.now in
     let text = c.args.text.now in
-    let last : Some c.in-Some.entry.now ≡ Some entry = c.in-Some.ensures.value ∙ newest-is c.as_slice-entries.result.now before entry (ap history_of c.as_slice-entries.ensures.value ∙ c.journal.ensures.entries ∙ is) in
+    let last : Some c.in-Some.entry.now ≡ Some entry = c.in-Some.ensures.value
+    ∙ newest-is c.as_slice-entries.result.now before entry (ap history_of c.as_slice-entries.ensures.value ∙ c.journal.ensures.entries ∙ is) in
     let same : entry ≡ c.in-Some.entry.now = cc in
     let is_its : c.args.self.now.run.play.board.history ≡ (before ▹ c.in-Some.entry.now) = is ∙ ap (λ (e : Entry). before ▹ e) same in
     let P : Entry → Type 0 = λ e. IsPart script text before e [] (frames before) c.args.self.now.along in
@@ -60,4 +66,5 @@ returns-clause-tells c = λ before entry is part.
     let E : Entry → Type 0 = λ e. IsShownTold script text before e c.tell_shown.new.self in
     let low = has.1 in
     let more = both.1 in
-    result-earlier script text (IsAlong script text (before ▹ entry)) (frames (before ▹ entry)) c.tell_shown.new.self.at (c.args.self.now.along.at + 1) c.tell_events.new.self c.tell_events.result (omega (arith, low, more)) (c.tell_events.ensures before entry is (subst E (sym same) both.0))
+    result-earlier script text (IsAlong script text (before ▹ entry)) (frames (before ▹ entry)) c.tell_shown.new.self.at (c.args.self.now.along.at + 1)
+    c.tell_events.new.self c.tell_events.result (omega (arith, low, more)) (c.tell_events.ensures before entry is (subst E (sym same) both.0))

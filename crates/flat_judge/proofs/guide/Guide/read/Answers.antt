@@ -11,6 +11,8 @@ returns-then-is_whole c =
 pub returns : goal.returns
 returns c =
     if-ok c.of_lines-2.result
-    (λ guide named. other-hints c.args.script.now c.args.text.now (lines_of c.behind_lines-end.result.now) c.in_ok-last.last.seen.items guide.seen.items c.in_ok-last.ensures
-    (c.behind_lines-end.ensures ∙ ap (λ (n : ℕ). drop n (lines_of c.args.text.now)) c.lines_before.ensures) named.count (c.is_whole.ensures c.if-is_whole.false))
+    (λ guide named. other-hints c.args.script.now c.args.text.now (lines_of c.behind_lines-end.result.now) c.in_ok-last.last.seen.items guide.seen.items
+    c.in_ok-last.ensures
+    (c.behind_lines-end.ensures ∙ ap (λ (n : ℕ). drop n (lines_of c.args.text.now)) c.lines_before.ensures) named.count
+    (c.is_whole.ensures c.if-is_whole.false))
     c.of_lines-2.ensures

@@ -9,16 +9,20 @@ use Rattle.flat_judge.proofs.guided_run.GuidedRun.answer_probes.Goals as goal
 pub loop-probe-preserved : goal.loop-probe-preserved
 loop-probe-preserved c = (
   c.in_ok-answer_probe.ensures.stands,
-  λ last. behind_more c.args.script.now c.loop-probe.probe c.args.is_last c.loop-probe.self.places c.answer_probe.new.self.places last c.in_ok-answer_probe.ensures.go (c.loop-probe.invariant.1 last),
+  λ last. behind_more c.args.script.now c.loop-probe.probe c.args.is_last c.loop-probe.self.places c.answer_probe.new.self.places last
+      c.in_ok-answer_probe.ensures.go (c.loop-probe.invariant.1 last),
   c.answer_probe.ensures.place ∙ c.loop-probe.invariant.2,
   c.answer_probe.ensures.seats ∙ c.loop-probe.invariant.3,
   c.in_ok-answer_probe.ensures.board ∙ c.loop-probe.invariant.4,
   λ last end heeds.
       (let script = c.args.script.now in
       let hints = c.args.guide.now.seen.items in
-      let same : frames c.loop-probe.self.play.board.history ≡ frames c.args.self.now.play.board.history = ap (λ (m : Machine). frames m.history) c.loop-probe.invariant.4 in
-      let G : ℕ → Type 0 = λ f. Heeds script hints last f c.loop-probe.probe c.loop-probe.self.answers.items → Heeds script hints last (suc f) c.loop-probe.probe c.answer_probe.new.self.answers.items in
-      heed-more script hints last (frames c.args.self.now.play.board.history) c.loop-probe.probe c.loop-probe.self.answers.items c.answer_probe.new.self.answers.items c.in_ok-answer_probe.ensures.others
+      let same : frames c.loop-probe.self.play.board.history ≡ frames c.args.self.now.play.board.history =
+      ap (λ (m : Machine). frames m.history) c.loop-probe.invariant.4 in
+      let G : ℕ → Type 0 = λ f. Heeds script hints last f c.loop-probe.probe c.loop-probe.self.answers.items
+      → Heeds script hints last (suc f) c.loop-probe.probe c.answer_probe.new.self.answers.items in
+      heed-more script hints last (frames c.args.self.now.play.board.history) c.loop-probe.probe c.loop-probe.self.answers.items
+      c.answer_probe.new.self.answers.items c.in_ok-answer_probe.ensures.others
       (subst G same (c.in_ok-answer_probe.ensures.heeds last (λ is. end is ∙ sym same))) (c.loop-probe.invariant.5 last end heeds)),
 )
 

@@ -14,7 +14,9 @@ direct-requires-clause-may c =
     let x = c.at-line.result.now in
     let at = at_place script guided.place x c.requires.playable c.at-line.ensures in
     let is = displays script guided.place x at c.in-Some.text (sym c.display_text.ensures ∙ c.in-Some.is) in
-    may_enter script guided.place x at c.in-Some.text is guided.play.board c.requires.stands.show.setup (display_room script guided.place x at c.in-Some.text is guided.play.board c.requires.stands.show.shares c.requires.stands.spent) c.requires.stands.display
+    may_enter script guided.place x at c.in-Some.text is guided.play.board c.requires.stands.show.setup
+    (display_room script guided.place x at c.in-Some.text is guided.play.board c.requires.stands.show.shares c.requires.stands.spent)
+    c.requires.stands.display
 
 pub direct-requires-clause-few : goal.direct-requires-clause-few
 direct-requires-clause-few c =
@@ -34,7 +36,8 @@ returns-in_ok-direct-in-Some-clause-stands c =
     let x = c.at-line.result.now in
     let at = at_place script guided.place x c.requires.playable c.at-line.ensures in
     let is = displays script guided.place x at c.in-Some.text (sym c.display_text.ensures ∙ c.in-Some.is) in
-    line_enters script guided _ x at c.requires.within c.requires.stands refl c.in-Some.text is c.in_ok-direct-in-Some.ensures.shows c.in_ok-direct-in-Some.ensures.enters refl refl refl
+    line_enters script guided _ x at c.requires.within c.requires.stands refl c.in-Some.text is c.in_ok-direct-in-Some.ensures.shows
+    c.in_ok-direct-in-Some.ensures.enters refl refl refl
 
 pub returns-in-None-clause-stands : goal.returns-in-None-clause-stands
 returns-in-None-clause-stands c =
@@ -45,7 +48,8 @@ returns-in-None-clause-stands c =
     line_passes script guided _ x at c.requires.within c.requires.stands refl (sym c.display_text.ensures ∙ c.in-None.is) refl refl refl refl
 
 pub returns-in_ok-direct-in-Some-clause-goes : goal.returns-in_ok-direct-in-Some-clause-goes
-returns-in_ok-direct-in-Some-clause-goes c = DisplayGoes.enters c.at-line.result.now.number (entry_of_display c.in-Some.text) c.in_ok-direct-in-Some.ensures.enters
+returns-in_ok-direct-in-Some-clause-goes c = DisplayGoes.enters c.at-line.result.now.number (entry_of_display c.in-Some.text)
+    c.in_ok-direct-in-Some.ensures.enters
 
 pub returns-in-None-clause-goes : goal.returns-in-None-clause-goes
 returns-in-None-clause-goes c = DisplayGoes.stays refl

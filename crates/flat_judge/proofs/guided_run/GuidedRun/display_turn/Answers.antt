@@ -9,7 +9,8 @@ loop-preserved c = (
   c.in_ok-display_step.ensures.stands,
   c.in_ok-display_step.ensures.place ∙ ap (λ n. n + 1) c.loop.invariant.1,
   c.in_ok-display_step.ensures.seats ∙ c.loop.invariant.2,
-  display-stays c.loop.self.play.board c.display_step.new.self.play.board c.in_ok-display_step.field-0 c.if-branch.false c.in_ok-display_step.ensures.goes ∙ c.loop.invariant.3,
+  display-stays c.loop.self.play.board c.display_step.new.self.play.board c.in_ok-display_step.field-0 c.if-branch.false c.in_ok-display_step.ensures.goes
+      ∙ c.loop.invariant.3,
   c.display_step.ensures.answers ∙ c.loop.invariant.4,
 )
 

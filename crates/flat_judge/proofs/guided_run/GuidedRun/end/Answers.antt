@@ -26,7 +26,8 @@ returns-clause-whole c =
 
 pub returns-clause-grown : goal.returns-clause-grown
 returns-clause-grown c =
-    grown-on _ _ _ c.in_ok-end_display.ensures.grown (grown-on _ _ _ c.in_ok-end_sessions.ensures.grown (grown-none _ _ (ap (λ (m : Machine). m.history) c.in_ok-answer_probes.ensures.board)))
+    grown-on _ _ _ c.in_ok-end_display.ensures.grown (grown-on _ _ _ c.in_ok-end_sessions.ensures.grown
+    (grown-none _ _ (ap (λ (m : Machine). m.history) c.in_ok-answer_probes.ensures.board)))
 
 pub returns-clause-heeds : goal.returns-clause-heeds
 returns-clause-heeds c = λ same heeds.
@@ -37,6 +38,8 @@ returns-clause-heeds c = λ same heeds.
     let history : c.answer_probes.new.self.play.board.history ≡ before = ap (λ (m : Machine). m.history) c.in_ok-answer_probes.ensures.board in
     let many : frames before ≡ n = ap frames (sym history ∙ sym same) in
     let A : List (List ProbeAnswer) → Type 0 = AllHeed script hints n (suc n) in
-    let answers : c.end_sessions.new.self.answers.items ≡ c.args.self.now.answers.items = (λ i. (c.in_ok-end_sessions.ensures.answers i).items) ∙ (λ i. (c.in_ok-end_display.ensures.answers i).items) in
+    let answers : c.end_sessions.new.self.answers.items ≡ c.args.self.now.answers.items =
+    (λ i. (c.in_ok-end_sessions.ensures.answers i).items) ∙ (λ i. (c.in_ok-end_display.ensures.answers i).items) in
     let R : ℕ → Type 0 = λ k. AllHeed script hints n (suc k) c.answer_probes.new.self.answers.items in
-    subst R many (c.in_ok-answer_probes.ensures.heeds n (λ last. sym many) (heeds-before script hints n (suc n) (frames before) c.end_sessions.new.self.answers.items (omega (arith, many)) (subst A (sym answers) heeds)))
+    subst R many (c.in_ok-answer_probes.ensures.heeds n (λ last. sym many)
+    (heeds-before script hints n (suc n) (frames before) c.end_sessions.new.self.answers.items (omega (arith, many)) (subst A (sym answers) heeds)))

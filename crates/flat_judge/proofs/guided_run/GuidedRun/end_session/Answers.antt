@@ -17,8 +17,15 @@ pub loop-init : goal.loop-init
 loop-init c =
     let guided = c.args.self.now in
     let first : Seat = c.index.result.now in
-    let found : first ≡ get_or guided.seats.items c.args.k first = search rules in
-    (c.requires.stands, c.requires.before, (λ seat at unended. let same : first.place ≡ seat.place = ap (λ (p : Seat). p.place) (seat_found guided.seats.items c.args.k first seat c.requires.within found at) in omega (arith, same)), refl, grown-none _ _ refl, refl)
+    let found : first ≡ get_or guided.seats.items c.args.k first = search rules in (
+      c.requires.stands,
+      c.requires.before,
+      (λ seat at unended. let same : first.place ≡ seat.place =
+          ap (λ (p : Seat). p.place) (seat_found guided.seats.items c.args.k first seat c.requires.within found at) in omega (arith, same)),
+      refl,
+      grown-none _ _ refl,
+      refl,
+    )
 
 pub returns-then-index-clause-ended : goal.returns-then-index-clause-ended
 returns-then-index-clause-ended c =
@@ -28,7 +35,8 @@ returns-then-index-clause-ended c =
     let many = c.loop.invariant.0.seats.count in
     let were = c.requires.stands.seats.count in
     ended_more c.args.k guided.seats.items c.loop.invariant.1
-    (λ seat at. sym (ap (λ (p : Seat). p.has_ended) (seat_found guided.seats.items c.args.k first seat (omega (arith, many, were, c.requires.within)) found at)) ∙ c.if-index.true)
+    (λ seat at. sym (ap (λ (p : Seat). p.has_ended) (seat_found guided.seats.items c.args.k first seat (omega (arith, many, were, c.requires.within)) found at))
+    ∙ c.if-index.true)
 
 pub loop-preserved : goal.loop-preserved
 loop-preserved c =
@@ -58,7 +66,8 @@ returns-clause-ended c =
     let were = c.requires.stands.seats.count in
     let last : c.len-end.result ≡ length c.args.script.now.lines = search rules in
     ended_more c.args.k guided.seats.items c.loop.invariant.1
-    (must_end c.args.script.now guided c.args.k c.loop.counter (omega (arith, many, were, c.requires.within)) c.loop.invariant.0 (omega (arith, last, c.loop-test.false)) c.loop.invariant.2)
+    (must_end c.args.script.now guided c.args.k c.loop.counter (omega (arith, many, were, c.requires.within)) c.loop.invariant.0
+    (omega (arith, last, c.loop-test.false)) c.loop.invariant.2)
 
 -- the seat that was looked at hasn't ended
 pub session_turn-requires-clause-open : goal.session_turn-requires-clause-open
@@ -68,4 +77,5 @@ session_turn-requires-clause-open c = λ seat at.
     let found : first ≡ get_or guided.seats.items c.args.k first = search rules in
     let many = c.loop.invariant.0.seats.count in
     let were = c.requires.stands.seats.count in
-    sym (ap (λ (p : Seat). p.has_ended) (seat_found guided.seats.items c.args.k first seat (omega (arith, many, were, c.requires.within)) found at)) ∙ c.if-index.false
+    sym (ap (λ (p : Seat). p.has_ended) (seat_found guided.seats.items c.args.k first seat (omega (arith, many, were, c.requires.within)) found at))
+    ∙ c.if-index.false

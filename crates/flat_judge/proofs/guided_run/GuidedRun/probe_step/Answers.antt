@@ -32,7 +32,8 @@ returns-in_ok-answer-in-Some-clause-stands c =
     let place = c.at-place.result.now in
     let x = c.at-line.result.now in
     let at = at_place script place x c.requires.playable c.at-line.ensures in
-    probe_answers script guided c.args.probe place c.requires.probe c.at-place.ensures (c.requires.within place c.at-place.ensures) x at c.requires.stands c.answer.new.self _ c.in-Some.asked (sym c.asked_here.ensures ∙ c.in-Some.is) c.answer.ensures.others
+    probe_answers script guided c.args.probe place c.requires.probe c.at-place.ensures (c.requires.within place c.at-place.ensures) x at c.requires.stands
+    c.answer.new.self _ c.in-Some.asked (sym c.asked_here.ensures ∙ c.in-Some.is) c.answer.ensures.others
     c.in_ok-answer-in-Some.ensures.last c.in_ok-answer-in-Some.ensures.answers refl refl refl c.set.ensures refl
 
 pub returns-in-None-clause-stands : goal.returns-in-None-clause-stands
@@ -42,7 +43,8 @@ returns-in-None-clause-stands c =
     let place = c.at-place.result.now in
     let x = c.at-line.result.now in
     let at = at_place script place x c.requires.playable c.at-line.ensures in
-    probe_passes script guided c.args.probe place c.requires.probe c.at-place.ensures (c.requires.within place c.at-place.ensures) x at c.requires.stands _ (sym c.asked_here.ensures ∙ c.in-None.is) refl refl refl c.set-in-None.ensures refl
+    probe_passes script guided c.args.probe place c.requires.probe c.at-place.ensures (c.requires.within place c.at-place.ensures) x at c.requires.stands _
+    (sym c.asked_here.ensures ∙ c.in-None.is) refl refl refl c.set-in-None.ensures refl
 
 pub returns-in_ok-answer-in-Some-clause-heeds : goal.returns-in_ok-answer-in-Some-clause-heeds
 returns-in_ok-answer-in-Some-clause-heeds c =
@@ -52,12 +54,15 @@ returns-in_ok-answer-in-Some-clause-heeds c =
     let x = c.at-line.result.now in
     let at = at_place script place x c.requires.playable c.at-line.ensures in
     let due : c.args.is_due ≡ true = search rules in
-    line-answered script guided c.args.probe place c.requires.stands c.at-place.ensures (has_answers script guided c.args.probe c.requires.stands c.requires.probe) x at c.in-Some.asked (sym c.asked_here.ensures ∙ c.in-Some.is)
-    (at_ratio guided.play.last.ratio script.setup) guided.play.last.reuse c.answer.new.self.answers.items c.in_ok-answer-in-Some.ensures.answers c.args.is_due due
+    line-answered script guided c.args.probe place c.requires.stands c.at-place.ensures
+    (has_answers script guided c.args.probe c.requires.stands c.requires.probe) x at c.in-Some.asked (sym c.asked_here.ensures ∙ c.in-Some.is)
+    (at_ratio guided.play.last.ratio script.setup) guided.play.last.reuse c.answer.new.self.answers.items c.in_ok-answer-in-Some.ensures.answers c.args.is_due
+    due
 
 pub returns-in_ok-answer-in-Some-clause-others : goal.returns-in_ok-answer-in-Some-clause-others
 returns-in_ok-answer-in-Some-clause-others c = λ n apart.
-    ap (λ (os : List (List ProbeAnswer)). slice_get os n) c.in_ok-answer-in-Some.ensures.answers ∙ got-other c.args.self.now.answers.items c.args.probe n _ apart
+    ap (λ (os : List (List ProbeAnswer)). slice_get os n) c.in_ok-answer-in-Some.ensures.answers
+    ∙ got-other c.args.self.now.answers.items c.args.probe n _ apart
 
 pub returns-in-None-clause-heeds : goal.returns-in-None-clause-heeds
 returns-in-None-clause-heeds c = λ last named one could at due has.
@@ -66,7 +71,8 @@ returns-in-None-clause-heeds c = λ last named one could at due has.
 pub returns-then-not-is_due-clause-heeds : goal.returns-then-not-is_due-clause-heeds
 returns-then-not-is_due-clause-heeds c = λ last named one could at due has.
     let waits : c.args.is_due ≡ false = search rules in
-    behind-waits c.args.script.now last c.args.probe (frames c.args.self.now.play.board.history) named one c.args.self.now.answers.items could at (sym due ∙ waits) has
+    behind-waits c.args.script.now last c.args.probe (frames c.args.self.now.play.board.history) named one c.args.self.now.answers.items could at
+    (sym due ∙ waits) has
 
 pub returns-in_ok-answer-in-Some-clause-goes : goal.returns-in_ok-answer-in-Some-clause-goes
 returns-in_ok-answer-in-Some-clause-goes c =
@@ -74,4 +80,5 @@ returns-in_ok-answer-in-Some-clause-goes c =
     let place = c.at-place.result.now in
     let same : c.answer.new.self.places ≡ guided.places = ap (λ (r : GuidedRun). r.places) c.answer.ensures.others in
     let P : List ℕ → Type 0 = λ ps. ProbeGoes c.args.probe c.args.is_due true guided.places ps in
-    subst P (ap (λ (ps : List ℕ). slice_set ps c.args.probe (place + 1)) (sym same) ∙ sym c.set.ensures) (probe-goes guided.places c.args.probe place c.args.is_due c.requires.probe c.at-place.ensures)
+    subst P (ap (λ (ps : List ℕ). slice_set ps c.args.probe (place + 1)) (sym same) ∙ sym c.set.ensures)
+    (probe-goes guided.places c.args.probe place c.args.is_due c.requires.probe c.at-place.ensures)

@@ -19,17 +19,22 @@ hear-requires-clause-owned c =
     let script = c.args.script.now in
     let seat = c.args.self.now in
     let x : ScriptLine = c.at-line.result.now in
-    let own : IsOwn c.args.s x.actor x.body c.in-Some.text.now = own_is c.args.s x.actor x.body c.in-Some.text.now (sym c.own_text.ensures ∙ ap option_copied c.in-Some.is) in
-    let h = here script c.args.s seat.place x.number c.in-Some.text.now c.requires.playable (own_at script seat.place x c.args.s c.in-Some.text.now c.at-line.ensures own) in
-    reader_owns script c.args.s c.args.board.now seat.reader c.requires.setup c.requires.sits.stands.session (λ setup s. is_played_line setup s c.in-Some.text.now ≡ true) h.played
+    let own : IsOwn c.args.s x.actor x.body c.in-Some.text.now =
+    own_is c.args.s x.actor x.body c.in-Some.text.now (sym c.own_text.ensures ∙ ap option_copied c.in-Some.is) in
+    let h = here script c.args.s seat.place x.number c.in-Some.text.now c.requires.playable
+    (own_at script seat.place x c.args.s c.in-Some.text.now c.at-line.ensures own) in
+    reader_owns script c.args.s c.args.board.now seat.reader c.requires.setup c.requires.sits.stands.session
+    (λ setup s. is_played_line setup s c.in-Some.text.now ≡ true) h.played
 
 pub hear-requires-clause-share : goal.hear-requires-clause-share
 hear-requires-clause-share c =
     let script = c.args.script.now in
     let seat = c.args.self.now in
     let x : ScriptLine = c.at-line.result.now in
-    let own : IsOwn c.args.s x.actor x.body c.in-Some.text.now = own_is c.args.s x.actor x.body c.in-Some.text.now (sym c.own_text.ensures ∙ ap option_copied c.in-Some.is) in
-    let h = here script c.args.s seat.place x.number c.in-Some.text.now c.requires.playable (own_at script seat.place x c.args.s c.in-Some.text.now c.at-line.ensures own) in
+    let own : IsOwn c.args.s x.actor x.body c.in-Some.text.now =
+    own_is c.args.s x.actor x.body c.in-Some.text.now (sym c.own_text.ensures ∙ ap option_copied c.in-Some.is) in
+    let h = here script c.args.s seat.place x.number c.in-Some.text.now c.requires.playable
+    (own_at script seat.place x c.args.s c.in-Some.text.now c.at-line.ensures own) in
     let S : SessionNo → Type 0 = λ s. HasShare c.args.board.now (Session s) in
     subst S (sym c.requires.sits.stands.session) (share script c.args.s c.args.board.now seat c.requires.shares h.declared c.requires.sits)
 
@@ -58,7 +63,8 @@ returns-in_ok-made-in-Some-clause-sits c =
     let line : ScriptLine = record { number = x.number; actor = Session c.args.s; body = body.Session text } in
     let h = here script c.args.s seat.place x.number text c.requires.playable there in
     let reads = c.in_ok-made-in-Some.ensures.reads in
-    read_on script c.args.s x.number text reads.0 c.args.board.now c.hear.new.board seat c.hear.new.reader c.requires.setup h c.requires.sits reads.1 c.lines_are_read.ensures.more c.in_ok-made-in-Some.ensures.stands
+    read_on script c.args.s x.number text reads.0 c.args.board.now c.hear.new.board seat c.hear.new.reader c.requires.setup h c.requires.sits reads.1
+    c.lines_are_read.ensures.more c.in_ok-made-in-Some.ensures.stands
     (at_place script seat.place line c.requires.playable there) c.requires.within _ refl refl
 
 pub returns-in_ok-made-in-Some-clause-goes : goal.returns-in_ok-made-in-Some-clause-goes

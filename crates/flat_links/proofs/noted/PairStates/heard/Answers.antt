@@ -21,12 +21,15 @@ loop-p-preserved c =
     let rest : List PairNo = drop (i + 1) all in
     let is : drop i all ≡ p ∷ rest = drop-is all i none c.loop-p-test.true in
     let states = c.self.inside.states.items in
-    let hears = subst (λ (pairs : List PairState). HearsOne c.args.setup.now p pairs c.loop-p.heard c.hear_one.new.heard) c.as_slice.ensures.value c.hear_one.ensures in
-    heard-next p rest c.loop-p.heard c.hear_one.new.heard c.args.setup.now states hears (subst (λ (l : List PairNo). AreHeardBut l c.loop-p.heard c.args.setup.now states) is c.loop-p.invariant)
+    let hears = subst (λ (pairs : List PairState). HearsOne c.args.setup.now p pairs c.loop-p.heard c.hear_one.new.heard) c.as_slice.ensures.value
+    c.hear_one.ensures in
+    heard-next p rest c.loop-p.heard c.hear_one.new.heard c.args.setup.now states hears
+    (subst (λ (l : List PairNo). AreHeardBut l c.loop-p.heard c.args.setup.now states) is c.loop-p.invariant)
 
 pub returns : goal.returns
 returns c =
     let none : drop c.loop-p.p-index c.as_slice-p-items.result.now ≡ [] = drop-end c.as_slice-p-items.result.now c.loop-p.p-index c.loop-p-test.false in
     let states = c.self.inside.states.items in
     let P : KeptPairs → Type 0 = λ kept. AreSettledBut c.loop-p.heard c.args.setup.now kept.items in
-    subst P c.self.view_is (heard-last c.loop-p.heard c.args.setup.now states (subst (λ (l : List PairNo). AreHeardBut l c.loop-p.heard c.args.setup.now states) none c.loop-p.invariant))
+    subst P c.self.view_is (heard-last c.loop-p.heard c.args.setup.now states
+    (subst (λ (l : List PairNo). AreHeardBut l c.loop-p.heard c.args.setup.now states) none c.loop-p.invariant))

@@ -21,8 +21,10 @@ loop-i-init c = record {
   losing = ap losings c.find_connected.ensures.items;
   bound = λ h tied. tied.bound;
   connected = c.find_connected.ensures.connected;
-  followed = λ h line time begins tied. rw c.find_connected.ensures.items (followed-start c.args.setup.now h (begun h line time) c.args.self.now.followings.items tied.each_session);
-  each = λ h line time begins tied. pairs-start c.args.setup.now h line time c.args.sessions.now c.args.shown.now begins c.args.self.now.pairs.items tied.each_pair;
+  followed = λ h line time begins tied. rw c.find_connected.ensures.items
+      (followed-start c.args.setup.now h (begun h line time) c.args.self.now.followings.items tied.each_session);
+  each = λ h line time begins tied. pairs-start c.args.setup.now h line time c.args.sessions.now c.args.shown.now begins c.args.self.now.pairs.items
+      tied.each_pair;
 }
 
 pub loop-i-preserved : goal.loop-i-preserved
@@ -32,30 +34,41 @@ loop-i-preserved c =
     let was : Following = c.at-one.result in
     let sight = c.see_session-sight.ensures c.args.setup.now (c.is_connected-connected.ensures ∙ inv.connected i) in
     let new : Following = record was { begun = c.see_session-sight.result } in
-    let items : c.set.new.self.items ≡ slice_set c.loop-i.self.followings.items i new = c.set.ensures.items ∙ ap (slice_set c.loop-i.self.followings.items i) c.begun_by.ensures in
+    let items : c.set.new.self.items ≡ slice_set c.loop-i.self.followings.items i new =
+    c.set.ensures.items ∙ ap (slice_set c.loop-i.self.followings.items i) c.begun_by.ensures in
     let below : c.loop-i.i < length c.loop-i.self.followings.items = omega (arith, inv.count, c.loop-i-test.true) in
     record {
       count = ap (length {A = Following}) items ∙ length-set c.loop-i.self.followings.items i new ∙ inv.count;
       many = c.see_taken.ensures.count ∙ inv.many;
       losing = ap losings items ∙ losings-same c.loop-i.self.followings.items i was new c.at-one.ensures refl ∙ inv.losing;
-      bound = λ h tied. bounds-seen c.args.setup.now (losings c.args.self.now.followings.items) _ c.loop-i.self.pairs.items c.see_taken.new.pairs.items c.see_taken.ensures (inv.bound h tied);
+      bound = λ h tied. bounds-seen c.args.setup.now (losings c.args.self.now.followings.items) _ c.loop-i.self.pairs.items c.see_taken.new.pairs.items
+          c.see_taken.ensures (inv.bound h tied);
       connected = λ j. ap (λ (known : List (Option ℕ)). is_some (slice_index_or known j None)) c.set.ensures.distances ∙ inv.connected j;
       followed = λ h line time begins tied.
-          let on = begun-on c.args.setup.now h line time c.args.sessions.now c.args.shown.now begins i c.loop-i.self.followings.items was c.index-sessions-i.result c.loop-i-test.true c.requires.all inv.count c.index-sessions-i.is c.at-one.ensures (inv.followed h line time begins tied) in
+          let on = begun-on c.args.setup.now h line time c.args.sessions.now c.args.shown.now begins i c.loop-i.self.followings.items was
+          c.index-sessions-i.result c.loop-i-test.true c.requires.all inv.count c.index-sessions-i.is c.at-one.ensures
+          (inv.followed h line time begins tied) in
           subst (λ (fs : List Following). AllNumbered (FollowedUpTo c.args.setup.now h (begun h line time) (c.loop-i.i + 1)) fs) (sym items)
-          (subst (λ (g : Sight). AllNumbered (FollowedUpTo c.args.setup.now h (begun h line time) (c.loop-i.i + 1)) (slice_set c.loop-i.self.followings.items c.loop-i.i (let new : Following = record c.at-one.result { begun = g } in new))) (sym sight) on);
+          (subst (λ (g : Sight). AllNumbered (FollowedUpTo c.args.setup.now h (begun h line time) (c.loop-i.i + 1))
+          (slice_set c.loop-i.self.followings.items c.loop-i.i (let new : Following = record c.at-one.result { begun = g } in new))) (sym sight) on);
       each = λ h line time begins tied.
-          let here = sight ∙ sight-at c.args.setup.now h line time c.args.sessions.now c.args.shown.now begins i c.index-sessions-i.result c.loop-i-test.true c.requires.all c.index-sessions-i.is in
-          let looked = looked-at c.args.setup.now h line time c.args.sessions.now c.args.shown.now begins i c.loop-i.self.followings.items was c.see_session-sight.result below c.loop-i-test.true c.at-one.ensures (inv.followed h line time begins tied) here in
+          let here = sight ∙ sight-at c.args.setup.now h line time c.args.sessions.now c.args.shown.now begins i c.index-sessions-i.result c.loop-i-test.true
+          c.requires.all c.index-sessions-i.is in
+          let looked = looked-at c.args.setup.now h line time c.args.sessions.now c.args.shown.now begins i c.loop-i.self.followings.items was
+          c.see_session-sight.result below c.loop-i-test.true c.at-one.ensures (inv.followed h line time begins tied) here in
           pairs-on c.args.setup.now h line time c.args.sessions.now c.args.shown.now begins i c.loop-i.self.pairs.items c.see_taken.new.pairs.items
-          (subst (λ (us : List ViewportUse). SeesUses us c.loop-i.self.pairs.items c.see_taken.new.pairs.items) looked c.see_taken.ensures) (inv.each h line time begins tied);
+          (subst (λ (us : List ViewportUse). SeesUses us c.loop-i.self.pairs.items c.see_taken.new.pairs.items) looked c.see_taken.ensures)
+          (inv.each h line time begins tied);
     }
 
 pub returns-clause-tied : goal.returns-clause-tied
 returns-clause-tied c h line time begins tied =
     let inv = c.loop-i.invariant in
     let all : c.loop-i.i ≡ c.args.setup.now.sessions = omega (arith, c.loop-i.auto.i-end, c.loop-i-test.false) in
-    tied-begun c.args.setup.now h line time c.args.sessions.now c.args.shown.now begins c.loop-i.self.followings.items c.loop-i.self.pairs.items inv.count (inv.many ∙ tied.count)
-    (subst (λ (n : ℕ). AllNumbered (FollowedUpTo c.args.setup.now h (begun h line time) n) c.loop-i.self.followings.items) all (inv.followed h line time begins tied))
-    (subst (λ (n : ℕ). AllNumbered (λ j. PairUpTo c.args.setup.now h (begun h line time) n (pair j)) c.loop-i.self.pairs.items) all (inv.each h line time begins tied))
+    tied-begun c.args.setup.now h line time c.args.sessions.now c.args.shown.now begins c.loop-i.self.followings.items c.loop-i.self.pairs.items inv.count
+    (inv.many ∙ tied.count)
+    (subst (λ (n : ℕ). AllNumbered (FollowedUpTo c.args.setup.now h (begun h line time) n) c.loop-i.self.followings.items) all
+    (inv.followed h line time begins tied))
+    (subst (λ (n : ℕ). AllNumbered (λ j. PairUpTo c.args.setup.now h (begun h line time) n (pair j)) c.loop-i.self.pairs.items) all
+    (inv.each h line time begins tied))
     (subst (λ (l : List (Option ℕ)). AllNumbered (λ j. IsBound c.args.setup.now l (pair j)) c.loop-i.self.pairs.items) (sym inv.losing) (inv.bound h tied))

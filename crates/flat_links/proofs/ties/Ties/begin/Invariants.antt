@@ -14,9 +14,13 @@ abbrev pub invariant-loop-i : goal.invariant-loop-i
 invariant-loop-i l = record {
   count : length l.self.followings.items ≡ l.setup.sessions;
   many : length l.self.pairs.items ≡ length l.fn.self.pairs.items;
-  followed : (h : List Entry) (line time : ℕ) → IsBegun l.setup h line time l.sessions l.shown → AreTied l.setup h l.fn.self.followings.items l.fn.self.pairs.items → AllNumbered (FollowedUpTo l.setup h (begun h line time) l.i) l.self.followings.items;
+  followed : (h : List Entry) (line time : ℕ) → IsBegun l.setup h line time l.sessions l.shown
+      → AreTied l.setup h l.fn.self.followings.items l.fn.self.pairs.items
+      → AllNumbered (FollowedUpTo l.setup h (begun h line time) l.i) l.self.followings.items;
   losing : losings l.self.followings.items ≡ losings l.fn.self.followings.items;
-  bound : (h : List Entry) → AreTied l.setup h l.fn.self.followings.items l.fn.self.pairs.items → AllNumbered (λ j. IsBound l.setup (losings l.fn.self.followings.items) (pair j)) l.self.pairs.items;
+  bound : (h : List Entry) → AreTied l.setup h l.fn.self.followings.items l.fn.self.pairs.items
+      → AllNumbered (λ j. IsBound l.setup (losings l.fn.self.followings.items) (pair j)) l.self.pairs.items;
   connected : (i : ℕ) → is_some (slice_index_or l.self.followings.distances i None) ≡ is_joined l.setup l.shown (i + 1);
-  each : (h : List Entry) (line time : ℕ) → IsBegun l.setup h line time l.sessions l.shown → AreTied l.setup h l.fn.self.followings.items l.fn.self.pairs.items → AllNumbered (λ j. PairUpTo l.setup h (begun h line time) l.i (pair j)) l.self.pairs.items;
+  each : (h : List Entry) (line time : ℕ) → IsBegun l.setup h line time l.sessions l.shown → AreTied l.setup h l.fn.self.followings.items l.fn.self.pairs.items
+      → AllNumbered (λ j. PairUpTo l.setup h (begun h line time) l.i (pair j)) l.self.pairs.items;
 }

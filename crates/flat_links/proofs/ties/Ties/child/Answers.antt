@@ -5,6 +5,8 @@ use Rattle.flat_links.proofs.ties.Ties.child.Goals as goal
 
 pub returns : goal.returns
 returns c h n tied legal =
-    let kept = pair-of c.args.setup.now h c.args.self.now.followings.items c.args.self.now.pairs.items c.args.p c.state.result tied c.requires.known c.state.ensures in
+    let kept = pair-of c.args.setup.now h c.args.self.now.followings.items c.args.self.now.pairs.items c.args.p c.state.result tied c.requires.known
+    c.state.ensures in
     c.child_by.ensures ∙ ap (λ (b : Bool). child_by b c.is_pair.result) c.is_lost.ensures ∙ ap (child_by _) c.is_pair.ensures
-    ∙ child-kept c.args.setup.now h c.args.p n c.at.result.now c.at.ensures c.state.result kept c.last_sight-owner.result (c.last_sight-owner.ensures c.args.setup.now h tied legal)
+    ∙ child-kept c.args.setup.now h c.args.p n c.at.result.now c.at.ensures c.state.result kept c.last_sight-owner.result
+    (c.last_sight-owner.ensures c.args.setup.now h tied legal)

@@ -12,4 +12,12 @@ returns-clause-others c h line s legal tied ratio some few out = by_all c.if-rat
   where
     by_all : (b : Bool) → c.if-ratio_changes.hearers ≡ b → TellsTheSame c.args.setup.now h (finished h line) s
     by_all true all = let wrong : true ≡ false = sym (c.hearers.ensures.all s.0 all some few) ∙ out in cc
-    by_all false none = elim c.if-ratio_changes.branch [ then-ratio_changes w ↦ (let wrong : false ≡ true = sym none ∙ w.hearers-is ∙ w.if-ratio_changes.true in cc) | else-ratio_changes w ↦ (let unheard : is_member c.heard-heard.result s.0 ≡ false = sym (ap (λ (set : SessionSet). is_member set s.0) (c.hearers.ensures.heard none)) ∙ out in tells-the-same c.args.setup.now h line legal c.args.self.now.followings.items c.args.self.now.pairs.items tied (c.may_tell-tells.ensures (sym w.hearers-is ∙ none)) (ratio w.if-ratio_changes.false) s (λ i d below owner. c.heard-heard.ensures i d s below owner some few unheard)) ]
+    by_all false none = elim c.if-ratio_changes.branch [
+      | then-ratio_changes w ↦
+          (let wrong : false ≡ true = sym none ∙ w.hearers-is ∙ w.if-ratio_changes.true in cc)
+      | else-ratio_changes w ↦
+          (let unheard : is_member c.heard-heard.result s.0 ≡ false = sym (ap (λ (set : SessionSet). is_member set s.0) (c.hearers.ensures.heard none)) ∙ out in
+          tells-the-same c.args.setup.now h line legal c.args.self.now.followings.items c.args.self.now.pairs.items tied
+          (c.may_tell-tells.ensures (sym w.hearers-is ∙ none)) (ratio w.if-ratio_changes.false) s
+          (λ i d below owner. c.heard-heard.ensures i d s below owner some few unheard))
+    ]

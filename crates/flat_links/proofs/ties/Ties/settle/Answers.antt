@@ -24,7 +24,8 @@ loop-i-preserved c =
     let inv = c.loop-i.invariant in
     let was : Following = c.at-one.result in
     let new : Following = record was { finished = was.begun } in
-    let items : c.set.new.self.items ≡ slice_set c.loop-i.self.followings.items c.loop-i.i new = c.set.ensures.items ∙ ap (slice_set c.loop-i.self.followings.items c.loop-i.i) c.finished_by.ensures in
+    let items : c.set.new.self.items ≡ slice_set c.loop-i.self.followings.items c.loop-i.i new =
+    c.set.ensures.items ∙ ap (slice_set c.loop-i.self.followings.items c.loop-i.i) c.finished_by.ensures in
     let below : c.loop-i.i < length c.loop-i.self.followings.items = omega (arith, inv.count, c.loop-i-test.true) in
     record {
       count = ap (length {A = Following}) items ∙ length-set c.loop-i.self.followings.items c.loop-i.i new ∙ inv.count;
@@ -40,5 +41,7 @@ returns-clause-tied c h line legal tied =
     let inv = c.loop-i.invariant in
     let all : c.loop-i.i ≡ c.args.setup.now.sessions = omega (arith, c.loop-i.auto.i-end, c.loop-i-test.false) in
     let settles = subst (λ (pairs : List PairState). SettlesPairs pairs c.settle.new.self.items) inv.pairs c.settle.ensures in
-    tied-finished c.args.setup.now h line legal c.args.self.now.followings.items c.loop-i.self.followings.items c.args.self.now.pairs.items c.settle.new.self.items tied inv.count
-    (subst (λ (n : ℕ). AllNumbered (FollowedUpTo c.args.setup.now h (finished h line) n) c.loop-i.self.followings.items) all (inv.followed h line legal tied)) inv.losing settles
+    tied-finished c.args.setup.now h line legal c.args.self.now.followings.items c.loop-i.self.followings.items c.args.self.now.pairs.items
+    c.settle.new.self.items tied inv.count
+    (subst (λ (n : ℕ). AllNumbered (FollowedUpTo c.args.setup.now h (finished h line) n) c.loop-i.self.followings.items) all (inv.followed h line legal tied))
+    inv.losing settles

@@ -13,5 +13,6 @@ invariant-loop-i l = record {
   count : length l.self.followings.items ≡ l.setup.sessions;
   pairs : l.self.pairs.items ≡ l.fn.self.pairs.items;
   losing : losings l.self.followings.items ≡ losings l.fn.self.followings.items;
-  followed : (h : List Entry) (line : ℕ) → Legal l.setup (finished h line) → AreTied l.setup h l.fn.self.followings.items l.fn.self.pairs.items → AllNumbered (FollowedUpTo l.setup h (finished h line) l.i) l.self.followings.items;
+  followed : (h : List Entry) (line : ℕ) → Legal l.setup (finished h line) → AreTied l.setup h l.fn.self.followings.items l.fn.self.pairs.items
+      → AllNumbered (FollowedUpTo l.setup h (finished h line) l.i) l.self.followings.items;
 }

@@ -16,7 +16,8 @@ loop-call-preserved c =
     let call = c.call-item.result in
     let rest : List Call = drop (i + 1) calls in
     let is : drop i calls ≡ call ∷ rest = drop-is calls i call c.loop-call-test.true ∙ ap (λ (x : Call). x ∷ rest) (sym c.call-item.is) in
-    let left = left-next call (drop i calls) rest c.args.presents c.loop-call.self.live.items c.note_one.new.self.live.items _ c.loop-call.self.out.items c.note_one.new.self.out.items _ is e.live e.out inv.live inv.out in
+    let left = left-next call (drop i calls) rest c.args.presents c.loop-call.self.live.items c.note_one.new.self.live.items _ c.loop-call.self.out.items
+    c.note_one.new.self.out.items _ is e.live e.out inv.live inv.out in
     record {
       live = left.live;
       out = left.out;

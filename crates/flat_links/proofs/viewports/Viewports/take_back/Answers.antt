@@ -12,5 +12,6 @@ pub returns-clause-due : goal.returns-clause-due
 returns-clause-due c =
     let outs = c.args.self.now.out.items in
     let is : length c.retain.new.self.items ≡ length (still_out c.args.taken outs) = ap (length {A = OutToken}) (returns-clause-out c) in
-    let count : c.post_back-count.result ≡ length (back_events c.args.taken outs) = c.post_back-count.ensures.count ∙ ap (λ (l : List OutToken). length (back_events c.args.taken l)) c.as_slice.ensures.value in
+    let count : c.post_back-count.result ≡ length (back_events c.args.taken outs) =
+    c.post_back-count.ensures.count ∙ ap (λ (l : List OutToken). length (back_events c.args.taken l)) c.as_slice.ensures.value in
     omega (arith, back-or-out c.args.taken outs, is, count)

@@ -22,10 +22,12 @@ returns-in-CreateViewport-clause-live c =
     let calls = c.args.calls.now in
     let it = c.in-CreateViewport in
     let one = last-some c.args.p calls (slice_get calls (length calls - 1)) refl c.requires.last in
-    let at : slice_get calls (length calls - 1) ≡ Some (CreateViewport it.c it.pair it.w it.h it.inset) = one.1 ∙ ap Some (sym (c.index-calls-place.is ∙ at-get calls (length calls - 1) one.0 c.index-calls-place.result one.1) ∙ it.is) in
+    let at : slice_get calls (length calls - 1) ≡ Some (CreateViewport it.c it.pair it.w it.h it.inset) =
+    one.1 ∙ ap Some (sym (c.index-calls-place.is ∙ at-get calls (length calls - 1) one.0 c.index-calls-place.result one.1) ∙ it.is) in
     let is : IsUseCall c.args.p calls it.c it.w it.h it.inset = use-of c.args.p calls it.c it.pair it.w it.h it.inset c.requires.last at in
     let new : List Live = record { name = it.c; pair = c.args.p } ∷ [] in
-    c.join.ensures.live ∙ ap (λ (l : List Live). l ++ new) (c.note_calls.ensures.live ∙ ap (lives_after c.args.self.now.live.items) (but-last calls one.0 one.1))
+    c.join.ensures.live ∙ ap (λ (l : List Live). l ++ new)
+    (c.note_calls.ensures.live ∙ ap (lives_after c.args.self.now.live.items) (but-last calls one.0 one.1))
     ∙ sym (lives-used c.args.p calls it.c it.w it.h it.inset is c.args.self.now.live.items)
 
 pub returns-in-CreateViewport-clause-out : goal.returns-in-CreateViewport-clause-out
@@ -33,13 +35,15 @@ returns-in-CreateViewport-clause-out c =
     let calls = c.args.calls.now in
     let it = c.in-CreateViewport in
     let one = last-some c.args.p calls (slice_get calls (length calls - 1)) refl c.requires.last in
-    let at : slice_get calls (length calls - 1) ≡ Some (CreateViewport it.c it.pair it.w it.h it.inset) = one.1 ∙ ap Some (sym (c.index-calls-place.is ∙ at-get calls (length calls - 1) one.0 c.index-calls-place.result one.1) ∙ it.is) in
+    let at : slice_get calls (length calls - 1) ≡ Some (CreateViewport it.c it.pair it.w it.h it.inset) =
+    one.1 ∙ ap Some (sym (c.index-calls-place.is ∙ at-get calls (length calls - 1) one.0 c.index-calls-place.result one.1) ∙ it.is) in
     let is : IsUseCall c.args.p calls it.c it.w it.h it.inset = use-of c.args.p calls it.c it.pair it.w it.h it.inset c.requires.last at in
     let lives = c.args.self.now.live.items in
     let outs = c.args.self.now.out.items in
     let token : OutToken = record { pair = c.args.p; released = None } in
     c.join.ensures.out
-    ∙ ap (with_out token) (c.note_calls.ensures.out ∙ ap (λ (cs : List Call). map (marked lives cs c.args.presents) outs) (but-last calls one.0 one.1) ∙ sym (marks-used c.args.p calls it.c it.w it.h it.inset is lives c.args.presents outs))
+    ∙ ap (with_out token) (c.note_calls.ensures.out ∙ ap (λ (cs : List Call). map (marked lives cs c.args.presents) outs) (but-last calls one.0 one.1)
+    ∙ sym (marks-used c.args.p calls it.c it.w it.h it.inset is lives c.args.presents outs))
 
 pub join-requires-clause-room_live : goal.join-requires-clause-room_live
 join-requires-clause-room_live c =
@@ -47,7 +51,8 @@ join-requires-clause-room_live c =
     let lives = c.args.self.now.live.items in
     let one = last-some c.args.p calls (slice_get calls (length calls - 1)) refl c.requires.last in
     let few : length (lives_after lives (all_but_last calls)) ≤ length lives = lives-fewer lives (all_but_last calls) c.requires.others in
-    let long : length c.note_calls.new.self.live.items ≡ length (lives_after lives (all_but_last calls)) = ap (length {A = Live}) (c.note_calls.ensures.live ∙ ap (lives_after lives) (but-last calls one.0 one.1)) in
+    let long : length c.note_calls.new.self.live.items ≡ length (lives_after lives (all_but_last calls)) =
+    ap (length {A = Live}) (c.note_calls.ensures.live ∙ ap (lives_after lives) (but-last calls one.0 one.1)) in
     omega (arith, few, long, c.note_calls.ensures.room_live, c.requires.room_live)
 
 pub returns-in_default : goal.returns-in_default

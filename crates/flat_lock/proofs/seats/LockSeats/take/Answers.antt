@@ -16,4 +16,5 @@ returns-clause-away g c = rw (← c.self.view_is) (seats_with c.self.inside.of.v
 
 pub returns-clause-refused : goal.returns-clause-refused
 returns-clause-refused g c =
-    rw (← c.self.view_is) (none_taken c.self.inside.of.value c.self.inside.seats.items c.args.i c.in_ok-home.home.now c.take.result c.take.new.self c.take.ensures.value (c.in_ok-home.ensures.item.3.1 None) c.take.ensures.after)
+    rw (← c.self.view_is) (none_taken c.self.inside.of.value c.self.inside.seats.items c.args.i c.in_ok-home.home.now c.take.result c.take.new.self
+    c.take.ensures.value (c.in_ok-home.ensures.item.3.1 None) c.take.ensures.after)

@@ -6,13 +6,15 @@ use Rattle.flat_places.proofs.lemmas.ReadsLemmas.{all_read, none_read, one_more,
 use Rattle.flat_places.proofs.places.Places.regions.Goals as goal
 
 pub loop-self-smaller : goal.loop-self-smaller
-loop-self-smaller c = region_shorter (left c.loop-self.self) (left c.region-one.new.self) (some_left c.loop-self.self.words (sym c.is_some.ensures ∙ c.loop-self-test.true)) c.region-one.ensures.words
+loop-self-smaller c = region_shorter (left c.loop-self.self) (left c.region-one.new.self)
+    (some_left c.loop-self.self.words (sym c.is_some.ensures ∙ c.loop-self-test.true)) c.region-one.ensures.words
 
 pub loop-self-preserved : goal.loop-self-preserved
 loop-self-preserved c =
     let some = some_left c.loop-self.self.words (sym c.is_some.ensures ∙ c.loop-self-test.true) in
     ap (λ items. lower (sofar c.region-one.new.self) (mapped (λ r. items ++ r) (regions (left c.region-one.new.self)))) c.in_ok-push.ensures.ok
-    ∙ one_more regions region c.loop-self.found c.region-one.result (sofar c.loop-self.self) (sofar c.region-one.new.self) (left c.loop-self.self) (left c.region-one.new.self)
+    ∙ one_more regions region c.loop-self.found c.region-one.result (sofar c.loop-self.self) (sofar c.region-one.new.self) (left c.loop-self.self)
+    (left c.region-one.new.self)
     (regions_step (left c.loop-self.self) some) c.region-one.ensures.words c.region-one.ensures.outcome
     ∙ c.loop-self.invariant
 

@@ -6,13 +6,15 @@ use Rattle.flat_places.proofs.lemmas.ReadsLemmas.{all_read, none_read, one_more,
 use Rattle.flat_places.proofs.places.Places.transforms.Goals as goal
 
 pub loop-self-smaller : goal.loop-self-smaller
-loop-self-smaller c = transform_shorter (left c.loop-self.self) (left c.transform-one.new.self) (some_left c.loop-self.self.words (sym c.is_some.ensures ∙ c.loop-self-test.true)) c.transform-one.ensures.words
+loop-self-smaller c = transform_shorter (left c.loop-self.self) (left c.transform-one.new.self)
+    (some_left c.loop-self.self.words (sym c.is_some.ensures ∙ c.loop-self-test.true)) c.transform-one.ensures.words
 
 pub loop-self-preserved : goal.loop-self-preserved
 loop-self-preserved c =
     let some = some_left c.loop-self.self.words (sym c.is_some.ensures ∙ c.loop-self-test.true) in
     ap (λ items. lower (sofar c.transform-one.new.self) (mapped (λ r. items ++ r) (transforms (left c.transform-one.new.self)))) c.in_ok-push.ensures.ok
-    ∙ one_more transforms transform c.loop-self.found c.transform-one.result (sofar c.loop-self.self) (sofar c.transform-one.new.self) (left c.loop-self.self) (left c.transform-one.new.self)
+    ∙ one_more transforms transform c.loop-self.found c.transform-one.result (sofar c.loop-self.self) (sofar c.transform-one.new.self) (left c.loop-self.self)
+    (left c.transform-one.new.self)
     (transforms_step (left c.loop-self.self) some) c.transform-one.ensures.words c.transform-one.ensures.outcome
     ∙ c.loop-self.invariant
 

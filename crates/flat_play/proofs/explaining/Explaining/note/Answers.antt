@@ -21,7 +21,8 @@ returns-then-len-entries-clause-stands c =
     let before : length old ≡ c.args.entries = c.requires.before.2 in
     let many = c.len.ensures in
     let S : Explaining → Type 0 = λ e. StandsExplained script old e in
-    same-explained script c.requires.before.1 old history c.in-On.whys (omega (arith, long, whole, before, many, c.if-len-entries.true)) c.requires.before.3 (subst S c.in-On.is c.requires.before.4)
+    same-explained script c.requires.before.1 old history c.in-On.whys (omega (arith, long, whole, before, many, c.if-len-entries.true)) c.requires.before.3
+    (subst S c.in-On.is c.requires.before.4)
 
 pub note-requires-clause-before : goal.note-requires-clause-before
 note-requires-clause-before c =
@@ -34,7 +35,8 @@ note-requires-clause-before c =
     let before : length old ≡ c.args.entries = c.requires.before.2 in
     let many = c.len.ensures in
     let S : Explaining → Type 0 = λ e. StandsExplained script old e in
-    more-explained script c.requires.before.1 old history c.in-On.whys (λ same. c.if-len-entries.false (omega (arith, long, whole, before, many, same))) c.requires.before.3 (subst S c.in-On.is c.requires.before.4)
+    more-explained script c.requires.before.1 old history c.in-On.whys (λ same. c.if-len-entries.false (omega (arith, long, whole, before, many, same)))
+    c.requires.before.3 (subst S c.in-On.is c.requires.before.4)
 
 -- ---- the picture of a frame
 
@@ -43,7 +45,8 @@ push-requires-clause-items c =
     let script = c.args.script.now in
     let history : List Entry = c.args.play.now.board.history in
     let old : List Entry = c.requires.before.0 in
-    let one = one-more c.items_are_drawable.ensures script c.requires.before.1 old history (λ same. c.if-play-frame.false (c.requires.number ∙ same ∙ c.requires.before.5)) c.requires.before.3 in
+    let one = one-more c.items_are_drawable.ensures script c.requires.before.1 old history
+    (λ same. c.if-play-frame.false (c.requires.number ∙ same ∙ c.requires.before.5)) c.requires.before.3 in
     let found = last-one script old history one _ (c.last.ensures script (finished script.setup history) c.requires.keeps) in
     let some : Some c.in-Some.frame.now ≡ Some one.frame = sym (ap option_copied c.in-Some.is) ∙ found in
     let same : c.in-Some.frame.now ≡ one.frame = cc in
@@ -55,7 +58,8 @@ unreachable-requires c =
     let script = c.args.script.now in
     let history : List Entry = c.args.play.now.board.history in
     let old : List Entry = c.requires.before.0 in
-    let one = one-more c.items_are_drawable.ensures script c.requires.before.1 old history (λ same. c.if-play-frame.false (c.requires.number ∙ same ∙ c.requires.before.5)) c.requires.before.3 in
+    let one = one-more c.items_are_drawable.ensures script c.requires.before.1 old history
+    (λ same. c.if-play-frame.false (c.requires.number ∙ same ∙ c.requires.before.5)) c.requires.before.3 in
     let found = last-one script old history one _ (c.last.ensures script (finished script.setup history) c.requires.keeps) in
     let none : ◌≡◌ {A = Option FrameOut} None (Some one.frame) = sym (ap option_copied c.in-None.is) ∙ found in
     cc
@@ -65,7 +69,8 @@ returns-in-Some-clause-stands c =
     let script = c.args.script.now in
     let history : List Entry = c.args.play.now.board.history in
     let old : List Entry = c.requires.before.0 in
-    let one = one-more c.items_are_drawable.ensures script c.requires.before.1 old history (λ same. c.if-play-frame.false (c.requires.number ∙ same ∙ c.requires.before.5)) c.requires.before.3 in
+    let one = one-more c.items_are_drawable.ensures script c.requires.before.1 old history
+    (λ same. c.if-play-frame.false (c.requires.number ∙ same ∙ c.requires.before.5)) c.requires.before.3 in
     let found = last-one script old history one _ (c.last.ensures script (finished script.setup history) c.requires.keeps) in
     let some : Some c.in-Some.frame.now ≡ Some one.frame = sym (ap option_copied c.in-Some.is) ∙ found in
     let same : c.in-Some.frame.now ≡ one.frame = cc in

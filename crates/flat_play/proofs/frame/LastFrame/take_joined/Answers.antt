@@ -13,4 +13,5 @@ returns-clause-joined c = λ setup shown is long same.
     let S : Shown → Type 0 = λ sh. IsJoined (at_ratio c.args.ratio setup) sh c.args.self.now.joined in
     let J : Option (Arc Joined Global) → Type 0 = λ j. IsJoined (at_ratio c.args.ratio setup) shown j in
     let none = sym c.has_any.ensures ∙ c.if-has_any.false in
-    subst J (sym c.take-joined.ensures.value) (subst S (all-same c.args.changed c.args.self.now.reuse shown none (is.count ∙ sym long) same) (subst R c.if-self-ratio.false is.joined))
+    subst J (sym c.take-joined.ensures.value) (subst S (all-same c.args.changed c.args.self.now.reuse shown none (is.count ∙ sym long) same)
+    (subst R c.if-self-ratio.false is.joined))

@@ -24,6 +24,11 @@ returns-clause-frame c =
     let self = c.args.self.now in
     let P : Setup → Type 0 = λ s. IfOk c.compose_next.result (λ frame. frame ≡ frame_at s (self.last.frame.0 + 1) (to_begin self.board.history)) in
     let N : ℕ → Type 0 = λ n. IfOk c.compose_next.result (λ frame. frame ≡ frame_at self.board.setup (n + 1) (to_begin self.board.history)) in
-    let S : Setup → Type 0 = λ s. (self.shown ≡ shown_states s (to_begin self.board.history)) × (at_ratio self.ratio s ≡ setup_at s (to_begin self.board.history)) × AreViewed s (to_begin self.board.history) self.with_view in
-    let shows = subst S (sym c.setup.ensures) (c.requires.stands.showing, scaled self.board.setup (to_begin self.board.history) self.ratio c.requires.stands.scaling, viewed _ _ _ _ _ c.requires.stands c.requires.views) in
+    let S : Setup → Type 0 = λ s. (self.shown ≡ shown_states s (to_begin self.board.history))
+    × (at_ratio self.ratio s ≡ setup_at s (to_begin self.board.history)) × AreViewed s (to_begin self.board.history) self.with_view in
+    let shows = subst S (sym c.setup.ensures) (
+      c.requires.stands.showing,
+      scaled self.board.setup (to_begin self.board.history) self.ratio c.requires.stands.scaling,
+      viewed _ _ _ _ _ c.requires.stands c.requires.views,
+    ) in
     subst N c.requires.last (subst P c.setup.ensures (c.compose_next.ensures.frame (to_begin self.board.history) shows.0 shows.1 shows.2))

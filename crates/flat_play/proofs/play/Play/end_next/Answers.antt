@@ -8,7 +8,8 @@ use Rattle.flat_play.proofs.Ending.{end_share, end_stands, ends_more}
 use Rattle.flat_play.proofs.Touching.{no-ends, one-end-more}
 use Rattle.flat_play.proofs.play.Play.end_next.Goals as goal
 
-waiting_is : (script : Script) (before : ℕ) (old : Play) (reader : Reader) → before < script.setup.sessions → EndsStand script before old → reader ≡ get_or old.readers.items before reader
+waiting_is : (script : Script) (before : ℕ) (old : Play) (reader : Reader) → before < script.setup.sessions → EndsStand script before old
+    → reader ≡ get_or old.readers.items before reader
     → ReaderStands script (record { 0 = before + 1 }) (length script.lines) old.board.history reader
 waiting_is script before old reader within stands is =
     let P : Reader → Type 0 = λ r. ReaderStands script (record { 0 = before + 1 }) (length script.lines) old.board.history r in
@@ -37,11 +38,13 @@ returns-clause-stands c =
     let old = c.args.self.now in
     let reader = c.index_mut-reader.result.now in
     let mine = waiting_is script c.args.before old reader c.requires.within c.requires.stands c.index_mut-reader.ensures.value in
-    ends_more c.lines_are_read.ensures.ends script c.requires.playable c.args.before c.requires.within old c.requires.stands reader mine _ c.end-reply.new.self c.end-reply.ensures.entry refl refl refl
+    ends_more c.lines_are_read.ensures.ends script c.requires.playable c.args.before c.requires.within old c.requires.stands reader mine _ c.end-reply.new.self
+    c.end-reply.ensures.entry refl refl refl
 
 pub returns-clause-ends : goal.returns-clause-ends
 returns-clause-ends c =
-    one-end-more c.args.self.now.board.history c.args.self.now.board.history _ _ refl (ap (λ m. m.history) c.end-reply.ensures.entry) (no-ends c.args.self.now.board.history)
+    one-end-more c.args.self.now.board.history c.args.self.now.board.history _ _ refl (ap (λ m. m.history) c.end-reply.ensures.entry)
+    (no-ends c.args.self.now.board.history)
 
 pub returns-clause-frames : goal.returns-clause-frames
 returns-clause-frames c =

@@ -20,10 +20,12 @@ returns-clause-shows g c =
     let number : frame.frame.0 ≡ suc (length before) = omega (arith, counted) in
     let composed : frame ≡ frame_at script.setup (suc (frames old.board.history)) (to_begin old.board.history) =
     ap (λ (s : Setup). frame_at s (frames old.board.history + 1) (to_begin old.board.history)) c.requires.of
-    ∙ ap (λ (n : ℕ). frame_at script.setup n (to_begin old.board.history)) (let m : frames old.board.history + 1 ≡ suc (frames old.board.history) = omega arith in m) in
+    ∙ ap (λ (n : ℕ). frame_at script.setup n (to_begin old.board.history))
+    (let m : frames old.board.history + 1 ≡ suc (frames old.board.history) = omega arith in m) in
     let same : c.keep_next.new.self.board ≡ old.board = ap (λ (p : Play). p.board) c.keep_next.ensures.others in
     let all : finished script.setup c.done-self.new.self.history ≡ before ++ frame ∷ [] =
     ap (λ (m : Machine). finished script.setup m.history) c.done-self.ensures.entry
-    ∙ ap (λ (m : Machine). finished script.setup m.history ++ frame_at script.setup (suc (frames m.history)) (to_begin m.history) ∷ []) same ∙ ap (λ (f : FrameOut). before ++ f ∷ []) (sym composed) in
+    ∙ ap (λ (m : Machine). finished script.setup m.history ++ frame_at script.setup (suc (frames m.history)) (to_begin m.history) ∷ []) same
+    ∙ ap (λ (f : FrameOut). before ++ f ∷ []) (sym composed) in
     let shows = c.show_last.ensures.shows script before frame (c.in_ok-keep_next.ensures.keeps.more before c.requires.keeps) in
     IsShown.shows_frame frame shows.0 all number shows.1 shows.2

@@ -23,11 +23,14 @@ returns-then-stays-clause-keeps c =
     let last : FrameOut = frame_at setup (frames history) (to_finished history) in
     let K : Setup → Type 0 = λ s. Keeps c.args.script.now self.kept (finished s history) in
     let some : 0 < frames history = omega (arith, c.requires.answers.number, c.stays.ensures.some c.if-stays.true) in
-    let long : length self.last.reuse ≡ length self.shown = c.requires.answers.is_last.count ∙ sym (shown_count setup history self.shown self.ratio self.with_view c.requires.stands c.shown_states_fit.ensures.each) in
+    let long : length self.last.reuse ≡ length self.shown =
+    c.requires.answers.is_last.count ∙ sym (shown_count setup history self.shown self.ratio self.with_view c.requires.stands
+    c.shown_states_fit.ensures.each) in
     let shows = c.stays.ensures.shown long c.requires.same c.if-stays.true in
     let more = c.keep_unchanged.ensures.keeps (finished setup history) last (subst K (sym c.requires.of) c.requires.keeps) (last-finished setup history some) in
     let M : FrameOut → Type 0 = λ frame. OnOk c.keep_unchanged.result (KeepsMore c.args.script.now frame self.kept c.keep_unchanged.new.self.kept) in
-    subst M (next-unchanged setup history self.last self.answers self.shown self.ratio self.with_view c.requires.answers c.requires.stands shows (c.stays.ensures.ratio c.if-stays.true) c.requires.setup c.trees_follow.ensures.views c.requires.views) more
+    subst M (next-unchanged setup history self.last self.answers self.shown self.ratio self.with_view c.requires.answers c.requires.stands shows
+    (c.stays.ensures.ratio c.if-stays.true) c.requires.setup c.trees_follow.ensures.views c.requires.views) more
 
 pub returns-then-stays-clause-is : goal.returns-then-stays-clause-is
 returns-then-stays-clause-is c =

@@ -58,10 +58,12 @@ pub hit-requires-clause-may : goal.hit-requires-clause-may
 hit-requires-clause-may g c =
     let x : ScriptLine = record { number = c.args.number; actor = Display; body = body.Display c.args.text } in
     let at : At c.args.script.now c.args.place x = at_place c.args.script.now c.args.place x c.requires.playable c.requires.line in
-    may_hit c.args.self.now.board _ _ (display_share c.args.script.now c.args.place x at c.args.self.now.board c.requires.stands.shares refl c.requires.stands.spent)
+    may_hit c.args.self.now.board _ _ (display_share c.args.script.now c.args.place x at c.args.self.now.board c.requires.stands.shares refl
+    c.requires.stands.spent)
 
 pub hit-requires-clause-is : goal.hit-requires-clause-is
-hit-requires-clause-is g c = let P : Setup → Type 0 = λ s. IsLast s c.args.self.now.last in subst P (sym c.requires.stands.setup) c.requires.stands.answers.is_last
+hit-requires-clause-is g c = let P : Setup → Type 0 =
+    λ s. IsLast s c.args.self.now.last in subst P (sym c.requires.stands.setup) c.requires.stands.answers.is_last
 
 pub returns-in-Begin-clause-stands : goal.returns-in-Begin-clause-stands
 returns-in-Begin-clause-stands g c =
@@ -79,12 +81,14 @@ returns-in_ok-finish-in-Done-clause-stands g c =
     let self = c.args.self.now in
     let taken = c.take_joined-joined.ensures.stays script.setup c.requires.stands.answers.is_last in
     let finishes = c.in_ok-finish-in-Done.ensures.finishes in
-    let done = finish_more script c.args.place x at (record self { last = c.take_joined-joined.new.self }) c.finish.new.self refl is (play_stays script c.args.place self c.take_joined-joined.new.self taken c.requires.stands) finishes in
+    let done = finish_more script c.args.place x at (record self { last = c.take_joined-joined.new.self }) c.finish.new.self refl is
+    (play_stays script c.args.place self c.take_joined-joined.new.self taken c.requires.stands) finishes in
     let last = c.finish.new.self.last in
     let then : LastFrame = record last { joined = c.take_joined-joined.result } in
     let S : Shown → Type 0 = λ next. AreSame self.changed self.last.reuse next in
     let J : ℕ → Type 0 = λ r. IsJoined (at_ratio r script.setup) last.reuse then.joined in
-    let joined = subst J (sym finishes.scaling) (c.take_joined-joined.ensures.joined script.setup last.reuse c.requires.stands.answers.is_last done.answers.is_last.count (subst S (sym finishes.showing) c.requires.stands.same)) in
+    let joined = subst J (sym finishes.scaling) (c.take_joined-joined.ensures.joined script.setup last.reuse c.requires.stands.answers.is_last
+    done.answers.is_last.count (subst S (sym finishes.showing) c.requires.stands.same)) in
     play_stays script (c.args.place + 1) c.finish.new.self then (joined-again script.setup last then done.answers.is_last refl refl refl joined) done
 
 pub returns-in_ok-hit-in-Hit-clause-stands : goal.returns-in_ok-hit-in-Hit-clause-stands
@@ -139,7 +143,8 @@ returns-in_default-clause-stands g c =
     let x : ScriptLine = record { number = c.args.number; actor = Display; body = body.Display c.args.text } in
     let at : At c.args.script.now c.args.place x = at_place c.args.script.now c.args.place x c.requires.playable c.requires.line in
     let alone : is_alone c.args.text ≡ true = search rules in
-    beside_more c.args.script.now c.args.place x at c.args.self.now c.enter_alone.new.self c.args.text _ _ refl refl refl (quiet_alone c.args.text alone) (keeps_alone c.args.text alone) c.requires.stands c.enter_alone.ensures
+    beside_more c.args.script.now c.args.place x at c.args.self.now c.enter_alone.new.self c.args.text _ _ refl refl refl (quiet_alone c.args.text alone)
+    (keeps_alone c.args.text alone) c.requires.stands c.enter_alone.ensures
 
 pub returns-in_default-clause-goes_on : goal.returns-in_default-clause-goes_on
 returns-in_default-clause-goes_on g c = entered-on _ _ _ _ _ _ _ c.enter_alone.ensures.board
@@ -147,4 +152,5 @@ returns-in_default-clause-goes_on g c = entered-on _ _ _ _ _ _ _ c.enter_alone.e
 pub returns-in_default-clause-shows : goal.returns-in_default-clause-shows
 returns-in_default-clause-shows g c =
     let alone : is_alone c.args.text ≡ true = search rules in
-    IsShown.shows_none (display_finishes c.args.script.now.setup c.args.self.now.board c.enter_alone.new.self.board _ _ _ (ends_none c.args.text alone) c.enter_alone.ensures.board) refl refl
+    IsShown.shows_none (display_finishes c.args.script.now.setup c.args.self.now.board c.enter_alone.new.self.board _ _ _ (ends_none c.args.text alone)
+    c.enter_alone.ensures.board) refl refl

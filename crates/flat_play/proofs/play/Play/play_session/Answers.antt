@@ -29,32 +29,38 @@ pub call-requires-clause-owned : goal.call-requires-clause-owned
 call-requires-clause-owned c =
     let h = here c.args.script.now c.args.s c.args.place c.args.number c.args.text.now c.requires.playable c.requires.line in
     let reader = c.index_mut-reader.result.now in
-    let mine = own_reader c.args.script.now c.args.place c.args.self.now.board.history c.args.self.now.readers.items c.args.s h.declared c.requires.stands.readers reader c.index_mut-reader.ensures.value in
+    let mine = own_reader c.args.script.now c.args.place c.args.self.now.board.history c.args.self.now.readers.items c.args.s h.declared
+    c.requires.stands.readers reader c.index_mut-reader.ensures.value in
     let P : Line → Type 0 = λ text. is_played_line c.args.self.now.board.setup reader.session text ≡ true in
     subst P (sym c.in_ok-text.ensures)
-    (reader_owns c.args.script.now c.args.s c.args.self.now.board reader c.requires.stands.setup mine.session (λ setup s. is_played_line setup s c.args.text.now ≡ true) h.played)
+    (reader_owns c.args.script.now c.args.s c.args.self.now.board reader c.requires.stands.setup mine.session
+    (λ setup s. is_played_line setup s c.args.text.now ≡ true) h.played)
 
 pub call-requires-clause-share : goal.call-requires-clause-share
 call-requires-clause-share c =
     let x : ScriptLine = record { number = c.args.number; actor = Session c.args.s; body = body.Session c.args.text.now } in
     let h = here c.args.script.now c.args.s c.args.place c.args.number c.args.text.now c.requires.playable c.requires.line in
     let reader = c.index_mut-reader.result.now in
-    let mine = own_reader c.args.script.now c.args.place c.args.self.now.board.history c.args.self.now.readers.items c.args.s h.declared c.requires.stands.readers reader c.index_mut-reader.ensures.value in
+    let mine = own_reader c.args.script.now c.args.place c.args.self.now.board.history c.args.self.now.readers.items c.args.s h.declared
+    c.requires.stands.readers reader c.index_mut-reader.ensures.value in
     let S : SessionNo → Type 0 = λ s. HasShare c.args.self.now.board (Session s) in
     subst S (sym mine.session)
-    (session_share c.args.script.now c.args.place x (at_place c.args.script.now c.args.place x c.requires.playable c.requires.line) c.args.self.now.board c.args.s c.requires.stands.shares h.declared c.requires.stands.spent)
+    (session_share c.args.script.now c.args.place x (at_place c.args.script.now c.args.place x c.requires.playable c.requires.line) c.args.self.now.board
+    c.args.s c.requires.stands.shares h.declared c.requires.stands.spent)
 
 pub call-requires-clause-few : goal.call-requires-clause-few
 call-requires-clause-few c =
     let h = here c.args.script.now c.args.s c.args.place c.args.number c.args.text.now c.requires.playable c.requires.line in
-    let mine = own_reader c.args.script.now c.args.place c.args.self.now.board.history c.args.self.now.readers.items c.args.s h.declared c.requires.stands.readers c.index_mut-reader.result.now c.index_mut-reader.ensures.value in
+    let mine = own_reader c.args.script.now c.args.place c.args.self.now.board.history c.args.self.now.readers.items c.args.s h.declared
+    c.requires.stands.readers c.index_mut-reader.result.now c.index_mut-reader.ensures.value in
     omega (arith, h.above, mine.few, c.ranges.number)
 
 pub call-requires-clause-stands : goal.call-requires-clause-stands
 call-requires-clause-stands c =
     let h = here c.args.script.now c.args.s c.args.place c.args.number c.args.text.now c.requires.playable c.requires.line in
     let reader = c.index_mut-reader.result.now in
-    let mine = own_reader c.args.script.now c.args.place c.args.self.now.board.history c.args.self.now.readers.items c.args.s h.declared c.requires.stands.readers reader c.index_mut-reader.ensures.value in
+    let mine = own_reader c.args.script.now c.args.place c.args.self.now.board.history c.args.self.now.readers.items c.args.s h.declared
+    c.requires.stands.readers reader c.index_mut-reader.ensures.value in
     on_board c.args.script.now.setup c.args.s c.args.self.now.board reader c.requires.stands.setup mine.session (λ setup es r. Stands setup es r) mine.stands
 
 pub returns-clause-stands : goal.returns-clause-stands
@@ -64,11 +70,14 @@ returns-clause-stands c =
     let script = c.args.script.now in
     let old = c.args.self.now in
     let reader = c.index_mut-reader.result.now in
-    let mine = own_reader script c.args.place old.board.history old.readers.items c.args.s h.declared c.requires.stands.readers reader c.index_mut-reader.ensures.value in
+    let mine = own_reader script c.args.place old.board.history old.readers.items c.args.s h.declared c.requires.stands.readers reader
+    c.index_mut-reader.ensures.value in
     let R : Line → Type 0 = λ text. Reads c.args.number text c.in_ok-_reply._reply old.board c.call.new.board reader c.call.new.self reader.closed in
     let reads = subst R c.in_ok-text.ensures c.in_ok-_reply.ensures.reads in
-    let after = reader_more script c.args.s c.args.place c.args.number c.args.text.now h c.in_ok-_reply._reply old.board c.call.new.board reader c.call.new.self c.requires.stands.setup mine reads c.lines_are_read.ensures.more c.call.ensures.stands in
-    let grown = reader_grows script c.args.s c.args.place c.args.number c.args.text.now h c.in_ok-_reply._reply old.board c.call.new.board reader c.call.new.self c.requires.stands.setup mine reads in
+    let after = reader_more script c.args.s c.args.place c.args.number c.args.text.now h c.in_ok-_reply._reply old.board c.call.new.board reader c.call.new.self
+    c.requires.stands.setup mine reads c.lines_are_read.ensures.more c.call.ensures.stands in
+    let grown = reader_grows script c.args.s c.args.place c.args.number c.args.text.now h c.in_ok-_reply._reply old.board c.call.new.board reader
+    c.call.new.self c.requires.stands.setup mine reads in
     session_more script c.args.place x (at_place script c.args.place x c.requires.playable c.requires.line) old
     _ c.args.s c.args.text.now c.call.new.self refl refl h.declared c.requires.stands refl after grown refl refl refl refl refl refl refl
 
@@ -78,11 +87,13 @@ returns-clause-goes_on c =
     let script = c.args.script.now in
     let old = c.args.self.now in
     let reader = c.index_mut-reader.result.now in
-    let mine = own_reader script c.args.place old.board.history old.readers.items c.args.s h.declared c.requires.stands.readers reader c.index_mut-reader.ensures.value in
+    let mine = own_reader script c.args.place old.board.history old.readers.items c.args.s h.declared c.requires.stands.readers reader
+    c.index_mut-reader.ensures.value in
     let R : Line → Type 0 = λ text. Reads c.args.number text c.in_ok-_reply._reply old.board c.call.new.board reader c.call.new.self reader.closed in
     let reads = subst R c.in_ok-text.ensures c.in_ok-_reply.ensures.reads in
     grown-on old.board c.call.new.board (Session c.args.s) c.args.number
-    (reader_grows script c.args.s c.args.place c.args.number c.args.text.now h c.in_ok-_reply._reply old.board c.call.new.board reader c.call.new.self c.requires.stands.setup mine reads)
+    (reader_grows script c.args.s c.args.place c.args.number c.args.text.now h c.in_ok-_reply._reply old.board c.call.new.board reader c.call.new.self
+    c.requires.stands.setup mine reads)
 
 pub returns-clause-frames : goal.returns-clause-frames
 returns-clause-frames c =
@@ -91,8 +102,10 @@ returns-clause-frames c =
     let script = c.args.script.now in
     let old = c.args.self.now in
     let reader = c.index_mut-reader.result.now in
-    let mine = own_reader script c.args.place old.board.history old.readers.items c.args.s h.declared c.requires.stands.readers reader c.index_mut-reader.ensures.value in
+    let mine = own_reader script c.args.place old.board.history old.readers.items c.args.s h.declared c.requires.stands.readers reader
+    c.index_mut-reader.ensures.value in
     let R : Line → Type 0 = λ text. Reads c.args.number text c.in_ok-_reply._reply old.board c.call.new.board reader c.call.new.self reader.closed in
     let reads = subst R c.in_ok-text.ensures c.in_ok-_reply.ensures.reads in
     session_finishes script.setup x c.args.s old.board c.call.new.board refl
-    (reader_grows script c.args.s c.args.place c.args.number c.args.text.now h c.in_ok-_reply._reply old.board c.call.new.board reader c.call.new.self c.requires.stands.setup mine reads)
+    (reader_grows script c.args.s c.args.place c.args.number c.args.text.now h c.in_ok-_reply._reply old.board c.call.new.board reader c.call.new.self
+    c.requires.stands.setup mine reads)

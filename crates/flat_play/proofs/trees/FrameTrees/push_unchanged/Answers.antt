@@ -19,6 +19,7 @@ returns c = λ frames last were is.
     let before : c.push.new.self ≡ old.before ++ map without_items (listed old.last) =
     c.in_ok-push.ensures.ok ∙ ap (λ (pair : FrameOut × List DrawItem). old.before ++ pair.0 ∷ []) c.apart-before.ensures
     ∙ ap (λ (it : Option FrameOut). old.before ++ map without_items (listed it)) (sym there) in
-    let items : c.apart-before.result.1 ≡ last.items = ap (λ (pair : FrameOut × List DrawItem). pair.1) c.apart-before.ensures ∙ ap (λ (f : FrameOut). f.items) one in
+    let items : c.apart-before.result.1 ≡ last.items = ap (λ (pair : FrameOut × List DrawItem). pair.1) c.apart-before.ensures
+    ∙ ap (λ (f : FrameOut). f.items) one in
     let frame : List DrawItem → FrameOut = λ xs. record { frame = c.args.number; items = xs; tree = c.args.tree } in
     tree-more frames (unchanged c.args.number c.args.tree last) old _ before (ap (λ (xs : List DrawItem). Some (frame xs)) items) were

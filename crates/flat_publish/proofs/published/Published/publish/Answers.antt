@@ -23,7 +23,8 @@ invariant_of-self-2 g c =
       home = ⊎_elim (λ t. ap (λ (l : Seen). l.home) (t.0 ∙ added.ok)) (λ t. ap (λ (l : Seen). l.home) t.0 ∙ (was.home ∙ sym added.book)) here;
       known = ⊎_elim (λ t. t.1 ∙ ap (λ (l : Seen). Some l.home) added.ok) (λ t. t.1 ∙ (was.known ∙ ap Some (sym added.book))) here;
       begins = ⊎_elim (λ t. subst (λ (l : List Frame). IsPrefix l newest.log) (sym (ap (λ (l : Seen). l.frames) (t.0 ∙ added.ok))) (prefix_self newest.log))
-          (λ t. subst (λ (l : List Frame). IsPrefix l newest.log) (sym (ap (λ (l : Seen). l.frames) t.0)) (still_begins _ _ newest.log f was.begins added.added)) here;
+          (λ t. subst (λ (l : List Frame). IsPrefix l newest.log) (sym (ap (λ (l : Seen). l.frames) t.0))
+          (still_begins _ _ newest.log f was.begins added.added)) here;
       added_last = sym (ap last_number added.added ∙ ap number_of (last_snoc None c.self.inside.newest.log f));
       given = le_refl _;
       rising = added.rising;
@@ -35,8 +36,11 @@ returns-clause-ok g c =
     let added = c.in_ok-latest.ensures in
     let newest = c.add_frame.new.newest in
     let f : Frame = frame c.args.number.0 (arc_value c.args.joined) in
-    on_ok c.replace_with.result (λ shown. let frames = ap (λ (l : Seen). l.frames) (shown ∙ added.ok) in
-    (rw (← c.self.view_is) (frames ∙ all_published _ _ newest.log f was.begins added.added), ap (λ (l : List Frame). drop (length l) newest.log) frames ∙ drop_whole newest.log)) c.replace_with.ensures.0
+    on_ok c.replace_with.result (λ shown. let frames = ap (λ (l : Seen). l.frames) (shown ∙ added.ok) in (
+      rw (← c.self.view_is) (frames ∙ all_published _ _ newest.log f was.begins added.added),
+      ap (λ (l : List Frame). drop (length l) newest.log) frames
+          ∙ drop_whole newest.log,
+    )) c.replace_with.ensures.0
 
 pub returns-clause-err : goal.returns-clause-err
 returns-clause-err g c =
@@ -45,4 +49,5 @@ returns-clause-err g c =
     let newest = c.add_frame.new.newest in
     let f : Frame = frame c.args.number.0 (arc_value c.args.joined) in
     on_err c.replace_with.result (λ kept. let frames = ap (λ (l : Seen). l.frames) kept.0 in
-    rw (← c.self.view_is) (frames, inr (ap (λ (l : List Frame). drop (length l) newest.log) frames ∙ refused_more _ _ newest.log f was.begins added.added))) c.replace_with.ensures.1.1
+    rw (← c.self.view_is) (frames, inr (ap (λ (l : List Frame). drop (length l) newest.log) frames ∙ refused_more _ _ newest.log f was.begins added.added)))
+    c.replace_with.ensures.1.1

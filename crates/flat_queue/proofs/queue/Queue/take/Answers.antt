@@ -19,7 +19,8 @@ some_weaker (Some x) f a = f x a
 
 module _ {T : Type 0} (time : ℕ) (signalled : FenceNo → Bool) where
   -- where the first is ready, it and the ready ones behind it are
-  ready : (waiting : List (WaitingPresent T)) (first one : WaitingPresent T) (later : List (WaitingPresent T)) → slice_get waiting 0 ≡ Some first → is_ready time signalled first.args ≡ true → waiting ≡ one ∷ later
+  ready : (waiting : List (WaitingPresent T)) (first one : WaitingPresent T) (later : List (WaitingPresent T)) → slice_get waiting 0 ≡ Some first
+      → is_ready time signalled first.args ≡ true → waiting ≡ one ∷ later
       → ready_of time signalled waiting ≡ one ∷ ready_of time signalled later
   ready [] first one later at is all = cc
   ready (x ∷ xs) first one later at is all =
@@ -31,7 +32,8 @@ module _ {T : Type 0} (time : ℕ) (signalled : FenceNo → Bool) where
       ∙ ap (λ (y : WaitingPresent T). y ∷ ready_of time signalled xs) x_one ∙ ap (λ (ys : List (WaitingPresent T)). one ∷ ready_of time signalled ys) xs_later
 
   -- where it isn't, none is
-  waits : (waiting : List (WaitingPresent T)) (first : WaitingPresent T) → slice_get waiting 0 ≡ Some first → is_ready time signalled first.args ≡ false → ready_of time signalled waiting ≡ []
+  waits : (waiting : List (WaitingPresent T)) (first : WaitingPresent T) → slice_get waiting 0 ≡ Some first → is_ready time signalled first.args ≡ false
+      → ready_of time signalled waiting ≡ []
   waits [] first at is = refl
   waits (x ∷ xs) first at is =
       let same : x ≡ first = cc in
@@ -43,7 +45,8 @@ module _ {T : Type 0} (time : ℕ) (signalled : FenceNo → Bool) where
   none_waits (x ∷ xs) at = cc
 
 pub returns-then-is_ready-clause-none : goal.returns-then-is_ready-clause-none
-returns-then-is_ready-clause-none g c = none_weaker c.take_any.result (λ none. (none.0, ap (ready_of c.args.now (has c.args.fences.now)) none.1)) c.take_any.ensures.none
+returns-then-is_ready-clause-none g c = none_weaker c.take_any.result (λ none. (none.0, ap (ready_of c.args.now (has c.args.fences.now)) none.1))
+    c.take_any.ensures.none
 
 pub returns-then-is_ready-clause-first : goal.returns-then-is_ready-clause-first
 returns-then-is_ready-clause-first g c = c.take_any.ensures.first
@@ -52,14 +55,17 @@ pub returns-then-is_ready-clause-ready : goal.returns-then-is_ready-clause-ready
 returns-then-is_ready-clause-ready g c =
     let waiting = c.args.self.now.waiting in
     let items = sym (ap (λ line. line.waiting) c.self.view_is) ∙ sym c.as_slice.ensures in
-    let at : slice_get waiting 0 ≡ Some c.in_ok-first.first.now = ap (λ ws. slice_get ws 0) items ∙ sym c.first.ensures.value ∙ ap option_copied c.in_ok-first.was in
-    some_weaker c.take_any.result (λ queued gave. ready c.args.now (has c.args.fences.now) waiting c.in_ok-first.first.now _ c.take_any.new.self.waiting at (sym c.if-is_ready.ensures) gave.waiting) c.take_any.ensures.first
+    let at : slice_get waiting 0 ≡ Some c.in_ok-first.first.now =
+    ap (λ ws. slice_get ws 0) items ∙ sym c.first.ensures.value ∙ ap option_copied c.in_ok-first.was in
+    some_weaker c.take_any.result (λ queued gave. ready c.args.now (has c.args.fences.now) waiting c.in_ok-first.first.now _ c.take_any.new.self.waiting at
+    (sym c.if-is_ready.ensures) gave.waiting) c.take_any.ensures.first
 
 pub returns-else-is_ready-clause-none : goal.returns-else-is_ready-clause-none
 returns-else-is_ready-clause-none g c =
     let waiting = c.args.self.now.waiting in
     let items = sym (ap (λ line. line.waiting) c.self.view_is) ∙ sym c.as_slice.ensures in
-    let at : slice_get waiting 0 ≡ Some c.in_ok-first.first.now = ap (λ ws. slice_get ws 0) items ∙ sym c.first.ensures.value ∙ ap option_copied c.in_ok-first.was in
+    let at : slice_get waiting 0 ≡ Some c.in_ok-first.first.now =
+    ap (λ ws. slice_get ws 0) items ∙ sym c.first.ensures.value ∙ ap option_copied c.in_ok-first.was in
     (refl, waits c.args.now (has c.args.fences.now) waiting c.in_ok-first.first.now at (sym c.if-is_ready.ensures))
 
 pub returns-in_err-first-clause-none : goal.returns-in_err-first-clause-none

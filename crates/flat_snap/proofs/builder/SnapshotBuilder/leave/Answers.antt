@@ -31,7 +31,12 @@ invariant_of-self c =
     let is = l.is (with_end (unpacked rs n) c.len.result) (ended (unpacked rs n) l.innermost.node c.len.result _ same (omega (arith, size))) in (
       rw (unpacked-set rs flat c.in-Some.place n c.len.result) is,
       omega arith,
-      omega (arith, length-set flat c.in-Some.place (packed_end n c.len.result), ap length c.in-Some.ensures.items, length_push c.pop.new.self.items c.in-Some.place),
+      omega (
+        arith,
+        length-set flat c.in-Some.place (packed_end n c.len.result),
+        ap length c.in-Some.ensures.items,
+        length_push c.pop.new.self.items c.in-Some.place,
+      ),
       within-set (length rs) flat c.in-Some.place n c.len.result (omega (arith, l.within, size)) here c.self.invariant.3,
       c.self.invariant.4 ∙ ap (viewport_places 0) (sym (contents-set flat c.in-Some.place n c.len.result here)),
     )

@@ -18,6 +18,7 @@ returns c = λ frames last were is.
     let I : List DrawItem → Type 0 = λ before. IsDamage before frame.items one.rects in
     let D : List Damaged → Type 0 = AreDamaged [] (frames ++ frame ∷ []) in
     record {
-      damaged = subst D (sym c.in_ok-push.ensures.items) (damaged-more [] frames frame one _ refl (subst I shown (no-damage last.items one.rects c.new.ensures)) were.damaged);
+      damaged = subst D (sym c.in_ok-push.ensures.items) (damaged-more [] frames frame one _ refl (subst I shown (no-damage last.items one.rects c.new.ensures))
+          were.damaged);
       last = c.unchanged.ensures ∙ ap (option_map (unchanged c.args.number c.args.tree)) (c.take.ensures.value ∙ were.last ∙ is) ∙ sym (last-more frames frame);
     }

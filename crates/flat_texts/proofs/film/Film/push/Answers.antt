@@ -49,4 +49,5 @@ push_strips-requires-clause-old c =
       pixels = λ x y low high. drawn.pixels x y (subst (λ w. x < w) (sym film.shows.width) low) (subst (λ h. y < h) (sym film.shows.height) high);
     } in
     strips-kept picture setup.width setup.height c.args.self.now.shown c.in_ok-next.next c.in_ok-rects.rects _ (map arc_value c.args.self.now.strips.items) _
-    c.as_slice-rects.ensures (ap (λ runs. map arc_value runs) c.as_slice-old.ensures.value) c.damage_laws.ensures.covers c.in_ok-rects.ensures.damage shows film.strips
+    c.as_slice-rects.ensures (ap (λ runs. map arc_value runs) c.as_slice-old.ensures.value) c.damage_laws.ensures.covers c.in_ok-rects.ensures.damage shows
+    film.strips

@@ -9,7 +9,8 @@ use Rattle.flat_topology.proofs.shown.Shown.new.Goals as goal
 pub returns-clause-none : goal.returns-clause-none
 returns-clause-none c = let P : Option Tree → Type 0 = λ state. state ≡ None in All-map P (option_map arc_value) c.loop.states.items c.loop.invariant.none
 
-none_more : {A B : Type 0} (f : A → Option B) (xs longer : List A) (x : A) → longer ≡ xs ++ x ∷ [] → All (λ a. f a ≡ None) xs → f x ≡ None → All (λ a. f a ≡ None) longer
+none_more : {A B : Type 0} (f : A → Option B) (xs longer : List A) (x : A) → longer ≡ xs ++ x ∷ [] → All (λ a. f a ≡ None) xs → f x ≡ None
+    → All (λ a. f a ≡ None) longer
 none_more {A} {B} f xs longer x e all one = let P : A → Type 0 = λ a. f a ≡ None in subst (All P) (sym e) (All-push P xs x all one)
 
 pub loop-preserved : goal.loop-preserved

@@ -28,11 +28,15 @@ returns c =
     let old : List Entry = c.requires.before.0 in
     let entry : Entry = c.requires.before.1 in
     let is : history ≡ (old ▹ entry) = c.requires.before.3 in
-    let legal : Legal script.setup (old ▹ entry) = (let L : List Entry → Type 0 = λ h. Legal script.setup h in let S : Setup → Type 0 = λ st. Legal st history in subst L is (subst S c.requires.of c.journal-journal.ensures.legal)) in
+    let legal : Legal script.setup (old ▹ entry) = (let L : List Entry → Type 0 = λ h. Legal script.setup h in let S : Setup
+    → Type 0 = λ st. Legal st history in subst L is (subst S c.requires.of c.journal-journal.ensures.legal)) in
     let last : Some frame ≡ last_item (finished script.setup history) = sym (ap (λ o. option_copied o) c.in-Some.is) ∙ c.requires.frame in
     let mid = c.push_sessions.new.page in
     let owners : owners_declared script.setup ≡ true = and-right _ _ (and-left _ _ c.requires.setup) in
-    let P : List Standing → Type 0 = λ xs. WritesLines (map (session_line script c.args.scale shown frame xs) (sessions_to script.setup.sessions)) was.page mid in
+    let P : List Standing → Type 0 = λ xs. WritesLines (map (session_line script c.args.scale shown frame xs) (sessions_to script.setup.sessions)) was.page
+    mid in
     let Q : List Waiting → Type 0 = λ xs. WritesLines (map (wait_line script frame.frame.0) xs) mid c.push_waits.new.page in
-    finish-noted script old history entry c.args.scale shown frame was (record was { page = c.push_waits.new.page; frames = frame.frame.0 }) mid is c.requires.before.2 legal.1 owners last c.requires.shown c.requires.ratio c.requires.before.4
-    (subst P c.as_slice.ensures.value c.in_ok-push_sessions.ensures) (subst Q c.as_slice-2.ensures.value c.in_ok-push_waits.ensures) refl refl refl refl refl refl
+    finish-noted script old history entry c.args.scale shown frame was (record was { page = c.push_waits.new.page; frames = frame.frame.0 }) mid is
+    c.requires.before.2 legal.1 owners last c.requires.shown c.requires.ratio c.requires.before.4
+    (subst P c.as_slice.ensures.value c.in_ok-push_sessions.ensures) (subst Q c.as_slice-2.ensures.value c.in_ok-push_waits.ensures) refl refl refl refl refl
+    refl

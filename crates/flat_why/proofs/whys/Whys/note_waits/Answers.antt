@@ -31,5 +31,6 @@ loop-preserved c =
       rest = c.note_wait.ensures.rest ∙ ap (λ (w : Whys). record w { dues = now.dues; waits = now.waits }) inv.rest;
       known = all-turned (IsKnown setup) (is_waiting setup history) old.dues.items now.dues.items on.dues inv.known;
       dues = rotated (is_waiting setup history) (waiting_of setup history) all old.dues.items now.dues.items c.loop.counter none low inv.dues on.dues;
-      waits = said-more (is_waiting setup history) (waiting_of setup history) all old.dues.items now.dues.items c.loop.counter none low inv.dues old.waits.items now.waits.items inv.waits on.waits;
+      waits = said-more (is_waiting setup history) (waiting_of setup history) all old.dues.items now.dues.items c.loop.counter none low inv.dues old.waits.items
+          now.waits.items inv.waits on.waits;
     }

@@ -9,5 +9,6 @@ invariant-loop l = record {
   rest : l.self ≡ record l.fn.self { dues = l.self.dues; waits = l.self.waits };
   known : All (IsKnown l.board.setup) l.self.dues.items;
   dues : l.self.dues.items ≡ drop l.counter l.fn.self.dues.items ++ filter (is_waiting l.board.setup l.board.history) (take l.counter l.fn.self.dues.items);
-  waits : l.self.waits.items ≡ map (waiting_of l.board.setup l.board.history) (filter (is_waiting l.board.setup l.board.history) (take l.counter l.fn.self.dues.items));
+  waits : l.self.waits.items ≡ map (waiting_of l.board.setup l.board.history)
+      (filter (is_waiting l.board.setup l.board.history) (take l.counter l.fn.self.dues.items));
 }
