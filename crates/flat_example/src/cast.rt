@@ -15,23 +15,23 @@ const CLIENT_ENTRIES: u32 = 50;
 /// Who there is, and which pairs link them.
 #[derive(Clone, Copy)]
 pub(crate) struct Cast {
-    pub(crate) shell: SessionNo,
+    pub(crate) home: SessionNo,
     pub(crate) app: SessionNo,
-    pub(crate) shell_pair: PairNo,
+    pub(crate) home_pair: PairNo,
     pub(crate) app_pair: PairNo,
 }
 
-/// The display shows the shell, and the shell shows the application.
+/// The display shows the home session, and that shows the application.
 pub(crate) fn new_cast(alloc: Global) -> Result<(NewSetup, Cast), SetupFault> {
     let mut setup = SetupBuilder::new(alloc, WIDTH, HEIGHT, DISPLAY_ENTRIES);
-    let shell = setup.session(CLIENT_ENTRIES)?;
+    let home = setup.session(CLIENT_ENTRIES)?;
     let app = setup.session(CLIENT_ENTRIES)?;
-    let shell_pair = setup.pair(Actor::Display, shell)?;
-    let app_pair = setup.pair(Actor::Session(shell), app)?;
+    let home_pair = setup.pair(Actor::Display, home)?;
+    let app_pair = setup.pair(Actor::Session(home), app)?;
     let cast = Cast {
-        shell,
+        home,
         app,
-        shell_pair,
+        home_pair,
         app_pair,
     };
     Ok((setup.build()?, cast))

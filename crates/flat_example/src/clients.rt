@@ -24,7 +24,7 @@ const FILL: ContentId = ContentId(1);
 const CHILD: ContentId = ContentId(2);
 
 /// The height of a client's bar, where it stands before the first frame, and of the window that
-/// the shell gives the application.
+/// the home session gives the application.
 const BAR: u32 = 20;
 
 const TOP: i32 = 20;
@@ -67,8 +67,8 @@ fn present_each<R: Wait + Clock>(
     Ok(())
 }
 
-/// The shell: a bar of its own, and the application's view in a window below it.
-fn show_shell<R: Wait + Clock>(
+/// The home session: a bar of its own, and the application's view in a window below it.
+fn show_home<R: Wait + Clock>(
     rt: &R,
     alloc: Global,
     client: &mut Client,
@@ -76,7 +76,7 @@ fn show_shell<R: Wait + Clock>(
 ) -> Result<(), CallError>
     ensures { client.new.seat.stage ≡ client.old.seat.stage }
 {
-    draw(rt, client, cast.shell_pair, [0, 0, 0, 128])?;
+    draw(rt, client, cast.home_pair, [0, 0, 0, 128])?;
     client.set_content(ROOT, FILL)?;
     let props = ViewportProps {
         w: WIDTH,
@@ -102,8 +102,8 @@ fn show_app<R: Wait + Clock>(
     present_each(rt, alloc, client)
 }
 
-/// Runs the shell. The client comes back however its run went.
-pub(crate) fn run_shell<R: Wait + Clock>(
+/// Runs the home session. The client comes back however its run went.
+pub(crate) fn run_home<R: Wait + Clock>(
     rt: &R,
     alloc: Global,
     mut client: Client,
@@ -111,7 +111,7 @@ pub(crate) fn run_shell<R: Wait + Clock>(
 ) -> (Client, Result<(), CallError>)
     ensures { result.0.seat.stage ≡ client.seat.stage }
 {
-    let ran = show_shell(rt, alloc, &mut client, cast);
+    let ran = show_home(rt, alloc, &mut client, cast);
     (client, ran)
 }
 
