@@ -138,17 +138,34 @@ fn many(alloc: Global, count: usize) -> Result<ItemList, NoMemory> {
     Ok(items)
 }
 
+/// The bytes of such a picture, made in strips.
+fn bytes_in_strips(
+    rt: &(impl Abort + Threads + Sync),
+    alloc: Global,
+    items: &ItemList,
+) -> Result<Vec<u8>, NoMemory> {
+    assert!(rt; are_drawable(items.as_slice()));
+    let strips = render_strips(rt, alloc, items, 100, 100)?;
+    text_of(alloc, strips.as_slice())
+}
+
+/// The bytes of such a picture, drawn whole.
+fn bytes_of_whole(
+    rt: &(impl Abort + Threads + Sync),
+    alloc: Global,
+    items: &ItemList,
+) -> Result<Vec<u8>, NoMemory> {
+    assert!(rt; are_drawable(items.as_slice()));
+    let picture = render(rt, alloc, items, 100, 100)?;
+    ppm_of(alloc, &picture)
+}
+
 /// Where there is much to draw, several threads make the same bytes.
 #[test]
 fn bytes_are_made_in_parts(rt: HostRuntime) -> Result<(), Fail> {
     let items = many(rt.alloc(), 20_000)?;
-    assert!(rt; are_drawable(items.as_slice()));
-    let strips = render_strips(&rt, rt.alloc(), &items, 100, 100)?;
-    let picture = render(&rt, rt.alloc(), &items, 100, 100)?;
-    let (made, expected) = (
-        text_of(rt.alloc(), strips.as_slice())?,
-        ppm_of(rt.alloc(), &picture)?,
-    );
+    let made = bytes_in_strips(&rt, rt.alloc(), &items)?;
+    let expected = bytes_of_whole(&rt, rt.alloc(), &items)?;
     assert_eq!(rt; made.as_slice(), expected.as_slice());
     Ok(())
 }
