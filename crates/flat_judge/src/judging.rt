@@ -14,7 +14,7 @@ use crate::parting::{line_of, parts_at};
 use flat_base::{Items, NoMemory};
 use flat_places::Script;
 use flat_play::{Play, let_go};
-use flat_report::{Pieces, frames_are_seen, handed_is_report, print_report};
+use flat_report::{Pieces, RunRecord, frames_are_seen, handed_is_report, print_report};
 use std::alloc::Global;
 
 /// What is said of a text.
@@ -73,15 +73,16 @@ fn report_of(
     } = play;
     let frames = last.frame.0;
     let entries = board.journal().entries.len();
-    let report = print_report(
-        alloc,
-        script,
-        board.journal(),
-        kept.into_texts(),
-        along.lost.as_slice(),
-        &answers,
-        probes.as_slice(),
-    );
+    let texts = kept.into_texts();
+    let run = RunRecord {
+        journal: board.journal(),
+        frames: &texts,
+        lost: along.lost.as_slice(),
+        answers: &answers,
+        probes: probes.as_slice(),
+    };
+    let report = print_report(alloc, script, &run);
+    drop(texts);
     let_go(board);
     Ok(Written {
         report: report?,

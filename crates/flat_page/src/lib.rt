@@ -2,7 +2,8 @@
 //! and causes are put on a `Page` (page), word by word and line by line.
 //!
 //! Contracts see a page as its bytes; `Puts`, `Writes` and `WritesLines` (specs/Pages) say
-//! what a call puts behind them, by the words and lines of specs/Words. The names of a
+//! what a call puts behind them, by the words and lines of specs/Words. A page has room behind
+//! its text (room.rt), into which words and digits are written (digits.rt). The names of a
 //! script's actors, as words, stand in names.rt; frames and lines by their numbers, as texts
 //! have them in order, in specs/Happenings.
 //!
@@ -14,6 +15,7 @@
 mod digits;
 mod names;
 mod page;
+mod room;
 
 pub use names::{actor_name, name_at, session_name};
 pub use page::Page;

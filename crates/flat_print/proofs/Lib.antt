@@ -1,3 +1,10 @@
+pub mod ValueWords
+pub mod NameWords
+pub mod FieldWords
+pub mod SpeltCalls
+pub mod TransformCalls
+pub mod ContentCalls
+pub mod ViewportCalls
 pub mod CallLemmas
 pub mod LineLemmas
 pub mod ListWordLemmas

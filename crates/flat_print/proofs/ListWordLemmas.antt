@@ -14,7 +14,7 @@ use Rattle.flat_forms.specs.Body.{fence_lists}
 use Rattle.flat_forms.specs.Lists.{ends_list, behind_end}
 use Rattle.flat_print.specs.Print.{fence_word, list_words}
 use Rattle.flat_forms.proofs.lemmas.FormLemmas.{both_ok}
-use Rattle.flat_print.proofs.CallLemmas.{fence_spelt}
+use Rattle.flat_print.proofs.NameWords.{fence_spelt}
 use Rattle.flat_forms.proofs.lemmas.ListLemmas.{stops_before, goes_before, stops_behind, goes_behind, pair_of, ListsOk, lists_ok}
 
 -- tables

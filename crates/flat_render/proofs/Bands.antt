@@ -66,13 +66,6 @@ pub seen-drawn-in : (tile : Tile) (items seen : List DrawItem) (m : ℕ) → IsT
     → drawn_in tile seen m ≡ drawn_in tile items m
 seen-drawn-in tile items seen m is seen_is = seen_is.same (channel_at tile m) (x_at tile m) (y_at tile m) 0 (tile-has-byte tile m is (some-pixels tile is))
 
--- a part of what is black is black
-pub part-black : (a z : ℕ) (bytes : List ℕ) → ((m : ℕ) → m < length bytes → get_or bytes m 0 ≡ 0) → a + z ≤ length bytes
-    → (k : ℕ) → k < length (take z (drop a bytes)) → get_or (take z (drop a bytes)) k 0 ≡ 0
-part-black a z bytes black fits k small =
-    let len : length (take z (drop a bytes)) ≡ z = simp (length-take, length-drop) (omega arith) in
-    get_or-take z (drop a bytes) k 0 (omega (arith, len)) ∙ get_or-drop a bytes k 0 ∙ black (a + k) (omega (arith, len))
-
 -- how many bytes a row of tiles has, and how many rows there are
 pub band-most : (g : Grid) → IsGrid g → band_bytes g < 2 ^ 36
 band-most g is =

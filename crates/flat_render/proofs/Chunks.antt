@@ -53,14 +53,6 @@ part-there a z xs k small = get_or-take z (drop a xs) k 0 small ∙ get_or-drop 
 pub tile-part : (s : ℕ) (pixels : List ℕ) (n z : ℕ) → n * s + s ≤ length pixels → z ≡ s → length (take z (drop (n * s) pixels)) ≡ s
 tile-part s pixels n z fits same = simp (length-take, length-drop) (omega arith)
 
--- it is black as long as only the tiles before it are changed
-pub tile-part-black : (h : ℕ → ℕ → ℕ) (s : ℕ) (old pixels : List ℕ) (n z : ℕ) → n * s + s ≤ length pixels → z ≡ s → length pixels ≡ length old
-    → IsRepaintedTo h s old pixels n → ((m : ℕ) → m < length old → get_or old m 0 ≡ 0)
-    → (k : ℕ) → k < length (take z (drop (n * s) pixels)) → get_or (take z (drop (n * s) pixels)) k 0 ≡ 0
-tile-part-black h s old pixels n z fits same long so_far black k small =
-    let len : length (take z (drop (n * s) pixels)) ≡ s = tile-part s pixels n z fits same in
-    part-there (n * s) z pixels k (omega (arith, len)) ∙ so_far.above (n * s + k) (omega arith) ∙ black (n * s + k) (omega (arith, len))
-
 -- a byte, drawn anew where a test holds of its pixel
 abbrev pub redrawn : List DrawItem → Grid → (ℕ → ℕ → Bool) → ℕ → ℕ → ℕ
 redrawn items g test i old = if test (stored_x g i) (stored_y g i) then drawn_at g items i else old

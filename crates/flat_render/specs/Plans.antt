@@ -1,5 +1,5 @@
 -- What is drawn, for all threads that draw it.
-use Rattle.std.specs.Prelude.{◌≡◌, ℕ, ◌-◌, ◌*◌, ◌<◌, ◌≤◌, All, List, length, slice_index}
+use Rattle.std.specs.Prelude.{◌≡◌, ℕ, ◌-◌, ◌*◌, ◌<◌, ◌≤◌, All, List, length}
 use Rattle.flat_drawable.specs.Drawable.{IsDrawable}
 use Rattle.flat_render.specs.Grids.{band_bytes, IsGrid}
 use Rattle.flat_render.specs.Preparing.{ArePrepared}
@@ -12,9 +12,8 @@ pub record IsPlan (plan : Plan) : Type 0 where
   pub prepared : ArePrepared plan.items.now plan.list.now
   pub grid : IsGrid plan.grid
 
--- bytes are those of some rows of tiles, and black
+-- there are so many bytes as some rows of tiles have
 pub record IsSpan (plan : Plan) (span : Span) (bytes : List ℕ) : Type 0 where
   pub some : span.from < span.upto
   pub there : span.upto ≤ plan.grid.down
   pub size : length bytes ≡ (span.upto - span.from) * band_bytes plan.grid
-  pub black : (i : ℕ) → i < length bytes → slice_index bytes i ≡ 0

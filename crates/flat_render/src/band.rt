@@ -17,27 +17,24 @@ use std::alloc::Global;
 /// So many items are looked at twice sooner than they are copied.
 const FEW: usize = 32;
 
-/// Draws a tile that is black, by the items with some numbers, which are those that may
-/// be seen there.
+/// Draws a tile by the items with some numbers, which are those that may be seen there.
 fn draw_tile(items: &[DrawItem], list: &[Prepared], places: &[usize], tile: Tile, bytes: &mut [u8])
     requires items { All IsDrawable items.now }
     requires prepared { ArePrepared items.now list.now }
     requires tile { IsTile tile }
     requires places { IsChoice (tile_area tile) items.now places.now (length items.now) }
     requires size { length bytes.old ≡ 3 * pixels_of tile }
-    requires black { (m : ℕ) → m < length bytes.old → slice_index bytes.old m ≡ 0 }
     ensures { (m : ℕ) → m < length bytes.old → slice_index bytes.new m ≡ drawn_in tile items.now m }
 {
     draw_chosen(items, list, places, tile, bytes);
 }
 
-/// Draws a row of tiles, which are black, each by all of the items.
+/// Draws a row of tiles, each by all of the items.
 fn draw_each(items: &[DrawItem], grid: &Grid, row: usize, bytes: &mut [u8])
     requires items { All IsDrawable items.now }
     requires grid { IsGrid grid.now }
     requires row { row < grid.now.down }
     requires size { length bytes.old ≡ band_bytes grid.now }
-    requires black { (m : ℕ) → m < length bytes.old → slice_index bytes.old m ≡ 0 }
     ensures { (m : ℕ) → m < length bytes.old → slice_index bytes.new m
         ≡ drawn_at grid.now items.now (row * band_bytes grid.now + m) }
 {
@@ -49,7 +46,7 @@ fn draw_each(items: &[DrawItem], grid: &Grid, row: usize, bytes: &mut [u8])
     }
 }
 
-/// Draws a row of tiles, which are black, each by the items that may be seen there.
+/// Draws a row of tiles, each by the items that may be seen there.
 fn draw_picked(
     items: &[DrawItem],
     list: &[Prepared],
@@ -64,7 +61,6 @@ fn draw_picked(
     requires grid { IsGrid grid.now }
     requires row { row < grid.now.down }
     requires size { length bytes.old ≡ band_bytes grid.now }
-    requires black { (m : ℕ) → m < length bytes.old → slice_index bytes.old m ≡ 0 }
     ensures { (m : ℕ) → m < length bytes.old → slice_index bytes.new m
         ≡ drawn_at grid.now items.now (row * band_bytes grid.now + m) }
 {
@@ -77,8 +73,8 @@ fn draw_picked(
     }
 }
 
-/// Draws a row of tiles, which are black. Of many items it looks twice at those alone
-/// that may be seen on a tile, where memory isn't wanting.
+/// Draws a row of tiles, from black. Of many items it looks twice at those alone that may be seen
+/// on a tile, if memory is there for their numbers.
 pub fn draw_band(
     alloc: Global,
     items: &[DrawItem],
@@ -92,7 +88,6 @@ pub fn draw_band(
     requires grid { IsGrid grid.now }
     requires row { row < grid.now.down }
     requires size { length bytes.old ≡ band_bytes grid.now }
-    requires black { (m : ℕ) → m < length bytes.old → slice_index bytes.old m ≡ 0 }
     ensures { (m : ℕ) → m < length bytes.old → slice_index bytes.new m
         ≡ drawn_at grid.now items.now (row * band_bytes grid.now + m) }
 {

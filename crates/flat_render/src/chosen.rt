@@ -85,7 +85,7 @@ fn paint_chosen(
     }
 }
 
-/// Draws the items with some numbers, in the order of these, on a tile that is black.
+/// Draws the items with some numbers, in the order of these, on a tile, from black.
 pub fn draw_chosen(
     items: &[DrawItem],
     list: &[Prepared],
@@ -98,11 +98,11 @@ pub fn draw_chosen(
     requires places { All (λ p. p < length items.now) places.now }
     requires tile { IsTile tile }
     requires size { length bytes.old ≡ 3 * pixels_of tile }
-    requires black { (m : ℕ) → m < length bytes.old → slice_index bytes.old m ≡ 0 }
     ensures { (m : ℕ) → m < length bytes.old → slice_index bytes.new m
         ≡ drawn_in tile (chosen items.now places.now) m }
 {
     let window = area(tile);
     let first = first_chosen(list, places, window);
+    bytes.fill(0);
     paint_chosen(items, list, &places[first..], tile, window, bytes);
 }

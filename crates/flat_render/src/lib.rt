@@ -1,6 +1,7 @@
 //! The software renderer: the picture of a draw list, computed in tiles.
 //!
-//! `render` (rendering) gives each pixel the colour of specs/Pixels; tiles (tile, grid,
+//! `render` (rendering) gives each pixel the colour of specs/Pixels, `render_into` in memory that is
+//! there; tiles (tile, grid,
 //! drawing) and what is left out (sorting) are in no answer.
 //!
 //! A picture is drawn by rows of tiles (band), each tile by the items that may be seen there
@@ -41,5 +42,5 @@ pub use colour::texel;
 pub use grid::PIXELS_MAX;
 pub use picture::Picture;
 pub use ppm::{ppm_head, ppm_of, ppm_rows};
-pub use rendering::{is_too_large, render, render_strips};
+pub use rendering::{is_too_large, render, render_into, render_strips};
 pub use strips::Strip;

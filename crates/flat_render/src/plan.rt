@@ -68,15 +68,21 @@ fn work_of(list: &[Prepared]) -> usize {
     work
 }
 
-/// In how many threads a picture is drawn: one if there is little work or one processor.
-pub fn threads_for(rt: &(impl Threads + Sync), list: &[Prepared]) -> usize
+/// How many threads may draw a picture: one for each processor.
+pub fn most_threads(rt: &(impl Threads + Sync)) -> usize
     ensures some { 0 < result }
     ensures few { result ≤ THREADS_MAX }
 {
-    if work_of(list) <= LIGHT {
-        return 1;
-    }
     current_num_threads(rt).clamp(1, THREADS_MAX)
+}
+
+/// In how many threads a picture is drawn, of at most so many: in one if there is little work.
+pub fn threads_for(list: &[Prepared], most: usize) -> usize
+    requires some { 0 < most }
+    ensures some { 0 < result }
+    ensures few { result ≤ most }
+{
+    if work_of(list) <= LIGHT { 1 } else { most }
 }
 
 /// Adds what an item costs in each row of tiles.

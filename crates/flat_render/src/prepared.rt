@@ -1,4 +1,5 @@
 ghost use Rattle.std.specs.Prelude.{◌≡◌, All, IfOk, IsTrue, false, slice_index};
+ghost use Rattle.std.specs.Thread.{IsSync};
 ghost use Rattle.flat_drawable.specs.Drawable.{IsDrawable, IsSample};
 ghost use Rattle.flat_render.specs.Areas.{IsWindow};
 ghost use Rattle.flat_render.specs.Colours.{red_at, green_at, blue_at};
@@ -14,6 +15,7 @@ use crate::texture::{Texture, column, is_plain, rises, row, sinks, texture_of};
 use flat_base::NoMemory;
 use flat_scene::{DrawItem, Paint};
 use std::alloc::Global;
+use std::thread::{Threads, join};
 
 /// What an item gives its pixels, as far as it is the same on all tiles. It takes less room
 /// than the item does, where it is read again and again.
@@ -130,8 +132,11 @@ fn prepare(item: &DrawItem) -> Prepared
     }
 }
 
+/// So many items are prepared sooner by one thread than by several.
+const FEW: usize = 2048;
+
 /// Prepares items, each for itself.
-pub fn prepare_all(alloc: Global, items: &[DrawItem]) -> Result<Vec<Prepared>, NoMemory>
+fn prepare_each(alloc: Global, items: &[DrawItem]) -> Result<Vec<Prepared>, NoMemory>
     requires { All IsDrawable items.now }
     ensures { IfOk result (λ list. ArePrepared items.now list.items) }
 {
@@ -139,6 +144,37 @@ pub fn prepare_all(alloc: Global, items: &[DrawItem]) -> Result<Vec<Prepared>, N
     for item in items {
         list.push(prepare(item))?;
     }
+    Ok(list)
+}
+
+/// Prepares items, each for itself, in at most so many threads.
+#[cycle(preparing)]
+pub fn prepare_all<R: Threads + Sync>(
+    rt: &R,
+    alloc: Global,
+    items: &[DrawItem],
+    threads: usize,
+) -> Result<Vec<Prepared>, NoMemory>
+    requires { All IsDrawable items.now }
+    ensures { IfOk result (λ list. ArePrepared items.now list.items) }
+{
+    if threads <= 1 || items.len() <= FEW {
+        return prepare_each(alloc, items);
+    }
+    let (low, high) = (threads / 2, threads - threads / 2);
+    let (front, back) = items.split_at(items.len() / 2);
+    let first = || -> Result<Vec<Prepared>, NoMemory>
+        requires { IsSync R.row × All IsDrawable front.now }
+        ensures { IfOk result (λ list. ArePrepared front.entry.now list.items) }
+    { prepare_all(rt, alloc, front, low) };
+    let second = || -> Result<Vec<Prepared>, NoMemory>
+        requires { IsSync R.row × All IsDrawable back.now }
+        ensures { IfOk result (λ list. ArePrepared back.entry.now list.items) }
+    { prepare_all(rt, alloc, back, high) };
+    let (some, more) = join(rt, first, second);
+    let mut list = some?;
+    let mut rest = more?;
+    list.append(&mut rest)?;
     Ok(list)
 }
 

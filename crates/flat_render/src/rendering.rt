@@ -1,18 +1,18 @@
-ghost use Rattle.std.specs.Prelude.{◌≡◌, ◌*◌, ◌<◌, ◌≤◌, ◌↔◌, All, IfOk, IsTrue};
+ghost use Rattle.std.specs.Prelude.{◌≡◌, ◌*◌, ◌<◌, ◌≤◌, ◌↔◌, All, IfOk, IsTrue, OnErr, OnOk};
 ghost use Rattle.std.specs.Arc.{arc_value};
 ghost use Rattle.std.specs.List.{flat_map};
 ghost use Rattle.flat_drawable.specs.Drawable.{IsDrawable};
 ghost use Rattle.flat_render.specs.Pixels.{pixel};
-ghost use Rattle.flat_render.specs.Pictures.{Shows};
+ghost use Rattle.flat_render.specs.Pictures.{Shows, height_of, width_of};
 ghost use Rattle.flat_render.specs.Ppm.{ppm_bytes};
 
 use crate::grid::{PIXELS_MAX, grid_for, stored};
 use crate::parts::all_strips;
 use crate::picture::Picture;
-use crate::plan::{Plan, Span, THREADS_MAX, threads_for, works_for};
+use crate::plan::{Plan, THREADS_MAX, most_threads, threads_for, works_for};
 use crate::ppm::ppm_head;
 use crate::prepared::prepare_all;
-use crate::spans::draw_span;
+use crate::spans::draw_rows;
 use crate::strips::Strip;
 use flat_base::{Items, NoMemory};
 use flat_scene::ItemList;
@@ -82,9 +82,10 @@ pub fn render(
     ensures { IfOk result (λ picture. Shows picture w h (pixel items.now)) }
 {
     let drawn = items.as_slice();
-    let prepared = prepare_all(alloc, drawn)?;
+    let most = most_threads(rt);
+    let prepared = prepare_all(rt, alloc, drawn, most)?;
     let list = prepared.as_slice();
-    let threads = threads_for(rt, list);
+    let threads = threads_for(list, most);
     let grid = grid_for(w, h, step_for(threads));
     let works = works_for(alloc, list, &grid, threads)?;
     let plan = Plan {
@@ -94,14 +95,39 @@ pub fn render(
         grid,
         works: works.as_slice(),
     };
-    let all = Span {
-        from: 0,
-        upto: grid.down,
-        threads,
-    };
     let mut bytes = vec![in alloc; 0u8; stored(&grid)]?;
-    draw_span(rt, &plan, all, bytes.as_mut_slice());
+    draw_rows(rt, &plan, threads, bytes.as_mut_slice());
     Ok(Picture { grid, bytes })
+}
+
+/// Draws the picture of a draw list in place of another one, whose sides it has. Of the old
+/// picture nothing is read, and its memory serves again. If memory runs out, it stays.
+pub fn render_into(
+    rt: &(impl Threads + Sync),
+    alloc: Global,
+    items: &ItemList,
+    picture: &mut Picture,
+) -> Result<(), NoMemory>
+    requires { All IsDrawable items.now }
+    ensures ok { OnOk result (Shows picture.new (width_of picture.old) (height_of picture.old)
+        (pixel items.now)) }
+    ensures err { OnErr result (picture.new ≡ picture.old) }
+{
+    let drawn = items.as_slice();
+    let most = most_threads(rt);
+    let prepared = prepare_all(rt, alloc, drawn, most)?;
+    let list = prepared.as_slice();
+    let threads = threads_for(list, most);
+    let works = works_for(alloc, list, &picture.grid, threads)?;
+    let plan = Plan {
+        alloc,
+        items: drawn,
+        list,
+        grid: picture.grid,
+        works: works.as_slice(),
+    };
+    draw_rows(rt, &plan, threads, picture.bytes.as_mut_slice());
+    Ok(())
 }
 
 /// The bytes of the picture of a draw list in the form `P6`, as [`ppm_of`](crate::ppm_of) gives
@@ -122,9 +148,10 @@ pub fn render_strips(
         ≡ ppm_bytes w h (pixel items.now)) }
 {
     let drawn = items.as_slice();
-    let prepared = prepare_all(alloc, drawn)?;
+    let most = most_threads(rt);
+    let prepared = prepare_all(rt, alloc, drawn, most)?;
     let list = prepared.as_slice();
-    let threads = threads_for(rt, list);
+    let threads = threads_for(list, most);
     let grid = grid_for(w, h, step_for_strips(drawn.len(), threads));
     let works = works_for(alloc, list, &grid, threads)?;
     let plan = Plan {

@@ -1,7 +1,7 @@
 //! Rows of tiles, drawn by several threads: each takes a span of them.
 ghost use Rattle.std.specs.Prelude.{◌≡◌, ◌+◌, ◌*◌, ◌<◌, ℕ, length, slice_index};
 ghost use Rattle.std.specs.Thread.{IsSync};
-ghost use Rattle.flat_render.specs.Grids.{band_bytes};
+ghost use Rattle.flat_render.specs.Grids.{band_bytes, grid_bytes};
 ghost use Rattle.flat_render.specs.Plans.{IsPlan, IsSpan};
 ghost use Rattle.flat_render.specs.Stored.{drawn_at};
 
@@ -10,7 +10,7 @@ use crate::grid::bytes_of_bands;
 use crate::plan::{Plan, Span, cut_of};
 use std::thread::{Threads, join_mut};
 
-/// Draws the rows of tiles of a span, which are black, in at most its number of threads.
+/// Draws the rows of tiles of a span in at most its number of threads.
 #[cycle(spans)]
 pub fn draw_span<R: Threads + Sync>(rt: &R, plan: &Plan<'_>, span: Span, bytes: &mut [u8])
     requires plan { IsPlan plan.now }
@@ -78,4 +78,22 @@ fn draw_both<R: Threads + Sync>(
             (after.from * band_bytes plan.entry.now.grid + i) }
     { draw_span(rt, plan, after, back) };
     join_mut(rt, &mut first, &mut second);
+}
+
+/// Draws all rows of tiles in at most so many threads.
+pub fn draw_rows<R: Threads + Sync>(rt: &R, plan: &Plan<'_>, threads: usize, bytes: &mut [u8])
+    requires plan { IsPlan plan.now }
+    requires size { length bytes.old ≡ grid_bytes plan.now.grid }
+    ensures { (i : ℕ) → i < length bytes.old → slice_index bytes.new i
+        ≡ drawn_at plan.now.grid plan.now.items.now i }
+{
+    if plan.grid.down == 0 {
+        return;
+    }
+    let all = Span {
+        from: 0,
+        upto: plan.grid.down,
+        threads,
+    };
+    draw_span(rt, plan, all, bytes);
 }

@@ -2,7 +2,7 @@
 //! same memory, so that what is drawn is still in the processor's cache, and a strip that looks
 //! like the one before it shares its bytes.
 ghost use Rattle.std.specs.Prelude.{◌≡◌, ◌+◌, ◌-◌, ◌*◌, ◌<◌, ◌≤◌, ◌++◌, ℕ, All, IfOk, IsTrue};
-ghost use Rattle.std.specs.Prelude.{length, slice_index};
+ghost use Rattle.std.specs.Prelude.{length};
 ghost use Rattle.std.specs.Arc.{arc_value};
 ghost use Rattle.std.specs.List.{flat_map};
 ghost use Rattle.flat_drawable.specs.Drawable.{IsDrawable};
@@ -80,27 +80,6 @@ fn next_strip(
     strip_of(alloc, grid, n, band)
 }
 
-/// Draws a row of tiles, whatever there is.
-fn draw_row(
-    alloc: Global,
-    items: &[DrawItem],
-    list: &[Prepared],
-    grid: &Grid,
-    n: usize,
-    band: &mut [u8],
-)
-    requires items { All IsDrawable items.now }
-    requires prepared { ArePrepared items.now list.now }
-    requires grid { IsGrid grid.now }
-    requires row { n < grid.now.down }
-    requires size { length band.old ≡ band_bytes grid.now }
-    ensures { (m : ℕ) → m < length band.old → slice_index band.new m
-        ≡ drawn_at grid.now items.now (n * band_bytes grid.now + m) }
-{
-    band.fill(0);
-    draw_band(alloc, items, list, grid, n, band);
-}
-
 /// The strips of the rows of tiles from one up to another.
 pub fn draw_strips(
     alloc: Global,
@@ -125,7 +104,7 @@ pub fn draw_strips(
     let mut strips = Vec::with_capacity(alloc, upto - from)?;
     for n in from..upto {
         swap(&mut band, &mut before);
-        draw_row(alloc, items, list, grid, n, band.as_mut_slice());
+        draw_band(alloc, items, list, grid, n, band.as_mut_slice());
         let again = is_again(grid, from, n, before.as_slice(), band.as_slice());
         last = next_strip(alloc, grid, n, band.as_slice(), again, &last)?;
         strips.push(Arc::try_clone(&last)?)?;

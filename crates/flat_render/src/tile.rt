@@ -221,17 +221,17 @@ fn first_seen(items: &[DrawItem], window: Area) -> usize
     0
 }
 
-/// Draws items on a tile that is black.
+/// Draws items on a tile, from black.
 pub fn draw(items: &[DrawItem], tile: Tile, bytes: &mut [u8])
     requires items { All IsDrawable items.now }
     requires tile { IsTile tile }
     requires size { length bytes.old ≡ 3 * pixels_of tile }
-    requires black { (m : ℕ) → m < length bytes.old → slice_index bytes.old m ≡ 0 }
     ensures { (m : ℕ) → m < length bytes.old → slice_index bytes.new m
         ≡ channel_after (channel_at tile m) items.now (x_at tile m) (y_at tile m) 0 }
 {
     let window = area(tile);
     let first = first_seen(items, window);
+    bytes.fill(0);
     paint_all(&items[first..], tile, window, bytes);
 }
 

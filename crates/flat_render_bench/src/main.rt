@@ -1,13 +1,16 @@
 //! Times the renderer: `flat_render_bench KIND COUNT WIDTH HEIGHT ROUNDS` draws a
-//! picture of 1920 by 1080 so many times, with so many items of those sides: opaque
+//! picture of 1920 by 1080 so many times in the same memory, with so many items of those sides: opaque
 //! fills (kind 0), fills of alpha 128 (1), opaque images (2) or images at half
 //! opacity (3); kinds 4 to 7 are the same, and make the bytes of each picture too; kinds 8
 //! to 11 make the bytes alone. It prints the sum of the reds in the middle, and of those lengths.
 #![tactic(auto)]
 
+ghost use Rattle.std.specs.Prelude.{All};
+ghost use Rattle.flat_drawable.specs.Drawable.{IsDrawable};
+
 use flat_base::{BufferNo, IntRect, Items, NoMemory, SessionNo};
 use flat_drawable::{are_drawable, full_rect};
-use flat_render::{Strip, ppm_of, render, render_strips};
+use flat_render::{Picture, Strip, ppm_of, render, render_into, render_strips};
 use flat_scene::{BlendMode, DrawItem, ImageFlip, ItemList, Paint, SceneMatrix};
 use std::alloc::Global;
 use std::process::ExitCode;
@@ -108,20 +111,47 @@ fn bytes_in(strips: &[Strip]) -> u64 {
     sum
 }
 
+/// Makes the bytes of so many pictures, and answers how many there are.
+fn draw_bytes(
+    rt: &(impl Threads + Sync),
+    alloc: Global,
+    items: &ItemList,
+    rounds: u32,
+) -> Result<u64, NoMemory>
+    requires { All IsDrawable items.now }
+{
+    let mut sum = 0u64;
+    for _round in 0..rounds {
+        let strips = render_strips(rt, alloc, items, WIDTH, HEIGHT)?;
+        sum = sum.wrapping_add(bytes_in(strips.as_slice()));
+    }
+    Ok(sum)
+}
+
+/// The red of the pixel in a picture's middle.
+fn red_in_middle(picture: &Picture) -> u8 {
+    let (x, y) = (picture.width() / 2, picture.height() / 2);
+    if x < picture.width() && y < picture.height() {
+        picture.pixel(x, y)[0]
+    } else {
+        0
+    }
+}
+
+/// Draws the pictures, all of them in the memory of one.
 fn draw(rt: &(impl Threads + Sync), alloc: Global, load: &Load) -> Result<u64, NoMemory> {
     let items = scene(alloc, load)?;
     if !are_drawable(items.as_slice()) {
         return Ok(0);
     }
+    if load.kind >= BYTES_ALONE {
+        return draw_bytes(rt, alloc, &items, load.rounds);
+    }
     let mut sum = 0u64;
+    let mut picture = render(rt, alloc, &items, WIDTH, HEIGHT)?;
     for _round in 0..load.rounds {
-        if load.kind >= BYTES_ALONE {
-            let strips = render_strips(rt, alloc, &items, WIDTH, HEIGHT)?;
-            sum = sum.wrapping_add(bytes_in(strips.as_slice()));
-            continue;
-        }
-        let picture = render(rt, alloc, &items, WIDTH, HEIGHT)?;
-        sum = sum.wrapping_add(picture.pixel(WIDTH / 2, HEIGHT / 2)[0] as u64);
+        render_into(rt, alloc, &items, &mut picture)?;
+        sum = sum.wrapping_add(red_in_middle(&picture) as u64);
         if load.kind >= KINDS {
             sum = sum.wrapping_add(ppm_of(alloc, &picture)?.len() as u64);
         }

@@ -3,7 +3,7 @@ ghost use Rattle.std.specs.Prelude.{◌<◌};
 use crate::scenes::{BLACK, WHITE, Wrong, fill, list, repainted, shown_of, white, wrong};
 use flat_base::{NoMemory, Rect};
 use flat_drawable::are_drawable;
-use flat_render::{Strip, is_too_large, ppm_of, ppm_rows, render, render_strips};
+use flat_render::{Strip, is_too_large, ppm_of, ppm_rows, render, render_into, render_strips};
 use flat_scene::{BlendMode, ItemList};
 use std::alloc::Global;
 use std::process::Abort;
@@ -160,11 +160,33 @@ fn bytes_of_whole(
     ppm_of(alloc, &picture)
 }
 
+/// The bytes of such a picture, drawn in the memory of a white one.
+fn bytes_in_place(
+    rt: &(impl Abort + Threads + Sync),
+    alloc: Global,
+    items: &ItemList,
+) -> Result<Vec<u8>, NoMemory> {
+    assert!(rt; are_drawable(items.as_slice()));
+    let mut picture = shown_of(rt, alloc, &[white(100, 100)], 100, 100)?;
+    render_into(rt, alloc, items, &mut picture)?;
+    ppm_of(alloc, &picture)
+}
+
 /// Where there is much to draw, several threads make the same bytes.
 #[test]
 fn bytes_are_made_in_parts(rt: HostRuntime) -> Result<(), Fail> {
     let items = many(rt.alloc(), 20_000)?;
     let made = bytes_in_strips(&rt, rt.alloc(), &items)?;
+    let expected = bytes_of_whole(&rt, rt.alloc(), &items)?;
+    assert_eq!(rt; made.as_slice(), expected.as_slice());
+    Ok(())
+}
+
+/// They draw the same picture in place of another.
+#[test]
+fn pictures_are_drawn_in_place(rt: HostRuntime) -> Result<(), Fail> {
+    let items = many(rt.alloc(), 20_000)?;
+    let made = bytes_in_place(&rt, rt.alloc(), &items)?;
     let expected = bytes_of_whole(&rt, rt.alloc(), &items)?;
     assert_eq!(rt; made.as_slice(), expected.as_slice());
     Ok(())

@@ -7,6 +7,7 @@ pub mod ItemLines
 pub mod MoreExamples
 pub mod Paging
 pub mod Piecing
+pub mod Reaching
 mod ScaledExample
 mod SmallHanded
 mod SmallProbes

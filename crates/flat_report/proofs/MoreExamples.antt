@@ -3,11 +3,11 @@ use Rattle.std.proofs.Common.{◌≡◌, [], ◌∷◌, refl}
 use Rattle.std.specs.Prelude.{map, codes}
 use Rattle.std.specs.Fmt.{digits}
 use Rattle.flat_places.specs.declared.script.Script.{Script}
-use Rattle.flat_rules.proofs.lemmas.MoreRuns.{b16_token_not_back_yet-setup, b16_token_not_back_yet-history, b16_token_not_back_yet-lines}
-use Rattle.flat_rules.proofs.lemmas.MoreRuns.{layout_before_first_present-setup, layout_before_first_present-history, layout_before_first_present-lines}
-use Rattle.flat_rules.proofs.lemmas.MoreRuns.{cycle_of_links_is_never_reached-setup, cycle_of_links_is_never_reached-history}
-use Rattle.flat_rules.proofs.lemmas.MoreRuns.{cycle_of_links_is_never_reached-lines, token_comes_back-setup, token_comes_back-history, token_comes_back-lines}
-use Rattle.flat_rules.proofs.lemmas.MoreRuns.{app_gone_before_all-setup, app_gone_before_all-history, app_gone_before_all-lines}
+use Rattle.flat_rules.proofs.lemmas.TokenRuns.{b16_token_not_back_yet-setup, b16_token_not_back_yet-history, b16_token_not_back_yet-lines}
+use Rattle.flat_rules.proofs.lemmas.LayoutRuns.{layout_before_first_present-setup, layout_before_first_present-history, layout_before_first_present-lines}
+use Rattle.flat_rules.proofs.lemmas.TokenRuns.{cycle_of_links_is_never_reached-setup, cycle_of_links_is_never_reached-history}
+use Rattle.flat_rules.proofs.lemmas.TokenRuns.{cycle_of_links_is_never_reached-lines, token_comes_back-setup, token_comes_back-history, token_comes_back-lines}
+use Rattle.flat_rules.proofs.lemmas.EndRuns.{app_gone_before_all-setup, app_gone_before_all-history, app_gone_before_all-lines}
 use Rattle.flat_report.specs.Report.{report_lines}
 use Rattle.flat_page.specs.Words.{line_of}
 

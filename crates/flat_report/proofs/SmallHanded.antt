@@ -13,7 +13,7 @@ use Rattle.flat_report.specs.declared.probes.ProbeAnswer.{ProbeAnswer}
 use Rattle.flat_report.specs.declared.report.HitAnswer.{HitAnswer}
 use Rattle.flat_page.specs.Words.{text_of}
 use Rattle.flat_lines.specs.EntryLines.{entry_line}
-use Rattle.flat_report.specs.Handed.{answers_text, first_hits, first_posts, handed_text, handed_entries}
+use Rattle.flat_report.specs.Handed.{Rest, after_entries, answers_text, entries_text, first_hits, first_posts, handed_text, handed_entries}
 use Rattle.flat_lines.specs.Ends.{end_line}
 
 module _ (s : SessionNo) (event : Event) where
@@ -37,6 +37,25 @@ module _ (s : SessionNo) (event : Event) where
           ≡ handed_text script lost 0 (text ∷ []) answers (post 0 ∷ post 0 ∷ []) done
           ++ (handed_text script lost 1 [] answers (post 1 ∷ []) poll ++ (answers_text script probes ++ text_of (end_line 2 1 ∷ [])))
       in-turn = refl
+
+      abbrev start : Rest
+      start = record { place = 0; finished = 0; texts = text ∷ []; answers = answers; posts = post 0 ∷ post 0 ∷ post 1 ∷ [] }
+
+      abbrev middle : Rest
+      middle = record { place = 1; finished = 1; texts = []; answers = answers; posts = post 1 ∷ [] }
+
+      -- the same two entries alone
+      alone : entries_text script lost start (done ∷ poll ∷ [])
+          ≡ handed_text script lost 0 (text ∷ []) answers (post 0 ∷ post 0 ∷ []) done ++ (handed_text script lost 1 [] answers (post 1 ∷ []) poll ++ [])
+      alone = refl
+
+      -- what is left between them: one frame is finished, its text is taken, and so are two posts
+      between : after_entries start (done ∷ []) ≡ middle
+      between = refl
+
+      -- so a report that is cut there begins again with the second entry's own post
+      after_cut : entries_text script lost (after_entries start (done ∷ [])) (poll ∷ []) ≡ handed_text script lost 1 [] answers (post 1 ∷ []) poll ++ []
+      after_cut = refl
 
       -- between the line of a done and its events stand the text of the frame and the displays that were lost at it
       shown : handed_text script [] 0 (text ∷ []) answers [] done ≡ text_of (entry_line script 0 (λ x y. first_hits answers) done ∷ []) ++ (text ++ []) ++ []

@@ -1,8 +1,8 @@
--- The report, entry by entry.
-use Rattle.std.proofs.Common.{◌≡◌, ◌≤◌, ◌<◌, ◌^◌, ℕ, zero, suc, ◌+◌, cond, Bool, true, false, ◌==◌, List, [], ◌∷◌, ◌++◌, filter, take, take_while, drop, length}
-use Rattle.std.proofs.Common.{reverse, get_or, refl, sym, ap, ◌∙◌, subst, arith, append-nil, append_assoc, add-one, map}
+-- What is handed in is written as the report, where it is that of the history.
+use Rattle.std.proofs.Common.{◌≡◌, ℕ, suc, ◌+◌, cond, Bool, true, false, ◌==◌, List, [], ◌∷◌, ◌++◌, filter, take, take_while, drop, length}
+use Rattle.std.proofs.Common.{reverse, refl, sym, ap, ◌∙◌, append-nil, append_assoc, add-one, map}
 use Rattle.std.specs.List.{zip}
-use Rattle.std.proofs.Math.Seq.{drop-cons, take-append_seam, drop-append_seam}
+use Rattle.std.proofs.Math.Seq.{take-append_seam, drop-append_seam}
 use Rattle.flat_scene.specs.declared.frames.Lost.{Lost}
 use Rattle.flat_scene.specs.declared.journal.Entry.{Entry}
 use Rattle.flat_scene.specs.declared.journal.Post.{Post}
@@ -25,99 +25,6 @@ use Rattle.flat_places.specs.Forms.{Word}
 use Rattle.flat_report.proofs.Answered.{probes-text}
 use Rattle.flat_report.proofs.lemmas.Tails.{onto, tail, post_step, frame_step, answer_step, onto-reverse, grows, next_posts, next_text, later_texts}
 use Rattle.flat_report.proofs.lemmas.Tails.{later_answers, finished_one, text-append}
-
--- How far the loop has come: so many entries were written, and with what is left they make up the whole text.
-pub record Written (script : Script) (lost : List Lost) (probes : List (List ProbeAnswer)) (all : List Entry) (ps0 : List Post) (ts0 : List (List ℕ))
-    (hs0 : List HitAnswer) (old new : List ℕ) (place : ℕ) (posts : List Post) (texts : List (List ℕ)) (answers : List HitAnswer) (finished : ℕ) : Type 0 where
-  pub so_far : List ℕ
-  pub text : new ≡ old ++ so_far
-  pub whole : so_far ++ handed_entries script lost probes place finished texts answers posts (drop place all)
-      ≡ handed_entries script lost probes 0 0 ts0 hs0 ps0 all
-  pub few : finished ≤ place
-  pub within : place ≤ length all
-  pub small : length all < 2 ^ 63
-
-few_more : (b : Bool) (n place : ℕ) → n ≤ place → n + cond b 1 0 ≤ place + 1
-few_more true n place few = omega arith
-few_more false n place few = omega arith
-
-none_left : (all : List Entry) (place : ℕ) → length all ≤ place → drop place all ≡ []
-none_left [] zero end = refl
-none_left [] (suc place) end = refl
-none_left (x ∷ xs) zero end = absurd (omega arith)
-none_left (x ∷ xs) (suc place) end = none_left xs place (omega arith)
-
-module _ (script : Script) (lost : List Lost) (probes : List (List ProbeAnswer)) (all : List Entry) (ps0 : List Post) (ts0 : List (List ℕ))
-    (hs0 : List HitAnswer) (old : List ℕ) where
-  -- at first nothing is written
-  pub written_first : (ps : List Post) (ts : List (List ℕ)) (hs : List HitAnswer) → ps ≡ ps0 → ts ≡ ts0 → hs ≡ hs0 → length all < 2 ^ 63
-      → Written script lost probes all ps0 ts0 hs0 old old 0 ps ts hs 0
-  written_first ps ts hs ps_are ts_are hs_are small =
-      record {
-        so_far = [];
-        text = sym (append-nil old);
-        whole = (λ i. handed_entries script lost probes 0 0 (ts_are i) (hs_are i) (ps_are i) all);
-        few = omega arith;
-        within = omega arith;
-        small = small;
-      }
-
-  -- at last all is, with the probes' lines and the last line
-  pub written_all : {page : List ℕ} {place : ℕ} {ps : List Post} {ts : List (List ℕ)} {hs : List HitAnswer} {count entries : ℕ} {last : List ℕ}
-      → length all ≤ place → entries ≡ length all → last ≡ page ++ (answers_text script probes ++ text_of (end_line entries count ∷ []))
-      → Written script lost probes all ps0 ts0 hs0 old page place ps ts hs count → last ≡ old ++ handed_entries script lost probes 0 0 ts0 hs0 ps0 all
-  written_all {place = place} {ps = ps} {ts = ts} {hs = hs} {count = count} {entries = entries} end many last_is written =
-      let at : entries ≡ place = let most = written.within in omega (arith, many, end, most) in
-      let rest : ℕ → List ℕ = λ n. answers_text script probes ++ text_of (end_line n count ∷ []) in
-      last_is ∙ ap (λ t. t ++ rest entries) written.text ∙ append_assoc old written.so_far (rest entries)
-      ∙ ap (λ n. old ++ (written.so_far ++ rest n)) at
-      ∙ ap (λ es. old ++ (written.so_far ++ handed_entries script lost probes place count ts hs ps es)) (sym (none_left all place end))
-      ∙ ap (λ t. old ++ t) written.whole
-
-  -- one entry more
-  pub written_more : (page new : List ℕ) (place : ℕ) (ps : List Post) (ts : List (List ℕ)) (hs : List HitAnswer) (count : ℕ) (d : Entry) → place < length all
-      → Written script lost probes all ps0 ts0 hs0 old page place ps ts hs count
-      → (many : ℕ) → many ≡ first_posts place ps
-      → new ≡ page ++ handed_text script lost count ts hs (take many ps) (get_or all place d)
-      → Written script lost probes all ps0 ts0 hs0 old new (place + 1) (drop many ps) (texts_after (get_or all place d).kind ts)
-      (answers_after (get_or all place d).kind hs) (count + cond (is_finish (get_or all place d).kind) 1 0)
-  written_more page new place ps ts hs count d within written many many_is writes =
-      let entry : Entry = get_or all place d in
-      let later : List Entry = drop (place + 1) all in
-      let rest : drop place all ≡ entry ∷ later = drop-cons all place d within ∙ ap (λ n. entry ∷ drop n all) (sym (add-one place)) in
-      let after : ℕ → List ℕ = λ m. handed_entries script lost probes (place + 1) (count + cond (is_finish entry.kind) 1 0) (texts_after entry.kind ts)
-      (answers_after entry.kind hs) (drop m ps) later in
-      record {
-        so_far = written.so_far ++ handed_text script lost count ts hs (take many ps) entry;
-        text = writes ∙ ap (λ t. t ++ handed_text script lost count ts hs (take many ps) entry) written.text
-            ∙ append_assoc old written.so_far (handed_text script lost count ts hs (take many ps) entry);
-        whole = append_assoc written.so_far (handed_text script lost count ts hs (take many ps) entry) (after many)
-            ∙ ap (λ m. written.so_far ++ (handed_text script lost count ts hs (take m ps) entry ++ after m)) many_is
-            ∙ ap (λ es. written.so_far ++ handed_entries script lost probes place count ts hs ps es) (sym rest) ∙ written.whole;
-        few = few_more (is_finish entry.kind) count place written.few;
-        within = omega arith;
-        small = written.small;
-      }
-
-  -- the same, of values that are equal to those
-  pub written_next : (page new : List ℕ) (place : ℕ) (ps : List Post) (ts : List (List ℕ)) (hs : List HitAnswer) (count : ℕ) (entry : Entry)
-      → place < length all → Written script lost probes all ps0 ts0 hs0 old page place ps ts hs count
-      → entry ≡ get_or all place entry → (many : ℕ) → many ≡ first_posts place ps
-      → (mine later : List Post) → mine ≡ take many ps → later ≡ drop many ps → new ≡ page ++ handed_text script lost count ts hs mine entry
-      → (texts_left : List (List ℕ)) → texts_left ≡ texts_after entry.kind ts → (answers_left : List HitAnswer) → answers_left ≡ answers_after entry.kind hs
-      → (next : ℕ) → next ≡ count + cond (is_finish entry.kind) 1 0
-      → Written script lost probes all ps0 ts0 hs0 old new (place + 1) later texts_left answers_left next
-  written_next page new place ps ts hs count entry within written is many many_is mine later mine_is later_is writes texts_left texts_is answers_left answers_is
-      next next_is =
-      let P : Entry → Type 0 = λ e. new ≡ page ++ handed_text script lost count ts hs (take many ps) e in
-      let Q : Entry → Type 0 = λ e. Written script lost probes all ps0 ts0 hs0 old new (place + 1) (drop many ps) (texts_after e.kind ts)
-      (answers_after e.kind hs) (count + cond (is_finish e.kind) 1 0) in
-      let R : List Post → Type 0 = λ ps. new ≡ page ++ handed_text script lost count ts hs ps entry in
-      let writes_here : P (get_or all place entry) = subst P is (subst R mine_is writes) in
-      let done : Q entry = subst Q (sym is) (written_more page new place ps ts hs count entry within written many many_is writes_here) in
-      rw (later_is, texts_is, answers_is, next_is) done
-
--- ---- where what is handed in is that of the history
 
 -- the posts of the next entry, and those after them
 split_posts : (setup : Setup) (before : List Entry) (entry : Entry) (later : List Entry) (ps : List Post) (count : ℕ)

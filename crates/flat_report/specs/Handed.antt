@@ -108,3 +108,39 @@ abbrev pub handed_report : Script → List Entry → List Post → List (List �
     → List (List ProbeAnswer) → List ℕ
 handed_report script entries posts texts lost answers probes =
     text_of (title_line script.version ∷ []) ++ handed_entries script lost probes 0 0 texts answers posts entries
+
+-- ---- the text of some entries alone
+
+-- what is left before an entry: its place, how many frames were finished before it, and what is handed in from it on
+pub record Rest : Type 0 where
+  pub place : ℕ
+  pub finished : ℕ
+  pub texts : List (List ℕ)
+  pub answers : List HitAnswer
+  pub posts : List Post
+
+-- what is left after an entry
+abbrev pub after_entry : Rest → Entry → Rest
+after_entry rest entry = record {
+  place = rest.place + 1;
+  finished = rest.finished + cond (is_finish entry.kind) 1 0;
+  texts = texts_after entry.kind rest.texts;
+  answers = answers_after entry.kind rest.answers;
+  posts = drop (first_posts rest.place rest.posts) rest.posts;
+}
+
+-- what is left after some entries
+abbrev pub after_entries : Rest → List Entry → Rest
+after_entries rest [] = rest
+after_entries rest (entry ∷ later) = after_entries (after_entry rest entry) later
+
+-- the text of an entry, by what is left before it
+abbrev pub entry_text : Script → List Lost → Rest → Entry → List ℕ
+entry_text script lost rest entry = handed_text script lost rest.finished rest.texts rest.answers
+    (take (first_posts rest.place rest.posts) rest.posts) entry
+
+-- the text of some entries, by what is left before the first of them
+abbrev pub entries_text : Script → List Lost → Rest → List Entry → List ℕ
+entries_text script lost rest [] = []
+entries_text script lost rest (entry ∷ later) =
+    entry_text script lost rest entry ++ entries_text script lost (after_entry rest entry) later

@@ -6,3 +6,4 @@ pub mod Laws
 pub mod Probes
 pub mod Report
 pub mod Runs
+pub mod Sections

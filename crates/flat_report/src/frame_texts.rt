@@ -19,7 +19,6 @@ use flat_page::Page;
 use flat_places::Script;
 use flat_scene::{FrameOut, ViewTree};
 use std::alloc::Global;
-use std::collections::VecDeque;
 use std::sync::Arc;
 
 /// Puts the lines of some stretches behind a text, which shares them.
@@ -62,7 +61,7 @@ fn text_with(
 #[derive(Drop)]
 pub struct FrameTexts {
     alloc: Global,
-    pub(crate) texts: VecDeque<Pieces>,
+    pub(crate) texts: Vec<Pieces>,
     last: ItemLines,
 }
 
@@ -73,7 +72,7 @@ impl FrameTexts {
     {
         FrameTexts {
             alloc,
-            texts: VecDeque::new(alloc),
+            texts: Vec::new(alloc),
             last: ItemLines::none(alloc),
         }
     }
@@ -85,7 +84,7 @@ impl FrameTexts {
     {
         let stretches = self.last.next(self.alloc, script, frame.items.as_slice())?;
         let text = text_with(self.alloc, script, stretches.as_slice(), &frame.tree)?;
-        self.texts.push_back(text)?;
+        self.texts.push(text)?;
         self.last = ItemLines {
             frame: Some(frame),
             stretches,
@@ -106,16 +105,16 @@ impl FrameTexts {
             OnOk result (AreTexts script.now (frames ++ unchanged number tree last ∷ []) self.new) }
     {
         let text = text_with(self.alloc, script, self.last.stretches.as_slice(), &tree)?;
-        self.texts.push_back(text)?;
+        self.texts.push(text)?;
         self.last.frame = unchanged(self.last.frame.take(), number, tree);
         Ok(())
     }
 
-    /// The texts alone.
-    pub(crate) fn into_texts(self) -> VecDeque<Pieces>
-        ensures { result.items ≡ self.texts.items }
+    /// The texts, in order.
+    pub(crate) fn as_slice(&self) -> &[Pieces]
+        ensures { result.now ≡ self.now.texts.items }
     {
-        self.texts
+        self.texts.as_slice()
     }
 
     /// The last frame, if there is one.
@@ -131,6 +130,6 @@ impl FrameTexts {
         ensures { (script : Script) (frames : List FrameOut) → AreTexts script frames self.now →
             option_map (λ text. text.now) result ≡ last_item (map (frame_text script) frames) }
     {
-        self.texts.back()
+        self.texts.last()
     }
 }

@@ -2,10 +2,12 @@
 //!
 //! It keeps `report` (specs/Report), which is what `print_report` writes of what it is
 //! handed (`handed_report`, specs/Handed) where that is what the rules say of the history.
-//! report.rt goes through the journal, with the lines of flat_lines; what probes are
-//! answered is in probes.rt, and their lines in probe_lines.rt; the texts of finished frames
-//! are kept in frame_texts.rt, with the lines of draw items shared from frame to frame in
-//! item_lines.rt, and the report's own text is put together in paged_text.rt.
+//! sections.rt goes through entries of the journal, with the lines of flat_lines, and
+//! cursor.rt says what is left before each of them; report.rt writes the whole, and apart.rt
+//! writes sections of it on several threads (`print_report_on`). What probes are answered is
+//! in probes.rt, and their lines in probe_lines.rt; the texts of finished frames are kept in
+//! frame_texts.rt, with the lines of draw items shared from frame to frame in item_lines.rt,
+//! and the report's own text is put together in paged_text.rt.
 //!
 //! Other crates may cite the lemmas of proofs/lemmas/: what answers to probes are after one
 //! answer more, and after more entries (ProbeSteps); how the text of an entry, of a frame and
@@ -13,6 +15,8 @@
 //! (Turns, Tails, Reading, SeenTold), and which displays it says were lost (Losses).
 #![tactic(auto)]
 
+mod apart;
+mod cursor;
 mod frame_texts;
 mod item_lines;
 mod laws;
@@ -21,6 +25,7 @@ mod pieces;
 mod probe_lines;
 mod probes;
 mod report;
+mod sections;
 mod unchanged_frame;
 
 pub use frame_texts::FrameTexts;
@@ -30,5 +35,5 @@ pub use laws::{
 };
 pub use pieces::{Pieces, Run};
 pub use probes::{ProbeAnswer, ProbeAnswers};
-pub use report::{HitAnswer, HitAnswers, print_report};
+pub use report::{HitAnswer, HitAnswers, RunRecord, print_report, print_report_on};
 pub use unchanged_frame::unchanged;

@@ -1,25 +1,29 @@
 //! The report, which composes nothing: it writes what it is handed, without a condition
 //! (specs/Handed), and a law says when that is the report of a history.
-ghost use Rattle.std.specs.Prelude.{◌≡◌, ◌++◌, ◌∷◌, ◌+◌, ◌-◌, ◌<◌, ◌^◌, [], OnOk, IfOk, cond, drop};
-ghost use Rattle.std.specs.Prelude.{map};
-ghost use Rattle.std.specs.Arc.{arc_value};
-ghost use Rattle.std.specs.List.{concat};
-ghost use Rattle.flat_scene.specs.History.{is_finish};
+ghost use Rattle.std.specs.Prelude.{◌≡◌, ◌++◌, ◌∷◌, [], List, OnOk, IfOk, map};
 ghost use Rattle.flat_page.specs.Words.{text_of};
 ghost use Rattle.flat_lines.specs.Ends.{end_line};
-ghost use Rattle.flat_report.specs.Handed.{answer_line, answers_text, first_hits};
-ghost use Rattle.flat_report.specs.Handed.{answers_after, texts_after, first_posts, shown_text};
-ghost use Rattle.flat_report.specs.Handed.{handed_text, handed_entries, handed_report};
+ghost use Rattle.flat_places.specs.declared.script.Script.{Script};
+ghost use Rattle.flat_report.specs.declared.probes.ProbeAnswer.{ProbeAnswer};
+ghost use Rattle.flat_report.specs.Handed.{answer_line, answers_text, handed_report};
+ghost use Rattle.flat_report.specs.Sections.{Fits, whole_text};
 
+use crate::apart::print_apart;
+use crate::cursor::Cursor;
 use crate::frame_texts::FrameTexts;
 use crate::paged_text::PagedText;
-use crate::pieces::{Pieces, Run};
+use crate::pieces::Pieces;
 use crate::probes::{ProbeAnswer, ProbeAnswers};
+use crate::sections::{Section, push_section};
 use flat_base::{Actor, FrameNo, Items, NoMemory};
 use flat_places::Script;
-use flat_scene::{Entry, Hit, HitList, Journal, Kind, Lost, Post};
+use flat_scene::{HitList, Journal, Lost};
 use std::alloc::Global;
-use std::collections::VecDeque;
+use std::thread::Threads;
+
+/// A journal with fewer entries is written by one thread, since threads cost more there than
+/// they save.
+const SHORT_JOURNAL: usize = 524_288;
 
 /// The answer to a line that asks for a point of the display.
 #[derive(Drop)]
@@ -34,126 +38,6 @@ pub struct HitAnswer {
 
 /// Answers, in the order of the lines.
 pub type HitAnswers = Items<HitAnswer>;
-
-/// How many of the posts, from the first, are of the entry at that place.
-fn posts_of(posts: &[Post], place: usize) -> usize
-    ensures { result ≡ first_posts place posts.now }
-{
-    posts
-        .iter()
-        .take_while(|post| post.entry as usize == place)
-        .count()
-}
-
-/// The hits of the first answer.
-fn first_hits(answers: &[HitAnswer]) -> &[Hit]
-    ensures { result.now ≡ first_hits answers.now }
-{
-    match answers {
-        [first, ..] => first.hits.as_slice(),
-        [] => &[],
-    }
-}
-
-/// The answers after an entry of this kind.
-fn answers_after<'a>(answers: &'a [HitAnswer], kind: &Kind) -> &'a [HitAnswer]
-    ensures { result.now ≡ answers_after kind.now answers.now }
-{
-    match (kind, answers) {
-        (Kind::Hit(_, _), [_, later @ ..]) => later,
-        _ => answers,
-    }
-}
-
-/// How many frames are finished after an entry of this kind.
-fn finished_after(finished: u64, kind: &Kind) -> u64
-    requires { finished < 2 ^ 64 - 1 }
-    ensures { result ≡ finished + cond (is_finish kind.now) 1 0 }
-{
-    match kind {
-        Kind::Finish => finished + 1,
-        _ => finished,
-    }
-}
-
-/// Puts runs of a text.
-fn push_runs(paged: &mut PagedText, runs: &[Run]) -> Result<(), NoMemory>
-    ensures { OnOk result (paged.new ≡ paged.old ++ concat (map arc_value runs.now)) }
-{
-    for run in runs {
-        paged.add(run)?;
-    }
-    Ok(())
-}
-
-/// What stands between a done line and its events: the text of the frame, which is
-/// the first of those left and is taken off them, and the lines of the displays that
-/// were lost at it.
-fn push_shown(
-    paged: &mut PagedText,
-    lost: &[Lost],
-    number: u64,
-    texts: &mut VecDeque<Pieces>,
-) -> Result<(), NoMemory>
-    ensures text { OnOk result
-        (paged.new ≡ paged.old ++ shown_text lost.now number texts.old.items) }
-    ensures left { OnOk result (texts.new.items ≡ drop 1 texts.old.items) }
-{
-    if let Some(text) = texts.pop_front() {
-        push_runs(paged, text.as_slice())?;
-    }
-    paged.losses(number, lost)?;
-    Ok(())
-}
-
-/// The same, where an entry of this kind finishes a frame.
-fn push_finished(
-    paged: &mut PagedText,
-    lost: &[Lost],
-    number: u64,
-    texts: &mut VecDeque<Pieces>,
-    kind: &Kind,
-) -> Result<(), NoMemory>
-    ensures text { OnOk result (paged.new ≡ paged.old
-        ++ cond (is_finish kind.now) (shown_text lost.now number texts.old.items) []) }
-    ensures left { OnOk result (texts.new.items ≡ texts_after kind.now texts.old.items) }
-{
-    match kind {
-        Kind::Finish => push_shown(paged, lost, number, texts),
-        _ => Ok(()),
-    }
-}
-
-/// What is handed in of an entry: its own events, and the answers from it on.
-#[derive(Clone, Copy)]
-struct Handed<'a> {
-    entry: &'a Entry,
-    posts: &'a [Post],
-    answers: &'a [HitAnswer],
-}
-
-/// The text of an entry, by what is handed in of it, and by the texts of frames from it
-/// on.
-fn push_handed(
-    paged: &mut PagedText,
-    script: &Script,
-    lost: &[Lost],
-    finished: u64,
-    texts: &mut VecDeque<Pieces>,
-    handed: &Handed<'_>,
-) -> Result<(), NoMemory>
-    requires few { finished < 2 ^ 64 - 1 }
-    ensures text { OnOk result (paged.new ≡ paged.old ++ handed_text script.now lost.now finished
-        texts.old.items handed.now.answers.now handed.now.posts.now handed.now.entry.now) }
-    ensures left { OnOk result
-        (texts.new.items ≡ texts_after handed.now.entry.now.kind texts.old.items) }
-{
-    paged.entry(script, finished, first_hits(handed.answers), handed.entry)?;
-    push_finished(paged, lost, finished + 1, texts, &handed.entry.kind)?;
-    paged.posts(script, handed.posts)?;
-    paged.turn_full()?;
-    Ok(())
-}
 
 /// The line of an answer of a probe, on a page that isn't full yet.
 fn push_answer(paged: &mut PagedText, script: &Script, answer: &ProbeAnswer) -> Result<(), NoMemory>
@@ -196,7 +80,7 @@ fn push_probes(
 
 /// What stands behind the text of the entries, of which there are so many, and so many
 /// finished frames: the probes' lines and the last line.
-fn push_rest(
+pub(crate) fn push_rest(
     paged: &mut PagedText,
     script: &Script,
     probes: &[ProbeAnswers],
@@ -211,38 +95,74 @@ fn push_rest(
     Ok(())
 }
 
-/// The text of all entries, and what stands behind it.
-fn push_history(
+/// What a run leaves for its report.
+#[derive(Clone, Copy)]
+pub struct RunRecord<'a> {
+    /// All entries and all events posted.
+    pub journal: &'a Journal,
+    /// The texts of the finished frames, one for each `done`.
+    pub frames: &'a FrameTexts,
+    /// The displays that were lost.
+    pub lost: &'a [Lost],
+    /// The answers to the compositor's points, in order.
+    pub answers: &'a HitAnswers,
+    /// The answers of the probes, those of one probe behind those of another.
+    pub probes: &'a [ProbeAnswers],
+}
+
+impl RunRecord<'_> {
+    /// All entries, as one section.
+    fn whole(&self) -> Section<'_>
+        ensures text { (script : Script) (probes : List (List ProbeAnswer)) →
+            whole_text script probes result ≡ handed_report script self.now.journal.now.entries.items
+            self.now.journal.now.posts.items self.now.frames.now.texts.items self.now.lost.now
+            self.now.answers.now probes }
+        ensures fits { Fits result.start result.entries.now }
+    {
+        Section {
+            start: Cursor::first(
+                self.frames.as_slice(),
+                self.answers.as_slice(),
+                self.journal.posts.as_slice(),
+            ),
+            entries: self.journal.entries.as_slice(),
+            lost: self.lost,
+        }
+    }
+}
+
+/// The first line, the text of all entries, and what stands behind it.
+fn push_whole(
     paged: &mut PagedText,
     script: &Script,
-    journal: &Journal,
-    texts: &mut VecDeque<Pieces>,
-    lost: &[Lost],
-    answers: &[HitAnswer],
+    whole: &Section<'_>,
     probes: &[ProbeAnswers],
 ) -> Result<(), NoMemory>
-    ensures { OnOk result (paged.new ≡ paged.old
-        ++ handed_entries script.now lost.now probes.now 0 0 texts.old.items answers.now
-        journal.now.posts.items journal.now.entries.items) }
+    requires { Fits whole.now.start whole.now.entries.now }
+    ensures { OnOk result (paged.new ≡ paged.old ++ whole_text script.now probes.now whole.now) }
 {
-    let mut posts = journal.posts.as_slice();
-    let mut answers = answers;
-    let mut finished = 0;
-    for (place, entry) in journal.entries.iter().enumerate() {
-        let (mine, later) = posts.split_at(posts_of(posts, place));
-        let handed = Handed {
-            entry,
-            posts: mine,
-            answers,
-        };
-        push_handed(paged, script, lost, finished, texts, &handed)?;
-        posts = later;
-        answers = answers_after(answers, &entry.kind);
-        finished = finished_after(finished, &entry.kind);
-    }
-    let entries = journal.entries.as_slice();
-    push_rest(paged, script, probes, entries.len(), finished)?;
+    paged.title(script.version)?;
+    let end = push_section(paged, script, whole)?;
+    push_rest(paged, script, probes, end.place, end.finished)?;
     Ok(())
+}
+
+/// The report whose entries are these.
+fn print_whole(
+    alloc: Global,
+    script: &Script,
+    whole: &Section<'_>,
+    probes: &[ProbeAnswers],
+) -> Result<Pieces, NoMemory>
+    requires { Fits whole.now.start whole.now.entries.now }
+    ensures { IfOk result (λ text. text ≡ whole_text script.now probes.now whole.now) }
+{
+    let mut paged = PagedText::new(alloc);
+    let Ok(()) = push_whole(&mut paged, script, whole, probes) else {
+        drop(paged);
+        return Err(NoMemory);
+    };
+    paged.into_pieces()
 }
 
 /// The report of a run.
@@ -256,37 +176,28 @@ fn push_history(
 ///
 /// Long runs of frames are shared by the report, so that what it takes beside
 /// them is the room of the other lines.
-pub fn print_report(
+pub fn print_report(alloc: Global, script: &Script, run: &RunRecord<'_>) -> Result<Pieces, NoMemory>
+    ensures { IfOk result (λ text. text ≡ handed_report script.now
+        run.now.journal.now.entries.items run.now.journal.now.posts.items
+        run.now.frames.now.texts.items run.now.lost.now run.now.answers.now run.now.probes.now) }
+{
+    print_whole(alloc, script, &run.whole(), run.probes)
+}
+
+/// The same report, written by several threads where the journal is long: each writes a
+/// section of the entries.
+pub fn print_report_on<T: Threads + Sync>(
+    rt: &T,
     alloc: Global,
     script: &Script,
-    journal: &Journal,
-    frames: FrameTexts,
-    lost: &[Lost],
-    answers: &HitAnswers,
-    probes: &[ProbeAnswers],
+    run: &RunRecord<'_>,
 ) -> Result<Pieces, NoMemory>
-    ensures { IfOk result (λ text. text ≡ handed_report script.now journal.now.entries.items
-        journal.now.posts.items frames.texts.items lost.now answers.now probes.now) }
+    ensures { IfOk result (λ text. text ≡ handed_report script.now
+        run.now.journal.now.entries.items run.now.journal.now.posts.items
+        run.now.frames.now.texts.items run.now.lost.now run.now.answers.now run.now.probes.now) }
 {
-    let mut texts = frames.into_texts();
-    let mut paged = PagedText::new(alloc);
-    let Ok(()) = paged.title(script.version) else {
-        drop(paged);
-        drop(texts);
-        return Err(NoMemory);
-    };
-    let Ok(()) = push_history(
-        &mut paged,
-        script,
-        journal,
-        &mut texts,
-        lost,
-        answers.as_slice(),
-        probes,
-    ) else {
-        drop(paged);
-        drop(texts);
-        return Err(NoMemory);
-    };
-    paged.into_pieces()
+    if run.journal.entries.len() < SHORT_JOURNAL {
+        return print_report(alloc, script, run);
+    }
+    print_apart(rt, alloc, script, &run.whole(), run.probes)
 }

@@ -1,5 +1,6 @@
 -- The definitions, computed on a session with a fill and, after it, a viewport.
-use Rattle.std.proofs.Common.{ℕ, ◌*◌, pos, ◌≡◌, refl, [], ◌∷◌, None, Some}
+use Rattle.std.proofs.Common.{ℕ, ◌*◌, pos, suc, ◌≡◌, refl, sym, ap, ◌∙◌, List, [], ◌∷◌, ◌++◌, length, None, Some, arith}
+use Rattle.std.proofs.lemmas.List.{length-append}
 use Rattle.flat_topology.specs.declared.scope.Scope.{Scope}
 use Rattle.flat_reuse.specs.declared.trace.Span.{Span}
 use Rattle.flat_reuse.specs.Tracing.{pushed}
@@ -20,8 +21,11 @@ use Rattle.flat_topology.specs.Draw.{scene_matrix}
 use Rattle.flat_topology.specs.Join.{JoinedTree, child_view, joined_nodes, nothing}
 use Rattle.flat_topology.specs.Place.{Space}
 use Rattle.flat_reuse.specs.declared.piece.Link.{Link}
-use Rattle.flat_reuse.specs.declared.piece.Piece.TheVariants.{Drawn, Linked}
-use Rattle.flat_reuse.specs.Pieces.{link_of, pieces, piece_items, piece_views}
+use Rattle.flat_reuse.specs.declared.piece.PlacedLink.{PlacedLink}
+use Rattle.flat_reuse.specs.declared.piece.SessionParts.{SessionParts}
+use Rattle.flat_reuse.specs.Parts.{own_items, placed_links, laid_out, appended}
+use Rattle.flat_reuse.specs.Pieces.{Piece, Drawn, Linked, link_of, pieces, piece_items, piece_views}
+use Rattle.flat_reuse.proofs.Parts.{HasNext, next-link, next-items}
 
 abbrev session : ℕ → SessionNo
 session s = record { 0 = s }
@@ -89,6 +93,66 @@ a_link_gives_items = refl
 
 a_link_gives_views : piece_views led (session 1) (Linked link) ≡ record { session = session 2; parent = Some (session 1); bounds = square 20 } ∷ []
 a_link_gives_views = refl
+
+-- ---- pieces as two lists
+
+abbrev item : DrawItem
+item = item_of 1
+
+abbrev at_place : ℕ → Link → PlacedLink
+at_place place l = record { place = place; link = l }
+
+abbrev placed : ℕ → PlacedLink
+placed place = at_place place link
+
+-- a link comes after the item before it
+two_pieces : laid_out (pieces 1 nodes display) ≡ record { items = item ∷ []; links = placed 1 ∷ [] }
+two_pieces = refl
+
+-- links side by side have one place, and each is counted from the first item
+four_pieces : laid_out (Linked link ∷ Drawn item ∷ Linked link ∷ Linked link ∷ []) ≡ record { items = item ∷ []; links = placed 0 ∷ placed 1 ∷ placed 1 ∷ [] }
+four_pieces = refl
+
+-- one piece more
+three_pieces : appended (laid_out (Drawn item ∷ Linked link ∷ [])) (Drawn item ∷ Linked link ∷ [])
+    ≡ record { items = item ∷ item ∷ []; links = placed 1 ∷ placed 2 ∷ [] }
+three_pieces = refl
+
+-- in another order the pieces give other lists
+another_order : laid_out (Linked link ∷ Drawn item ∷ []) ≡ laid_out (Drawn item ∷ Linked link ∷ []) → ⊥
+another_order same =
+    let links : placed 0 ∷ [] ≡ placed 1 ∷ [] = ap (λ (parts : SessionParts). parts.links) same in
+    let wrong : placed 0 ≡ placed 1 = cc in
+    absurd (omega (arith, ap (λ (at : PlacedLink). at.place) wrong))
+
+-- no pieces give a link that comes after more items than there are
+past_the_items : (ps : List Piece) → laid_out ps ≡ record { items = item ∷ []; links = placed 2 ∷ [] } → ⊥
+past_the_items ps same =
+    let n : HasNext 0 ps (placed 2) [] = next-link 0 ps (placed 2) [] (ap (λ (parts : SessionParts). parts.links) same) in
+    let items : own_items ps ≡ item ∷ [] = ap (λ (parts : SessionParts). parts.items) same in
+    let left : item ∷ [] ≡ n.items ++ own_items n.after = sym items ∙ next-items 0 ps (placed 2) [] n in
+    absurd (omega (arith, n.place, ap length left, length-append n.items (own_items n.after)))
+
+-- two lists stand for one list of pieces
+same_pieces : (before : ℕ) (ps qs : List Piece) → own_items ps ≡ own_items qs → placed_links before ps ≡ placed_links before qs → ps ≡ qs
+same_pieces before [] [] items links = refl
+same_pieces before [] (Drawn x ∷ qs) items links = absurd (cc)
+same_pieces before [] (Linked l ∷ qs) items links = absurd (cc)
+same_pieces before (Drawn x ∷ ps) [] items links = absurd (cc)
+same_pieces before (Linked l ∷ ps) [] items links = absurd (cc)
+same_pieces before (Drawn x ∷ ps) (Drawn y ∷ qs) items links =
+    let first : x ≡ y = cc in
+    let rest : ps ≡ qs = same_pieces (suc before) ps qs (cc) links in
+    cc
+same_pieces before (Linked l ∷ ps) (Linked k ∷ qs) items links =
+    let place : at_place before l ≡ at_place before k = cc in
+    let first : l ≡ k = ap (λ (at : PlacedLink). at.link) place in
+    let rest : ps ≡ qs = same_pieces before ps qs items (cc) in
+    cc
+same_pieces before (Drawn x ∷ ps) (Linked l ∷ qs) items links =
+    absurd (omega (arith, (next-link (suc before) ps (at_place before l) (placed_links before qs) links).place))
+same_pieces before (Linked l ∷ ps) (Drawn x ∷ qs) items links =
+    absurd (omega (arith, (next-link (suc before) qs (at_place before l) (placed_links before ps) (sym links)).place))
 
 -- ---- spans that are left
 

@@ -1,4 +1,5 @@
 mod Examples
+pub mod Parts
 pub mod Tracing
 pub mod Giving
 pub mod Keeping

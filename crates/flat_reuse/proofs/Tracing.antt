@@ -1,5 +1,5 @@
 -- The steps of the walk that collects what the nodes of a session give.
-use Rattle.std.proofs.Common.{ℕ, ◌+◌, ◌*◌, ◌<◌, ◌≤◌, ◌≡◌, refl, sym, ap, ◌∙◌, Bool, true, false, cond, nat_lt, List, [], ◌∷◌, ◌++◌, length, Some, All}
+use Rattle.std.proofs.Common.{ℕ, ◌+◌, ◌*◌, ◌<◌, ◌≤◌, ◌≡◌, refl, sym, ap, ap₂, ◌∙◌, Bool, true, false, cond, nat_lt, List, [], ◌∷◌, ◌++◌, length, Some, All}
 use Rattle.std.proofs.Common.{slice_get, get_or, arith}
 use Rattle.std.proofs.lemmas.Bool.Decides.{nat_tests}
 use Rattle.std.proofs.lemmas.List.{append_assoc, append-nil}
@@ -21,11 +21,12 @@ use Rattle.flat_topology.specs.Place.{Space, seen_through, node_space}
 use Rattle.flat_topology.specs.Shown.{nodes_of}
 use Rattle.flat_topology.specs.Walking.{space_of}
 use Rattle.flat_topology.proofs.lemmas.Rooted.{rooted-alone}
-use Rattle.flat_reuse.specs.declared.piece.Piece.{Piece}
 use Rattle.flat_reuse.specs.declared.trace.Span.{Span}
 use Rattle.flat_reuse.specs.declared.trace.Trace.{Trace}
-use Rattle.flat_reuse.specs.Pieces.{node_pieces, pieces}
-use Rattle.flat_reuse.specs.Tracing.{pushed, span_pieces, still_given, span_work, work, IsSpan, AreLow, IsTracing, GoesOn}
+use Rattle.flat_reuse.specs.Parts.{laid_out, appended}
+use Rattle.flat_reuse.specs.Pieces.{Piece, node_pieces, pieces}
+use Rattle.flat_reuse.specs.Tracing.{pushed, span_pieces, still_given, span_work, work, IsSpan, AreLow, IsTracing, GoesOn, StepsOn}
+use Rattle.flat_reuse.proofs.Parts.{appended-none, appended-twice}
 
 -- ---- one more span, which comes first
 
@@ -111,10 +112,9 @@ pub inner-low : (ns : List FlatNode) (span : Span) (n : FlatNode) → IsSpan ns 
     → seen_through span.scope.opacity n.opacity ≤ OPACITY_MAX
 inner-low ns span n is some low at = seen-low span.scope.opacity n.opacity is.low (found-low ns span.next n low (next-within ns span is some) at)
 
--- the first node was gone over: what it gives is there, the nodes below it come next, and then those after it
+-- the first node was gone over: what it gives is there
 pub record HasStepped (s : ℕ) (old : Trace) (span : Span) (n : FlatNode) (scope : Scope) (new : Trace) : Type 0 where
-  pub pieces : new.pieces ≡ old.pieces ++ node_pieces s (space_of scope) (as_node n Empty)
-  pub left : new.left.items ≡ pushed (pushed old.left.items (after_span span n)) (below_span span n scope)
+  pub parts : new.parts ≡ appended old.parts (node_pieces s (space_of scope) (as_node n Empty))
   pub scope_is : space_of scope ≡ node_space (space_of span.scope) (as_node n Empty)
   pub low : scope.opacity ≤ OPACITY_MAX
 
@@ -130,50 +130,98 @@ span-first s ns span n scope parts inner =
     ap (λ (nodes : Children). pieces s nodes (space_of span.scope)) parts.trees
     ∙ pieces-first s (space_of span.scope) (space_of scope) n (forest_in ns 0 (span.next + 1) n.end) (forest_in ns 0 n.end span.end) inner
 
-four-lists : {X : Type 0} (old own below after left : List X) → (old ++ own) ++ (below ++ (after ++ left)) ≡ old ++ ((own ++ (below ++ after)) ++ left)
-four-lists old own below after left = simp append_assoc
+four-lists : {X : Type 0} (own below after left : List X) → own ++ (below ++ (after ++ left)) ≡ (own ++ (below ++ after)) ++ left
+four-lists own below after left = simp append_assoc
 
-pub goes-first : (s : ℕ) (ns : List FlatNode) (old : Trace) (span : Span) (n : FlatNode) (scope : Scope) (new : Trace)
+-- what a span gives that follows the first node, and what is left then
+goes-so : (s : ℕ) (ns : List FlatNode) (old new : Trace) (span next : Span) (own below after : List Piece)
+    → new.parts ≡ appended old.parts own → span_pieces s ns span ≡ own ++ (below ++ after)
+    → span_pieces s ns next ++ still_given s ns new.left.items ≡ below ++ (after ++ still_given s ns old.left.items)
+    → appended new.parts (span_pieces s ns next ++ still_given s ns new.left.items)
+    ≡ appended old.parts (span_pieces s ns span ++ still_given s ns old.left.items)
+goes-so s ns old new span next own below after parts span_is still =
+    let left : List Piece = still_given s ns old.left.items in
+    ap₂ appended parts still ∙ appended-twice old.parts own (below ++ (after ++ left))
+    ∙ ap (appended old.parts) (four-lists own below after left ∙ ap (λ (ps : List Piece). ps ++ left) (sym span_is))
+
+-- nodes are below it: they come next, and then those after it
+pub steps-below : (s : ℕ) (ns : List FlatNode) (old : Trace) (span : Span) (n : FlatNode) (scope : Scope) (new : Trace)
     → IsSpan ns span → span.next < span.end → slice_get ns span.next ≡ Some n → All (IsSpan ns) old.left.items → HasStepped s old span n scope new
-    → GoesOn s ns old span new
-goes-first s ns old span n scope new is some at whole h =
+    → new.left.items ≡ pushed old.left.items (after_span span n) → StepsOn s ns old span new (below_span span n scope)
+steps-below s ns old span n scope new is some at whole h left =
     let parts : IsFirst ns span.next span.end n = stretch-first ns span.next span.end n is.stretch some at in
     let below : Span = below_span span n scope in
     let after : Span = after_span span n in
-    let is_below : IsSpan ns below = record { stretch = parts.below; low = h.low } in
     let is_after : IsSpan ns after = record { stretch = parts.after; low = is.low } in
-    let still : still_given s ns new.left.items ≡ span_pieces s ns below ++ (span_pieces s ns after ++ still_given s ns old.left.items)
-    = ap (still_given s ns) h.left ∙ given-pushed s ns (pushed old.left.items after) below is_below
-    ∙ ap (λ (ps : List Piece). span_pieces s ns below ++ ps) (given-pushed s ns old.left.items after is_after) in
     record {
-      given = rw (h.pieces, still, span-first s ns span n scope parts h.scope_is)
-          (four-lists old.pieces (node_pieces s (space_of scope) (as_node n Empty)) (span_pieces s ns below) (span_pieces s ns after)
-          (still_given s ns old.left.items));
-      whole = rw h.left (whole-pushed ns (pushed old.left.items after) below (whole-pushed ns old.left.items after whole is_after) is_below);
+      given = goes-so s ns old new span below (node_pieces s (space_of scope) (as_node n Empty)) (span_pieces s ns below) (span_pieces s ns after)
+          h.parts (span-first s ns span n scope parts h.scope_is)
+          (ap (λ (ps : List Piece). span_pieces s ns below ++ ps)
+          (ap (still_given s ns) left ∙ given-pushed s ns old.left.items after is_after));
+      is = record { stretch = parts.below; low = h.low };
+      whole = rw left (whole-pushed ns old.left.items after whole is_after);
     }
 
-pub work-first : (s : ℕ) (ns : List FlatNode) (old : Trace) (span : Span) (n : FlatNode) (scope : Scope) (new : Trace)
-    → IsSpan ns span → span.next < span.end → slice_get ns span.next ≡ Some n → HasStepped s old span n scope new
-    → work ns new.left.items < work ns old.left.items + span_work ns span
-work-first s ns old span n scope new is some at h =
+-- none is
+pub steps-after : (s : ℕ) (ns : List FlatNode) (old : Trace) (span : Span) (n : FlatNode) (scope : Scope) (new : Trace)
+    → IsSpan ns span → span.next < span.end → slice_get ns span.next ≡ Some n → All (IsSpan ns) old.left.items → HasStepped s old span n scope new
+    → new.left.items ≡ old.left.items → n.end ≤ span.next + 1 → StepsOn s ns old span new (after_span span n)
+steps-after s ns old span n scope new is some at whole h left leaf =
     let parts : IsFirst ns span.next span.end n = stretch-first ns span.next span.end n is.stretch some at in
-    let one = work-pushed ns old.left.items (after_span span n) in
-    let two = work-pushed ns (pushed old.left.items (after_span span n)) (below_span span n scope) in
-    let all : work ns new.left.items ≤ work ns old.left.items + span_work ns (after_span span n) + span_work ns (below_span span n scope) =
-    rw h.left (omega (arith, one, two)) in
-    let count : node_count (forest_in ns 0 span.next span.end)
+    let after : Span = after_span span n in
+    let none : span_pieces s ns (below_span span n scope) ≡ []
+    = ap (λ (nodes : Children). pieces s nodes (space_of scope)) (stretch-none ns (span.next + 1) n.end parts.below leaf) in
+    record {
+      given = goes-so s ns old new span after (node_pieces s (space_of scope) (as_node n Empty)) [] (span_pieces s ns after)
+          h.parts
+          (span-first s ns span n scope parts h.scope_is
+          ∙ ap (λ (ps : List Piece). node_pieces s (space_of scope) (as_node n Empty) ++ (ps ++ span_pieces s ns after)) none)
+          (ap (λ (ls : List Span). span_pieces s ns after ++ still_given s ns ls) left);
+      is = record { stretch = parts.after; low = is.low };
+      whole = rw left whole;
+    }
+
+-- less is left to do
+count-first : (ns : List FlatNode) (span : Span) (n : FlatNode) → IsSpan ns span → span.next < span.end → slice_get ns span.next ≡ Some n
+    → node_count (forest_in ns 0 span.next span.end)
     ≡ 1 + node_count (forest_in ns 0 (span.next + 1) n.end) + node_count (forest_in ns 0 n.end span.end)
-    = ap node_count parts.trees in
-    omega (arith, all, count)
+count-first ns span n is some at = ap node_count (stretch-first ns span.next span.end n is.stretch some at).trees
+
+pub work-below : (ns : List FlatNode) (span : Span) (n : FlatNode) (scope : Scope) (old new : List Span)
+    → IsSpan ns span → span.next < span.end → slice_get ns span.next ≡ Some n → new ≡ pushed old (after_span span n)
+    → work ns new + span_work ns (below_span span n scope) < work ns old + span_work ns span
+work-below ns span n scope old new is some at left =
+    let all : work ns new ≤ work ns old + span_work ns (after_span span n) = rw left (work-pushed ns old (after_span span n)) in
+    omega (arith, all, count-first ns span n is some at)
+
+pub work-after : (ns : List FlatNode) (span : Span) (n : FlatNode) (old new : List Span)
+    → IsSpan ns span → span.next < span.end → slice_get ns span.next ≡ Some n → new ≡ old
+    → work ns new + span_work ns (after_span span n) < work ns old + span_work ns span
+work-after ns span n old new is some at left =
+    let same : work ns new ≡ work ns old = ap (work ns) left in
+    omega (arith, same, count-first ns span n is some at)
 
 -- ---- an empty span
 
-pub goes-empty : (s : ℕ) (ns : List FlatNode) (old : Trace) (span : Span) → IsSpan ns span → span.end ≤ span.next → All (IsSpan ns) old.left.items
-    → GoesOn s ns old span old
-goes-empty s ns old span is low whole =
-    let none : span_pieces s ns span ≡ [] = ap (λ (nodes : Children). pieces s nodes (space_of span.scope))
-    (stretch-none ns span.next span.end is.stretch low) in
-    record { given = rw none refl; whole = whole }
+-- one that came next in place of others
+pub goes-empty : (s : ℕ) (ns : List FlatNode) (old : Trace) (span : Span) (new : Trace) (next : Span) → StepsOn s ns old span new next → next.end ≤ next.next
+    → GoesOn s ns old span new
+goes-empty s ns old span new next way low =
+    let none : span_pieces s ns next ≡ [] = ap (λ (nodes : Children). pieces s nodes (space_of next.scope))
+    (stretch-none ns next.next next.end way.is.stretch low) in
+    record {
+      given = ap (λ (ps : List Piece). appended new.parts (ps ++ still_given s ns new.left.items)) (sym none) ∙ way.given;
+      whole = way.whole;
+    }
+
+-- a span takes its own place
+pub stays-on : (s : ℕ) (ns : List FlatNode) (old : Trace) (span : Span) → IsSpan ns span → All (IsSpan ns) old.left.items → StepsOn s ns old span old span
+stays-on s ns old span is whole = record { given = refl; is = is; whole = whole }
+
+-- one step after another
+pub steps-twice : (s : ℕ) (ns : List FlatNode) (old : Trace) (span : Span) (between : Trace) (middle : Span) (new : Trace) (next : Span)
+    → StepsOn s ns old span between middle → StepsOn s ns between middle new next → StepsOn s ns old span new next
+steps-twice s ns old span between middle new next one two = record { given = two.given ∙ one.given; is = two.is; whole = two.whole }
 
 -- ---- the walk from its beginning to its end
 
@@ -181,7 +229,8 @@ goes-empty s ns old span is low whole =
 abbrev pub whole_span : ℕ → Scope → Span
 whole_span end scope = record { next = 0; end = end; scope = scope }
 
-pub starts : (s : ℕ) (tree : Tree) (scope : Scope) (end : ℕ) (trace : Trace) → scope.opacity ≤ OPACITY_MAX → end ≡ length (flat_nodes tree) → trace.pieces ≡ []
+pub starts : (s : ℕ) (tree : Tree) (scope : Scope) (end : ℕ) (trace : Trace) → scope.opacity ≤ OPACITY_MAX → end ≡ length (flat_nodes tree)
+    → trace.parts ≡ laid_out []
     → trace.left.items ≡ whole_span end scope ∷ [] → IsTracing s (flat_nodes tree) (pieces s (nodes_of (Some tree)) (space_of scope)) trace
 starts s tree scope end trace low ends none left =
     let ns : List FlatNode = flat_nodes tree in
@@ -189,21 +238,25 @@ starts s tree scope end trace low ends none left =
     = ap (λ (n : ℕ). forest_in ns 0 0 n) ends ∙ forest-whole (rooted tree.root) ∙ rooted-alone tree.root in
     let is : IsSpan ns (whole_span end scope) = record { stretch = rw ends (stretch-whole (rooted tree.root)); low = low } in
     record {
-      given = rw (none, left) (ap (λ (nodes : Children). pieces s nodes (space_of scope)) all);
+      given = ap₂ appended none (ap (still_given s ns) left) ∙ ap (λ (nodes : Children). laid_out (pieces s nodes (space_of scope))) all;
       whole = rw left (All-cons (IsSpan ns) (whole_span end scope) [] is (All-nil (IsSpan ns)));
     }
 
 -- a span is taken from those that are left
 pub record IsTaken (s : ℕ) (ns : List FlatNode) (all : List Piece) (span : Span) (trace : Trace) : Type 0 where
-  pub given : trace.pieces ++ (span_pieces s ns span ++ still_given s ns trace.left.items) ≡ all
+  pub given : appended trace.parts (span_pieces s ns span ++ still_given s ns trace.left.items) ≡ laid_out all
   pub whole : All (IsSpan ns) trace.left.items
   pub is : IsSpan ns span
 
 pub taken : (s : ℕ) (ns : List FlatNode) (all : List Piece) (span : Span) (old trace : Trace) → IsTracing s ns all old
-    → old.left.items ≡ trace.left.items ++ span ∷ [] → trace.pieces ≡ old.pieces → IsTaken s ns all span trace
+    → old.left.items ≡ trace.left.items ++ span ∷ [] → trace.parts ≡ old.parts → IsTaken s ns all span trace
 taken s ns all span old trace way left same =
     let whole = All-pop (IsSpan ns) old.left.items trace.left.items (Some span) left way.whole in
-    record { given = rw (same, ← given-more s ns trace.left.items span, ← left) way.given; whole = whole.0; is = whole.1 }
+    record {
+      given = ap₂ appended same (sym (given-more s ns trace.left.items span) ∙ ap (still_given s ns) (sym left)) ∙ way.given;
+      whole = whole.0;
+      is = whole.1;
+    }
 
 pub taken-goes-on : (s : ℕ) (ns : List FlatNode) (all : List Piece) (span : Span) (trace new : Trace) → IsTaken s ns all span trace → GoesOn s ns trace span new
     → IsTracing s ns all new
@@ -212,5 +265,6 @@ taken-goes-on s ns all span trace new is next = record { given = next.given ∙ 
 pub work-taken : (ns : List FlatNode) (old left : List Span) (span : Span) → old ≡ left ++ span ∷ [] → work ns old ≡ work ns left + span_work ns span
 work-taken ns old left span e = ap (work ns) e ∙ work-more ns left span
 
-pub ends : (s : ℕ) (ns : List FlatNode) (all : List Piece) (trace : Trace) → IsTracing s ns all trace → trace.left.items ≡ [] → trace.pieces ≡ all
-ends s ns all trace way none = sym (append-nil trace.pieces) ∙ rw none at way.given
+pub ends : (s : ℕ) (ns : List FlatNode) (all : List Piece) (trace : Trace) → IsTracing s ns all trace → trace.left.items ≡ [] → trace.parts ≡ laid_out all
+ends s ns all trace way none =
+    sym (appended-none trace.parts) ∙ ap (λ (left : List Span). appended trace.parts (still_given s ns left)) (sym none) ∙ way.given

@@ -5,11 +5,12 @@ use Rattle.flat_scene.specs.declared.trees.Tree.{Tree}
 use Rattle.flat_topology.specs.Shown.{Shown, nodes_of}
 use Rattle.flat_topology.specs.Walking.{space_of}
 use Rattle.flat_reuse.specs.declared.slots.Kept.{Kept}
+use Rattle.flat_reuse.specs.Parts.{laid_out}
 use Rattle.flat_reuse.specs.Pieces.{pieces}
 
 -- what is kept of a session is what its nodes give below the scope that is kept
 abbrev pub IsKept : ℕ → Option Tree → Kept → Type 0
-IsKept s state kept = kept.pieces ≡ pieces s (nodes_of state) (space_of kept.scope)
+IsKept s state kept = kept.parts ≡ laid_out (pieces s (nodes_of state) (space_of kept.scope))
 
 -- the same, if something is kept
 abbrev pub IsSlot : ℕ → Option Tree → Option Kept → Type 0

@@ -6,7 +6,9 @@
 //! the pieces of a session are kept until one of the two changes.
 //!
 //! `draw_next` and `draw_changed` (reuse) answer `draw_list` and `view_nodes` of
-//! flat_topology; `pieces` is specs/Pieces, and what is kept is specs/Keeping (slots).
+//! flat_topology. `pieces` is specs/Pieces. A session's items are kept in a row, which
+//! frames copy at once, and its links apart (specs/Parts); what is kept is
+//! specs/Keeping (slots).
 #![tactic(auto)]
 
 mod follow;

@@ -1,17 +1,17 @@
-ghost use Rattle.std.specs.Prelude.{◌≡◌, ◌≤◌, ◌++◌, [], IfOk, OnOk, map, option_to_list};
-ghost use Rattle.flat_reuse.specs.declared.piece.Piece.TheVariants.{Drawn, Linked};
+ghost use Rattle.std.specs.Prelude.{◌≡◌, ◌≤◌, [], IfOk, OnOk, map, option_to_list};
 ghost use Rattle.flat_scene.specs.declared.trees.Children.TheVariants.{Empty};
 ghost use Rattle.flat_snap.specs.Flat.{lent};
 ghost use Rattle.flat_snap.specs.Forest.{as_node};
 ghost use Rattle.flat_topology.specs.Draw.{node_item};
 ghost use Rattle.flat_topology.specs.Place.{placed_node};
 ghost use Rattle.flat_topology.specs.Walking.{space_of};
-ghost use Rattle.flat_reuse.specs.Pieces.{link_of, node_pieces};
+ghost use Rattle.flat_reuse.specs.Parts.{appended, laid_out};
+ghost use Rattle.flat_reuse.specs.Pieces.{Drawn, Linked, link_of, node_pieces};
 
 use flat_base::{Items, NoMemory, OPACITY_MAX, Rect, Roomy, SessionNo};
 use flat_compose::item;
 use flat_geom::{map_rect, sized};
-use flat_scene::{Content, DrawItem};
+use flat_scene::{Content, DrawItem, ItemList};
 use flat_snap::FlatNode;
 use flat_topology::{Placed, Scope};
 use std::alloc::Global;
@@ -26,23 +26,19 @@ pub struct Link {
     pub bounds: Rect,
 }
 
-/// A part of what a session gives.
+/// A link, and how many items of its session come before its child view.
 #[derive(Clone, Copy)]
-pub enum Piece {
-    /// An item of its own.
-    Drawn(DrawItem),
-    /// A child view, with all below it.
-    Linked(Link),
+pub struct PlacedLink {
+    pub place: usize,
+    pub link: Link,
 }
 
-/// The pieces of a session, in preorder of its nodes.
-pub type PieceList = Items<Piece>;
-
-/// An empty list with room for so many pieces.
-pub fn no_pieces(alloc: Global, room: usize) -> Result<PieceList, NoMemory>
-    ensures { IfOk result (λ pieces. pieces ≡ []) }
-{
-    Ok(Roomy::with_capacity(alloc, room)?.into_items())
+/// What a session gives, in preorder of its nodes. The items lie in a row, so that a
+/// frame copies all that come before the next link at once.
+#[derive(Drop)]
+pub struct SessionParts {
+    pub items: ItemList,
+    pub links: Items<PlacedLink>,
 }
 
 /// The link of a viewport that hands on this scope.
@@ -81,41 +77,54 @@ fn item_in(
     })
 }
 
-/// Appends an item, if there is one.
-fn add_item(pieces: &mut PieceList, item: Option<DrawItem>) -> Result<(), NoMemory>
-    ensures { OnOk result (pieces.new
-        ≡ pieces.old ++ map (λ item. Drawn item) (option_to_list item)) }
-{
-    if let Some(item) = item {
-        pieces.push(Piece::Drawn(item))?;
+impl SessionParts {
+    /// Nothing yet, with room for so many items.
+    pub fn with_room(alloc: Global, room: usize) -> Result<SessionParts, NoMemory>
+        ensures { IfOk result (λ parts. parts ≡ laid_out []) }
+    {
+        Ok(SessionParts {
+            items: Roomy::with_capacity(alloc, room)?.into_items(),
+            links: Items::new(alloc),
+        })
     }
-    Ok(())
-}
 
-/// Appends a link, if there is one.
-fn add_link(pieces: &mut PieceList, link: Option<Link>) -> Result<(), NoMemory>
-    ensures { OnOk result (pieces.new
-        ≡ pieces.old ++ map (λ link. Linked link) (option_to_list link)) }
-{
-    if let Some(link) = link {
-        pieces.push(Piece::Linked(link))?;
+    /// Appends an item, if there is one.
+    fn add_item(&mut self, item: Option<DrawItem>) -> Result<(), NoMemory>
+        ensures { OnOk result (self.new
+            ≡ appended self.old (map (λ item. Drawn item) (option_to_list item))) }
+    {
+        if let Some(item) = item {
+            self.items.push(item)?;
+        }
+        Ok(())
     }
-    Ok(())
-}
 
-/// Appends what a node of a session gives that hands on this scope.
-pub fn add_node(
-    alloc: Global,
-    pieces: &mut PieceList,
-    session: SessionNo,
-    scope: &Scope,
-    node: &FlatNode<'_>,
-) -> Result<(), NoMemory>
-    requires { scope.now.opacity ≤ OPACITY_MAX }
-    ensures { OnOk result (pieces.new ≡ pieces.old ++ node_pieces session.0 (space_of scope.now)
-        (as_node (lent node.now) Empty)) }
-{
-    add_item(pieces, item_in(alloc, session, scope, node))?;
-    add_link(pieces, viewport_link(scope, node.content))?;
-    Ok(())
+    /// Appends a link, if there is one.
+    fn add_link(&mut self, link: Option<Link>) -> Result<(), NoMemory>
+        ensures { OnOk result (self.new
+            ≡ appended self.old (map (λ link. Linked link) (option_to_list link))) }
+    {
+        if let Some(link) = link {
+            let place = self.items.len();
+            self.links.push(PlacedLink { place, link })?;
+        }
+        Ok(())
+    }
+
+    /// Appends what a node of a session gives that hands on this scope.
+    pub fn add_node(
+        &mut self,
+        alloc: Global,
+        session: SessionNo,
+        scope: &Scope,
+        node: &FlatNode<'_>,
+    ) -> Result<(), NoMemory>
+        requires { scope.now.opacity ≤ OPACITY_MAX }
+        ensures { OnOk result (self.new ≡ appended self.old (node_pieces session.0
+            (space_of scope.now) (as_node (lent node.now) Empty))) }
+    {
+        self.add_item(item_in(alloc, session, scope, node))?;
+        self.add_link(viewport_link(scope, node.content))?;
+        Ok(())
+    }
 }

@@ -14,7 +14,7 @@ use Rattle.flat_rules.specs.Determined.{but_reply, family_moments}
 use Rattle.flat_rules.specs.FirstNews.{first_news, is_asked, is_heard}
 use Rattle.flat_rules.specs.Seats.{of_seat, of_display}
 use Rattle.flat_rules.specs.Watch.{layout_of}
-use Rattle.flat_rules.proofs.lemmas.MoreRuns.{layout_before_first_present-setup as shop, layout_before_first_present-history as whole}
+use Rattle.flat_rules.proofs.lemmas.LayoutRuns.{layout_before_first_present-setup as shop, layout_before_first_present-history as whole}
 use Rattle.flat_rules.proofs.lemmas.Runs.{one_fill_one_frame-setup as home, one_fill_one_frame-history as run}
 use Rattle.flat_rules.proofs.lemmas.Samples.{s, p, c, by, layout}
 

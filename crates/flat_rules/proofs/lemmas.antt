@@ -1,11 +1,12 @@
 -- Lemmas that other crates may cite.
 pub mod AllOrSome
+pub mod EndRuns
 pub mod EventsLocal
 pub mod Fences
 pub mod FrameKinds
+pub mod LayoutRuns
 pub mod ListLemmas
 pub mod Locality
-pub mod MoreRuns
 pub mod Owned
 pub mod OwnedTree
 pub mod Quiet
@@ -19,5 +20,6 @@ pub mod ShownList
 pub mod ShownOwned
 pub mod ShownSteps
 pub mod Still
+pub mod TokenRuns
 pub mod WatchLocal
 pub mod Watchers

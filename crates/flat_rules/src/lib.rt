@@ -5,7 +5,8 @@
 //! entry posts specs/Posts, what frames show specs/Shown; src/ has laws alone.
 //!
 //! Other crates may cite the lemmas of proofs/lemmas/: steps of histories and lists
-//! (AllOrSome, FrameKinds, ListLemmas, MoreRuns, Runs, ShownList, ShownSteps, Watchers),
+//! (AllOrSome, FrameKinds, ListLemmas, ShownList, ShownSteps, Watchers), runs of worked cases
+//! (EndRuns, LayoutRuns, Runs, TokenRuns),
 //! what stays the same (Quiet, SameWatchers, Still), what is local to a family (EventsLocal,
 //! Locality, RepliesLocal, WatchLocal), what a session owns (Fences, Owned, OwnedTree,
 //! ShownOwned), what a draft refuses (Refusals), and small histories (Samples, ShellRun).

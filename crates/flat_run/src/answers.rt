@@ -4,9 +4,9 @@ ghost use Rattle.flat_run.specs.Judging.{fault_line};
 ghost use Rattle.flat_run.specs.Promise.{large_line};
 
 use flat_base::NoMemory;
+use flat_page::Page;
 use flat_report::Pieces;
 use flat_script::ScriptFault;
-use itoa::Buffer;
 use std::alloc::Global;
 
 /// The status where a script or a load was run.
@@ -67,15 +67,11 @@ impl From<NoMemory> for Unanswered {
 fn fault_text(alloc: Global, fault: ScriptFault) -> Result<Vec<u8>, NoMemory>
     ensures { IfOk result (λ text. text.items ≡ fault_line fault) }
 {
-    let mut line = Buffer::new();
-    let mut kind = Buffer::new();
-    let mut text = Vec::new(alloc);
-    text.extend_from_slice(b"script line ")?;
-    text.extend_from_slice(line.format(fault.line).as_bytes())?;
-    text.extend_from_slice(b" kind ")?;
-    text.extend_from_slice(kind.format(fault.kind.number()).as_bytes())?;
-    text.extend_from_slice(b"\n")?;
-    Ok(text)
+    let mut page = Page::new(alloc);
+    page.numbered(b"script line ", fault.line as u64)?;
+    page.numbered(b" kind ", fault.kind.number() as u64)?;
+    page.put(b"\n")?;
+    Ok(page.into_text())
 }
 
 /// The answer to a text that is no script.

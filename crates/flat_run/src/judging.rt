@@ -1,8 +1,9 @@
 //! The word `judge`: whether a report is that of a run of the script before it. Nothing is
 //! run for displays, and they are shown nothing.
-ghost use Rattle.std.specs.Prelude.{◌≡◌, ◌≢◌, ◌≤◌, ◌++◌, ℕ, List, IfOk, OnOk, IsTrue, Err};
+ghost use Rattle.std.specs.Prelude.{◌≡◌, ◌≢◌, ◌≤◌, ℕ, List, IfOk, OnOk, IsTrue, Err};
 ghost use Rattle.flat_io.specs.Counts.{has_risen};
 ghost use Rattle.flat_judge.specs.declared.cutting.Judged.TheVariants.{Said};
+ghost use Rattle.flat_page.specs.Pages.{Puts};
 ghost use Rattle.flat_run.specs.Judging.{IsJudged, judged_status, judged_text, legal_line};
 ghost use Rattle.flat_run.specs.Judging.{want_line, wrong_lines};
 ghost use Rattle.flat_run.specs.Promise.{AreAll, AreGiven};
@@ -11,8 +12,8 @@ use crate::answers::{Answer, DONE, Unanswered, WRONG, refusal};
 use flat_base::{Items, NoMemory};
 use flat_io::{ReadAll, Source, read_all};
 use flat_judge::{Judged, Verdict, judge_text};
+use flat_page::Page;
 use flat_report::Pieces;
-use itoa::Buffer;
 use std::alloc::Global;
 
 /// The most bytes that are judged: for a script with more of them behind it, memory would run
@@ -23,25 +24,21 @@ const JUDGED_BYTES_MAX: usize = 1_099_511_627_776;
 fn legal_text(alloc: Global, entries: usize, frames: u32) -> Result<Vec<u8>, NoMemory>
     ensures { IfOk result (λ text. text.items ≡ legal_line entries frames) }
 {
-    let mut count = Buffer::new();
-    let mut finished = Buffer::new();
-    let mut text = Vec::new(alloc);
-    text.extend_from_slice(b"legal entries ")?;
-    text.extend_from_slice(count.format(entries as u64).as_bytes())?;
-    text.extend_from_slice(b" frames ")?;
-    text.extend_from_slice(finished.format(frames).as_bytes())?;
-    text.extend_from_slice(b"\n")?;
-    Ok(text)
+    let mut page = Page::new(alloc);
+    page.numbered(b"legal entries ", entries as u64)?;
+    page.numbered(b" frames ", frames as u64)?;
+    page.put(b"\n")?;
+    Ok(page.into_text())
 }
 
 /// Puts the line that the report of the run has there, if it has one.
-fn push_want(text: &mut Vec<u8>, want: &Option<Items<u8>>) -> Result<(), NoMemory>
-    ensures { OnOk result (text.new.items ≡ text.old.items ++ want_line want.now) }
+fn push_want(page: &mut Page, want: &Option<Items<u8>>) -> Result<(), NoMemory>
+    ensures { OnOk result (Puts (want_line want.now) page.old page.new) }
 {
     if let Some(line) = want {
-        text.extend_from_slice(b"want ")?;
-        text.extend_from_slice(line.as_slice())?;
-        text.extend_from_slice(b"\n")?;
+        page.put(b"want ")?;
+        page.put(line.as_slice())?;
+        page.put(b"\n")?;
     }
     Ok(())
 }
@@ -50,13 +47,11 @@ fn push_want(text: &mut Vec<u8>, want: &Option<Items<u8>>) -> Result<(), NoMemor
 fn wrong_text(alloc: Global, number: u64, want: &Option<Items<u8>>) -> Result<Vec<u8>, NoMemory>
     ensures { IfOk result (λ text. text.items ≡ wrong_lines number want.now) }
 {
-    let mut line = Buffer::new();
-    let mut text = Vec::new(alloc);
-    text.extend_from_slice(b"wrong line ")?;
-    text.extend_from_slice(line.format(number).as_bytes())?;
-    text.extend_from_slice(b"\n")?;
-    push_want(&mut text, want)?;
-    Ok(text)
+    let mut page = Page::new(alloc);
+    page.numbered(b"wrong line ", number)?;
+    page.put(b"\n")?;
+    push_want(&mut page, want)?;
+    Ok(page.into_text())
 }
 
 /// What is written of a verdict.

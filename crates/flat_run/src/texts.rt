@@ -28,7 +28,7 @@ use flat_focus::{focus_laws, print_focus};
 use flat_places::Script;
 use flat_play::{Keeping, Played, let_go};
 use flat_pointer::{Touch, pointer_laws, print_pointers};
-use flat_report::{Pieces, handed_is_report, print_report};
+use flat_report::{Pieces, RunRecord, handed_is_report, print_report_on};
 use flat_rules::items_are_drawable;
 use flat_scene::FrameOut;
 use flat_texts::{finish_lines, picture_of};
@@ -50,7 +50,12 @@ pub(crate) fn keeping_for(form: Form) -> Keeping
 }
 
 /// The report of a script that was run to its end.
-fn report_of(alloc: Global, script: &Script, played: Played) -> Result<Pieces, NoMemory>
+fn report_of<T: Threads + Sync>(
+    rt: &T,
+    alloc: Global,
+    script: &Script,
+    played: Played,
+) -> Result<Pieces, NoMemory>
     requires playable { is_playable script.now ≡ true }
     requires played { HasPlayed script.now played.board played.kept played.answers }
     requires probes { ProbesAnswered script.now played.board.history played.probes.items }
@@ -69,15 +74,15 @@ fn report_of(alloc: Global, script: &Script, played: Played) -> Result<Pieces, N
     let frames = kept.into_texts();
     let lost = set.lost();
     let answered = probes.as_slice();
-    let text = print_report(
-        alloc,
-        script,
-        board.journal(),
-        frames,
+    let run = RunRecord {
+        journal: board.journal(),
+        frames: &frames,
         lost,
-        &answers,
-        answered,
-    );
+        answers: &answers,
+        probes: answered,
+    };
+    let text = print_report_on(rt, alloc, script, &run);
+    drop(frames);
     let_go(board);
     text
 }
@@ -243,7 +248,7 @@ pub(crate) fn text_of<T: Threads + Sync>(
         played.set.lost (frames_seen played.probes.items)) text) }
 {
     match form {
-        Form::Play | Form::Race => report_of(alloc, &reading.script, played),
+        Form::Play | Form::Race => report_of(rt, alloc, &reading.script, played),
         Form::Render => {
             let text = last_picture(rt, alloc, &reading.script, &played);
             played.let_go();

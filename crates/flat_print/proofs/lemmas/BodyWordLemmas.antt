@@ -37,7 +37,10 @@ use Rattle.flat_forms.specs.Body.{child_asked, probe_line, actor_line, begin_pla
 use Rattle.flat_print.specs.Print.{session_word, condition_words, session_words, display_words, probe_words, body_words, present_words, unsquashable_word}
 use Rattle.flat_print.specs.Print.{call_name, call_fields}
 use Rattle.flat_forms.proofs.lemmas.FormLemmas.{Gives, apply_ok, map_ok, place_ok, whole_ok, unless_ok, or_kind_ok, mapped_ok, Shown, shown_whole, shown_mapped}
-use Rattle.flat_print.proofs.CallLemmas.{test_ok, number_words, i32_words, content_words, fence_words, split, name_at-place_of, NamedCall, call_shown}
+use Rattle.flat_print.proofs.ValueWords.{test_ok, number_words, i32_words, content_words}
+use Rattle.flat_print.proofs.NameWords.{fence_words, name_at-place_of}
+use Rattle.flat_print.proofs.FieldWords.{split}
+use Rattle.flat_print.proofs.CallLemmas.{NamedCall, call_shown}
 use Rattle.flat_base.specs.declared.limits.TheConstants.{RATIO_MIN, RATIO_MAX}
 use Rattle.flat_text.specs.Number.{natural}
 use Rattle.flat_text.proofs.lemmas.NumberLemmas.{decimal-natural}

@@ -26,7 +26,8 @@ use Rattle.flat_places.specs.Places.{number_from, ratio, first_ratio, owner_word
 use Rattle.flat_forms.specs.Head.{empty, size, side, has_display, with_version, with_display, with_session, with_probe, with_buffers, with_pair, with_fence}
 use Rattle.flat_print.specs.Print.{name_words, numbered, buffers_line_words, pair_line_words, fence_line_words, display_line_words, ratio_words}
 use Rattle.flat_forms.proofs.lemmas.FormLemmas.{Gives, both_ok, or_kind_ok, whole_ok, apply_ok, map_ok, place_ok}
-use Rattle.flat_print.proofs.CallLemmas.{name_at-place_of, test_ok}
+use Rattle.flat_print.proofs.ValueWords.{test_ok}
+use Rattle.flat_print.proofs.NameWords.{name_at-place_of}
 use Rattle.flat_print.proofs.lemmas.TextLemmas.{IsLine, line_front, front_fits, AllLines, AllLines-append, room_of, room_of-append}
 use Rattle.flat_page.specs.Words.{line_of}
 use Rattle.flat_print.proofs.LineLemmas.{numbered-append}

@@ -32,7 +32,7 @@ use Rattle.flat_print.proofs.lemmas.BodyWordLemmas.{actor_spelt, body_shown}
 use Rattle.flat_forms.proofs.lemmas.StepLemmas.{Step, step_read, size_step, session_step, probe_step, buffers_step, pair_step, fence_step}
 use Rattle.flat_forms.proofs.lemmas.FoundLemmas.{step_found}
 use Rattle.flat_print.proofs.lemmas.OrderLemmas.{Chain, Ordered, ordered_empty, ordered_version, insert, lines_kept}
-use Rattle.flat_print.proofs.CallLemmas.{number_words}
+use Rattle.flat_print.proofs.ValueWords.{number_words}
 use Rattle.std.specs.Fmt.{decimal}
 use Rattle.flat_base.specs.declared.limits.TheConstants.{VERSION_MAX}
 use Rattle.flat_scene.specs.Setups.{is_within}

@@ -8,7 +8,7 @@ use Rattle.flat_render.specs.Tiles.{pixels_of, tile_area}
 use Rattle.flat_render.specs.Stored.{drawn_in, drawn_at}
 use Rattle.flat_render.specs.declared.tile.Tile.{Tile}
 use Rattle.flat_render.proofs.Bands.{tile-in-band, tile-of-band, tile-of-row}
-use Rattle.flat_render.proofs.Chunks.{repainted-more, tile-part, tile-part-black}
+use Rattle.flat_render.proofs.Chunks.{repainted-more, tile-part}
 use Rattle.flat_render.proofs.Places.{count-most}
 use Rattle.flat_render.proofs.band.draw_picked.Goals as goal
 
@@ -87,10 +87,3 @@ draw_tile-requires-clause-size c =
     c.bytes_of_tiles-size.ensures (c.loop-n.auto.bytes ∙ c.requires.size)).0 in
     tile-part c.bytes_of_tiles-size.result c.loop-n.bytes c.loop-n.n _ fits (omega arith) ∙ c.bytes_of_tiles-size.ensures
     ∙ ap (λ (t : Tile). 3 * pixels_of t) (sym c.tile-tile.ensures.value)
-
-pub draw_tile-requires-clause-black : goal.draw_tile-requires-clause-black
-draw_tile-requires-clause-black c =
-    let fits = (tile-in-band c.args.grid.now c.loop-n.n c.bytes_of_tiles-size.result (length c.loop-n.bytes) c.requires.grid c.loop-n-test.true
-    c.bytes_of_tiles-size.ensures (c.loop-n.auto.bytes ∙ c.requires.size)).0 in
-    tile-part-black _ c.bytes_of_tiles-size.result c.args.bytes.now c.loop-n.bytes c.loop-n.n _ fits (omega arith) c.loop-n.auto.bytes c.loop-n.invariant
-    c.requires.black

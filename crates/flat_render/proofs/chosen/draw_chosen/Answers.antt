@@ -1,5 +1,5 @@
 use Rattle.std.proofs.Common.{ℕ, ◌∙◌, ◌<◌, ap, sym, subst, if◌then◌else◌, List, length, get_or, drop, arith}
-use Rattle.std.proofs.lemmas.List.{take_all, length-drop}
+use Rattle.std.proofs.lemmas.List.{get_or-replicate, take_all, length-drop}
 use Rattle.std.proofs.lemmas.List.Elements.{All-drop, All-take}
 use Rattle.flat_scene.specs.declared.frames.DrawItem.{DrawItem}
 use Rattle.flat_render.specs.Areas.{has_pixel, IsWindow}
@@ -23,15 +23,15 @@ returns c = λ m small.
     let px : ℕ = x_at c.args.tile m in
     let py : ℕ = y_at c.args.tile m in
     let n : ℕ = channel_at c.args.tile m in
-    let was : ℕ = get_or c.args.bytes.now m 0 in
+    let was : ℕ = get_or c.fill.new.self m 0 in
     let has = ap (λ (area : Area). has_pixel area px py) c.area-window.ensures
     ∙ tile-has-byte c.args.tile m c.requires.tile (some-pixels c.args.tile c.requires.tile) in
     drawn-fresh n seen c.first_chosen-first.result (has_pixel c.area-window.result px py) px py was (get_or c.paint_chosen.new.bytes m 0)
-    has (c.requires.black m small)
+    has (ap (λ (xs : List ℕ). get_or xs m 0) (c.fill.ensures.after (λ y e. e)) ∙ get_or-replicate (length c.args.bytes.now) m 0 0 small)
     (over-same c.args.items.now c.args.list.now c.args.places.now c.first_chosen-first.result c.area-window.result n px py c.requires.prepared c.requires.places
     (subst (λ (area : Area). IsWindow area) (sym c.area-window.ensures) (tile-window-is c.args.tile c.requires.tile)) c.first_chosen-first.ensures.inside
     c.first_chosen-first.ensures.over has)
-    (c.paint_chosen.ensures m small
+    (c.paint_chosen.ensures m (omega (arith, small, c.fill.ensures.len))
     ∙ ap (λ (xs : List DrawItem). if has_pixel c.area-window.result px py then channel_after n xs px py was else was)
     (ap (chosen c.args.items.now) (take_all _ (drop c.first_chosen-first.result c.args.places.now) (simp length-drop (omega arith)))
     ∙ sym (chosen-drop c.args.items.now c.args.places.now c.first_chosen-first.result c.requires.places)))

@@ -27,9 +27,6 @@ draw_span-draw_both-requires-clause-back g t c κs within =
             cut-size cut upto b (omega (arith, c.cut_of-cut.ensures.before)),
             cut-size from upto b (omega (arith, c.requires.span.some)),
           );
-      black = λ i small.
-          ap (λ (xs : List ℕ). get_or xs i 0) split.back ∙ get_or-drop mid c.args.bytes.now i 0
-          ∙ c.requires.span.black (mid + i) (omega (arith, small, split.back_len));
     }
 
 pub draw_span-returns : goal.draw_span-returns

@@ -11,11 +11,11 @@ pub loop-n-preserved : goal.loop-n-preserved
 loop-n-preserved c =
     let g : Grid = c.args.grid.now in
     let n : ℕ = c.loop-n.n in
-    let drawn : List ℕ = c.draw_row.new.band in
+    let drawn : List ℕ = c.draw_band.new.bytes in
     let band : List ℕ = c.as_slice-in-loop-n-2.result.now in
     let strip : List ℕ = arc_value c.in_ok-try_clone.field-0 in
     let room : c.swap.new.x.len ≡ band_bytes g = ap (λ v. v.len) c.swap.ensures.x_after ∙ c.loop-n.invariant.spare in
-    let kept : length drawn ≡ c.swap.new.x.len = c.draw_row.auto.band ∙ c.as_mut_slice.ensures.len in
+    let kept : length drawn ≡ c.swap.new.x.len = c.draw_band.auto.bytes ∙ c.as_mut_slice.ensures.len in
     let is : band ≡ drawn = c.as_slice-in-loop-n-2.ensures.value ∙ with_items_is c.swap.new.x drawn kept in
     let same : n ≡ n + 1 - 1 = omega arith in
     let there : n < g.down = omega (arith, c.loop-n-test.true, c.requires.there) in
@@ -23,7 +23,7 @@ loop-n-preserved c =
     let more : rows_above c.args.items.now g n ++ strip ≡ rows_above c.args.items.now g (n + 1) =
     ap (λ (t : List ℕ). rows_above c.args.items.now g n ++ t) (c.in_ok-try_clone.ensures ∙ c.in_ok-last-2.ensures)
     ∙ strip-more c.args.items.now g n band c.requires.grid there size
-    (λ m small. ap (λ (xs : List ℕ). get_or xs m 0) is ∙ c.draw_row.ensures m (omega (arith, small, ap length is, c.draw_row.auto.band))) in
+    (λ m small. ap (λ (xs : List ℕ). get_or xs m 0) is ∙ c.draw_band.ensures m (omega (arith, small, ap length is, c.draw_band.auto.bytes))) in
     record {
       room = room;
       spare = ap (λ v. v.len) c.swap.ensures.y_after ∙ c.loop-n.invariant.room;

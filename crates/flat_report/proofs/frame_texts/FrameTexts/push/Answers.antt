@@ -10,6 +10,6 @@ pub returns : goal.returns
 returns c = λ frames were.
     let script = c.args.script.now in
     let L : List DrawItem → Type 0 = λ items. HaveLines script items c.in_ok-stretches.stretches.items in
-    one-text-more script frames c.args.frame c.args.self.now _ c.in_ok-text.text were c.in_ok-push_back.ensures.items
+    one-text-more script frames c.args.frame c.args.self.now _ c.in_ok-text.text were c.in_ok-push.ensures.items
     (c.in_ok-text.ensures ∙ ap (λ (stretches : List Stretch). stretches_text stretches ++ tree_text script c.args.frame.tree) c.as_slice-2.ensures.value) refl
     (subst L c.as_slice.ensures (c.in_ok-stretches.ensures were.lines))

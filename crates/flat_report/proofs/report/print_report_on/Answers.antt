@@ -1,0 +1,7 @@
+use Rattle.std.proofs.Common.{◌≡◌, ℕ, List, IfOk, subst}
+use Rattle.flat_report.proofs.report.print_report_on.Goals as goal
+
+pub returns : goal.returns
+returns g c =
+    let P : List ℕ → Type 0 = λ whole. IfOk c.print_apart.result (λ text. text ≡ whole) in
+    subst P (c.whole.ensures.text c.args.script.now c.args.run.now.probes.now) c.print_apart.ensures
