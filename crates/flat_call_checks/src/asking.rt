@@ -1,6 +1,7 @@
 use crate::call::{Called, call};
 use crate::faults::NONE;
-use crate::flags::{Count, Flag};
+use crate::flags::Flag;
+use crate::order::InOrder;
 use crate::texts::PROBED;
 use flat_base::NoMemory;
 use flat_display::Display;
@@ -21,7 +22,7 @@ const ORDER: [(u32, u32); 7] = [(1, 7), (1, 13), (0, 14), (0, 15), (0, 17), (0, 
 /// first frame.
 #[derive(Drop)]
 struct Asking {
-    next: Count,
+    turns: InOrder,
     shows: Flag,
     answered: Flag,
 }
@@ -29,19 +30,16 @@ struct Asking {
 impl Gate for Asking {
     fn open(&self, actor: u32, line: u32) -> bool {
         if actor == PROBE {
-            return self.shows.is_set();
+            return self.shows.is_set_soon();
         }
-        match ORDER.get(self.next.number() as usize) {
-            Some(entry) => *entry == (actor, line),
-            None => true,
-        }
+        self.turns.open(actor, line)
     }
 
-    fn passed(&self, actor: u32, _line: u32, _reply: &Reply) {
+    fn passed(&self, actor: u32, line: u32, reply: &Reply) {
         if actor == PROBE {
             self.answered.set();
         } else {
-            self.next.add();
+            self.turns.passed(actor, line, reply);
         }
     }
 }
@@ -66,7 +64,7 @@ impl Display for Slow {
 /// nothing is published by then.
 pub fn race_asked<T: Threads + Wait + Sync>(rt: &T, alloc: Global) -> Result<Called, NoMemory> {
     let asking = Asking {
-        next: Count::new(),
+        turns: InOrder::new(&ORDER),
         shows: Flag::new(),
         answered: Flag::new(),
     };

@@ -4,6 +4,11 @@ use std::thread;
 /// How often a thread turns while it waits for another one.
 const TURNS: u32 = 100_000_000;
 
+/// How often it turns while a gate is asked once. A race asks a gate a million times for a
+/// line and then goes on, so that on a busy machine a gate that answered at once would let
+/// a line in out of its turn.
+pub(crate) const TURNS_OF_AN_ASK: u32 = 100;
+
 /// A flag that threads share, not set at first.
 #[derive(Drop)]
 pub(crate) struct Flag(AtomicBool);
@@ -24,9 +29,19 @@ impl Flag {
         self.0.load(Ordering::SeqCst)
     }
 
-    /// Waits until it is set, for so many turns at most. Whether it is.
+    /// Waits until it is set, for as long as a test may take. Whether it is.
     pub(crate) fn is_set_in_time(&self) -> bool {
-        for _ in 0..TURNS {
+        self.is_set_within(TURNS)
+    }
+
+    /// Waits for a short while until it is set, as a gate may that is asked. Whether it is.
+    pub(crate) fn is_set_soon(&self) -> bool {
+        self.is_set_within(TURNS_OF_AN_ASK)
+    }
+
+    /// Waits until it is set, for so many turns at most. Whether it is.
+    fn is_set_within(&self, turns: u32) -> bool {
+        for _ in 0..turns {
             if self.is_set() {
                 return true;
             }

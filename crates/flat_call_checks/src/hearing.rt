@@ -1,6 +1,7 @@
-use crate::flags::{Count, Flag};
+use crate::flags::{Count, Flag, TURNS_OF_AN_ASK};
 use flat_race::Gate;
 use flat_scene::Reply;
+use std::thread;
 
 /// Opens entries in one order, and looks whether it is told of each with its reply.
 #[derive(Drop)]
@@ -29,14 +30,25 @@ impl Hearing {
     pub fn was_mistold(&self) -> bool {
         self.is_mistold.is_set()
     }
-}
 
-impl Gate for Hearing {
-    fn open(&self, actor: u32, line: u32) -> bool {
+    /// Whether it is to be told of an entry next, or of nothing more.
+    fn is_next(&self, actor: u32, line: u32) -> bool {
         match self.told.get(self.next.number() as usize) {
             Some((who, number, _)) => *who == actor && *number == line,
             None => true,
         }
+    }
+}
+
+impl Gate for Hearing {
+    fn open(&self, actor: u32, line: u32) -> bool {
+        for _ in 0..TURNS_OF_AN_ASK {
+            if self.is_next(actor, line) {
+                return true;
+            }
+            thread::yield_now();
+        }
+        false
     }
 
     fn passed(&self, actor: u32, line: u32, reply: &Reply) {
@@ -81,9 +93,9 @@ impl HearsBegin {
 impl Gate for HearsBegin {
     fn open(&self, _actor: u32, line: u32) -> bool {
         match line {
-            13 => self.first_presented.is_set(),
-            15 => self.begun.is_set(),
-            16 => self.done.is_set(),
+            13 => self.first_presented.is_set_soon(),
+            15 => self.begun.is_set_soon(),
+            16 => self.done.is_set_soon(),
             _ => true,
         }
     }

@@ -57,7 +57,7 @@ impl Holding {
 impl Gate for Holding {
     fn open(&self, _actor: u32, line: u32) -> bool {
         match line {
-            13 => self.first_presented.is_set(),
+            13 => self.first_presented.is_set_soon(),
             // A done asks before its frame is shown.
             14 => {
                 if self.shows.is_set() {
@@ -65,8 +65,8 @@ impl Gate for Holding {
                 }
                 true
             }
-            15 => self.shows.is_set(),
-            16 => self.done.is_set(),
+            15 => self.shows.is_set_soon(),
+            16 => self.done.is_set_soon(),
             _ => true,
         }
     }

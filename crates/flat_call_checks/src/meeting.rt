@@ -45,14 +45,14 @@ impl Gate for Meeting {
         match (actor, line) {
             (1, 8) => {
                 self.meet(&self.first, &self.second);
-                self.second_passed.is_set()
+                self.second_passed.is_set_soon()
             }
             (2, 9) => {
                 self.meet(&self.second, &self.first);
                 true
             }
-            (1, _) => self.first_passed.is_set(),
-            _ => self.first_ended.is_set(),
+            (1, _) => self.first_passed.is_set_soon(),
+            _ => self.first_ended.is_set_soon(),
         }
     }
 
