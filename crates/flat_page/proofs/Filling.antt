@@ -29,12 +29,6 @@ none_filled old at within = record { text = sym (append-nil (take at old)); plac
 pub one_filled : (old : List ℕ) (at byte : ℕ) → at + 1 ≤ length old → Fills (byte ∷ []) old at (slice_set old at byte) (at + 1)
 one_filled old at byte room = record { text = take_more_set old at byte (omega arith); place = refl; long = length-set old at byte }
 
-pub two_filled : (old : List ℕ) (at x y : ℕ) → at + 2 ≤ length old → Fills (x ∷ y ∷ []) old at (slice_set (slice_set old at x) (at + 1) y) (at + 2)
-two_filled old at x y room =
-    let long = length-set old at x in
-    let end : at + 1 + 1 ≡ at + 2 = omega arith in
-    rw end at (fills_then (one_filled old at x (omega arith)) (one_filled (slice_set old at x) (at + 1) y (omega (arith, long))))
-
 -- ---- on a page
 
 -- words written into the room behind a page, which are seen through the whole of its bytes

@@ -1,5 +1,5 @@
 -- Digits, and what is written at a place of bytes that have room there.
-use Rattle.std.specs.Prelude.{◌≡◌, ◌≤◌, ℕ, ◌+◌, ◌/◌, ◌%◌, ℤ, pos, negsuc}
+use Rattle.std.specs.Prelude.{◌≡◌, ◌≤◌, ℕ, ◌+◌, ℤ, pos, negsuc}
 use Rattle.std.specs.Prelude.{List, [], ◌∷◌, ◌++◌, length, take}
 
 -- so many bytes have room from a place on
@@ -11,18 +11,6 @@ pub record Fills (written old : List ℕ) (at : ℕ) (new : List ℕ) (next : �
   pub text : take next new ≡ take at old ++ written
   pub place : next ≡ at + length written
   pub long : length new ≡ length old
-
--- two digits of a number below 100
-abbrev pub pair : ℕ → List ℕ
-pair n = (48 + n / 10) ∷ (48 + n % 10) ∷ []
-
--- four digits of a number below 10,000
-abbrev pub four : ℕ → List ℕ
-four n = pair (n / 100) ++ pair (n % 100)
-
--- eight digits of a number below 100,000,000
-abbrev pub eight : ℕ → List ℕ
-eight n = four (n / 10000) ++ four (n % 10000)
 
 -- what stands before the digits of a number
 abbrev pub sign : ℤ → List ℕ

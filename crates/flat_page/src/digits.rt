@@ -1,140 +1,46 @@
 //! The digits of numbers, written from the first to the last at a place of bytes that have
 //! room there. Each call answers the place behind what it wrote.
-ghost use Rattle.std.specs.Prelude.{◌≤◌, ◌<◌, ◌+◌, ◌∷◌, [], length};
+ghost use Rattle.std.specs.Prelude.{◌≡◌, ◌≤◌, ◌<◌, ◌+◌, ◌∷◌, [], length};
 ghost use Rattle.std.specs.Fmt.{decimal, signed_decimal};
 ghost use Rattle.flat_page.specs.Words.{numbers, spaced};
-ghost use Rattle.flat_page.specs.Rooms.{HasRoom, Fills, pair, four, eight, sign};
+ghost use Rattle.flat_page.specs.Rooms.{HasRoom, Fills, sign};
 
 /// The bytes of the longest number, with its sign and the space before it.
 pub(crate) const NUMBER_BYTES: usize = 24;
 
 /// Numbers below it have at most four digits.
-const FOUR: u64 = 10_000;
+const FOUR_DIGITS: u64 = 10_000;
 
-/// Numbers below it have at most eight digits.
-const EIGHT: u64 = 100_000_000;
-
-/// The digits of all numbers below 100, two each.
-static PAIRS: [u8; 200] =
-    *b"00010203040506070809101112131415161718192021222324252627282930313233343536373839\
-    40414243444546474849505152535455565758596061626364656667686970717273747576777879\
-    8081828384858687888990919293949596979899";
-
-/// Writes two digits, of which the first may be 0.
+/// How many digits a number of at most four has.
 #[inline(always)]
-fn write_pair(bytes: &mut [u8], at: usize, n: u64) -> usize
-    requires small { n < 100 }
-    requires room { HasRoom 2 bytes.old at }
-    ensures { Fills (pair n) bytes.old at bytes.new result }
-{
-    let from = n as usize * 2;
-    let (tens, ones) = (PAIRS[from], PAIRS[from + 1]);
-    bytes[at] = tens;
-    bytes[at + 1] = ones;
-    at + 2
-}
-
-/// Writes a number of one or two digits.
-#[inline(always)]
-fn write_first(bytes: &mut [u8], at: usize, n: u64) -> usize
-    requires small { n < 100 }
-    requires room { HasRoom (length (decimal n)) bytes.old at }
-    ensures { Fills (decimal n) bytes.old at bytes.new result }
-{
-    if n >= 10 {
-        return write_pair(bytes, at, n);
-    }
-    bytes[at] = b'0' + n as u8;
-    at + 1
-}
-
-/// Writes a number of one to four digits.
-#[inline(always)]
-fn write_short(bytes: &mut [u8], at: usize, n: u64) -> usize
+fn few_digits(n: u64) -> usize
     requires small { n < 10000 }
-    requires room { HasRoom (length (decimal n)) bytes.old at }
-    ensures { Fills (decimal n) bytes.old at bytes.new result }
+    ensures { result ≡ length (decimal n) }
 {
+    if n < 10 {
+        return 1;
+    }
     if n < 100 {
-        return write_first(bytes, at, n);
+        return 2;
     }
-    let next = write_first(bytes, at, n / 100);
-    write_pair(bytes, next, n % 100)
-}
-
-/// Writes four digits.
-#[inline(always)]
-fn write_four(bytes: &mut [u8], at: usize, n: u64) -> usize
-    requires small { n < 10000 }
-    requires room { HasRoom 4 bytes.old at }
-    ensures { Fills (four n) bytes.old at bytes.new result }
-{
-    let next = write_pair(bytes, at, n / 100);
-    write_pair(bytes, next, n % 100)
-}
-
-/// Writes a number of five to eight digits.
-#[inline(always)]
-fn write_middle(bytes: &mut [u8], at: usize, n: u64) -> usize
-    requires large { 10000 ≤ n }
-    requires small { n < 100000000 }
-    requires room { HasRoom (length (decimal n)) bytes.old at }
-    ensures { Fills (decimal n) bytes.old at bytes.new result }
-{
-    let next = write_short(bytes, at, n / FOUR);
-    write_four(bytes, next, n % FOUR)
-}
-
-/// Writes eight digits.
-#[inline(always)]
-fn write_eight(bytes: &mut [u8], at: usize, n: u64) -> usize
-    requires small { n < 100000000 }
-    requires room { HasRoom 8 bytes.old at }
-    ensures { Fills (eight n) bytes.old at bytes.new result }
-{
-    let next = write_four(bytes, at, n / FOUR);
-    write_four(bytes, next, n % FOUR)
-}
-
-/// Writes a number of one to eight digits.
-#[inline(always)]
-fn write_some(bytes: &mut [u8], at: usize, n: u64) -> usize
-    requires small { n < 100000000 }
-    requires room { HasRoom (length (decimal n)) bytes.old at }
-    ensures { Fills (decimal n) bytes.old at bytes.new result }
-{
-    if n < FOUR {
-        return write_short(bytes, at, n);
+    if n < 1000 {
+        return 3;
     }
-    write_middle(bytes, at, n)
+    4
 }
 
-/// Writes a number of nine digits and more.
-#[inline(never)]
-fn write_large(bytes: &mut [u8], at: usize, n: u64) -> usize
-    requires large { 100000000 ≤ n }
-    requires room { HasRoom (length (decimal n)) bytes.old at }
-    ensures { Fills (decimal n) bytes.old at bytes.new result }
+/// How many digits a number has.
+#[inline(always)]
+fn count_digits(n: u64) -> usize
+    ensures { result ≡ length (decimal n) }
 {
-    let front = n / EIGHT;
-    if front >= EIGHT {
-        return write_huge(bytes, at, n);
+    let mut left = n;
+    let mut digits = 0;
+    while left >= FOUR_DIGITS {
+        left /= FOUR_DIGITS;
+        digits += 4;
     }
-    let next = write_some(bytes, at, front);
-    write_eight(bytes, next, n % EIGHT)
-}
-
-/// Writes a number of 17 digits and more.
-#[inline(never)]
-fn write_huge(bytes: &mut [u8], at: usize, n: u64) -> usize
-    requires large { 10000000000000000 ≤ n }
-    requires room { HasRoom (length (decimal n)) bytes.old at }
-    ensures { Fills (decimal n) bytes.old at bytes.new result }
-{
-    let front = n / EIGHT;
-    let second = write_short(bytes, at, front / EIGHT);
-    let third = write_eight(bytes, second, front % EIGHT);
-    write_eight(bytes, third, n % EIGHT)
+    digits + few_digits(left)
 }
 
 /// Writes a number.
@@ -143,13 +49,9 @@ pub(crate) fn write_digits(bytes: &mut [u8], at: usize, n: u64) -> usize
     requires room { HasRoom (length (decimal n)) bytes.old at }
     ensures { Fills (decimal n) bytes.old at bytes.new result }
 {
-    if n < FOUR {
-        return write_short(bytes, at, n);
-    }
-    if n < EIGHT {
-        return write_middle(bytes, at, n);
-    }
-    write_large(bytes, at, n)
+    let end = at + count_digits(n);
+    itoa::write_digits(n, bytes, end);
+    end
 }
 
 /// Writes one byte.
