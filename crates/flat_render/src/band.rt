@@ -14,8 +14,8 @@ use crate::tile::{Tile, draw};
 use flat_scene::DrawItem;
 use std::alloc::Global;
 
-/// So many items are looked at twice sooner than they are copied.
-const FEW: usize = 32;
+/// So many items are asked for each tile sooner than they are chosen for it.
+const ITEMS_ON_EACH_TILE: usize = 32;
 
 /// Draws a tile by the items with some numbers, which are those that may be seen there.
 fn draw_tile(items: &[DrawItem], list: &[Prepared], places: &[usize], tile: Tile, bytes: &mut [u8])
@@ -91,7 +91,7 @@ pub fn draw_band(
     ensures { (m : ℕ) → m < length bytes.old → slice_index bytes.new m
         ≡ drawn_at grid.now items.now (row * band_bytes grid.now + m) }
 {
-    if items.len() <= FEW {
+    if items.len() <= ITEMS_ON_EACH_TILE {
         return draw_each(items, grid, row, bytes);
     }
     match sorted(alloc, items, list, grid, row) {

@@ -1,8 +1,8 @@
 //! The software renderer: the picture of a draw list, computed in tiles.
 //!
-//! `render` (rendering) gives each pixel the colour of specs/Pixels, `render_into` in memory that is
-//! there; tiles (tile, grid,
-//! drawing) and what is left out (sorting) are in no answer.
+//! `render` (rendering) gives each pixel the colour of specs/Pixels, and `render_into` does so in
+//! the memory of an old picture. Neither tiles (tile, grid, drawing) nor which items are left out
+//! (sorting) show in an answer.
 //!
 //! A picture is drawn by rows of tiles (band), each tile by the items that may be seen there
 //! (chosen). What an item gives all tiles is found once (prepared) and laid on each (laying,

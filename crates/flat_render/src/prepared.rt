@@ -133,7 +133,7 @@ fn prepare(item: &DrawItem) -> Prepared
 }
 
 /// So many items are prepared sooner by one thread than by several.
-const FEW: usize = 2048;
+const ITEMS_FOR_ONE_THREAD: usize = 2048;
 
 /// Prepares items, each for itself.
 fn prepare_each(alloc: Global, items: &[DrawItem]) -> Result<Vec<Prepared>, NoMemory>
@@ -158,7 +158,7 @@ pub fn prepare_all<R: Threads + Sync>(
     requires { All IsDrawable items.now }
     ensures { IfOk result (λ list. ArePrepared items.now list.items) }
 {
-    if threads <= 1 || items.len() <= FEW {
+    if threads <= 1 || items.len() <= ITEMS_FOR_ONE_THREAD {
         return prepare_each(alloc, items);
     }
     let (low, high) = (threads / 2, threads - threads / 2);

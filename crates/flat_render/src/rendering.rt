@@ -24,8 +24,8 @@ use std::thread::Threads;
 /// enough: the lower a strip is, the more of them look like the one before.
 const STRIPS: usize = 32;
 
-/// For so many items low tiles cost little more than high ones.
-const FEW: usize = 32;
+/// So many items cost little more on low tiles than on high ones.
+const ITEMS_ON_LOW_TILES: usize = 32;
 
 /// Of which number the rows of tiles are a multiple. Many items lie on fewer tiles where these are
 /// high.
@@ -45,7 +45,7 @@ fn step_for_strips(items: usize, threads: usize) -> usize
     ensures some { 0 < result }
     ensures small { result ≤ 64 }
 {
-    if items <= FEW {
+    if items <= ITEMS_ON_LOW_TILES {
         STRIPS
     } else {
         step_for(threads)

@@ -19,6 +19,7 @@ use flat_base::{LINE_BYTES_MAX, SCRIPT_BYTES_MAX};
 use flat_forms::{LineError, Parser, Part};
 use flat_places::{FaultKind, Script};
 use flat_text::line;
+use rayon::current_num_threads;
 use std::alloc::Global;
 use std::thread::Threads;
 
@@ -38,7 +39,8 @@ pub fn parse(alloc: Global, bytes: &[u8]) -> Result<Script, ScriptError>
     Ok(script_of(parser, lines))
 }
 
-/// The same by several threads, where the text is long enough for them.
+/// The same by several threads, if the text is long enough for them and there is more than one
+/// processor.
 pub fn parse_on<T: Threads + Sync>(
     rt: &T,
     alloc: Global,
@@ -46,7 +48,7 @@ pub fn parse_on<T: Threads + Sync>(
 ) -> Result<Script, ScriptError>
     ensures { Answers result (text_read bytes.now) }
 {
-    if bytes.len() < SHORT_TEXT {
+    if bytes.len() < SHORT_TEXT || current_num_threads(rt) == 1 {
         return parse(alloc, bytes);
     }
     let mut parser = Parser::new(alloc);
