@@ -1,7 +1,9 @@
 -- What is found of each of some items.
-use Rattle.std.proofs.Common.{ℕ, zero, suc, ◌+◌, ◌<◌, ◌^◌, ◌≡◌, refl, ap, ◌∙◌, sym, subst, true, false, List, [], ◌∷◌, ◌++◌, length, get_or, drop, arith}
+use Rattle.std.proofs.Common.{ℕ, zero, suc, ◌+◌, ◌-◌, ◌<◌, ◌≤◌, ◌^◌, ◌≡◌, refl, ap, ◌∙◌, sym, subst, true, false, List, [], ◌∷◌, ◌++◌, length, get_or, take}
+use Rattle.std.proofs.Common.{drop, arith}
 use Rattle.std.proofs.lemmas.Bool.{cases_lt}
-use Rattle.std.proofs.lemmas.List.{get_or_append_left, get_or_push, get_or_default, length-append}
+use Rattle.std.proofs.lemmas.List.{get_or_append_left, get_or-append_right, get_or-take, get_or-drop, get_or_push, get_or_default, length-append}
+use Rattle.std.proofs.lemmas.List.{length-take-le, length-drop}
 use Rattle.flat_scene.specs.declared.frames.DrawItem.{DrawItem}
 use Rattle.flat_render.specs.Areas.{has_pixel, IsWindow}
 use Rattle.flat_render.specs.Bands.{chosen}
@@ -67,6 +69,27 @@ all-prepared items list n all were = record {
   count = were.count ∙ all;
   each = λ k d e small. were.each k d e (omega (arith, all, small));
 }
+
+-- those of the first n items, and those of the others
+pub prepared_joined : (items : List DrawItem) (n : ℕ) (front back : List Prepared) → n ≤ length items → ArePrepared (take n items) front
+    → ArePrepared (drop n items) back → ArePrepared items (front ++ back)
+prepared_joined items n front back within low high =
+    let long : length (take n items) ≡ n = length-take-le n items within in
+    let rest = length-drop n items in
+    record {
+      count = omega (arith, length-append front back, low.count, high.count, long, rest, within);
+      each = λ k d e small.
+          either _ _ (cases_lt k n)
+          (λ l.
+          subst (λ (item : DrawItem). IsPrepared item (get_or (front ++ back) k e)) (get_or-take n items k d l)
+          (subst (λ (it : Prepared). IsPrepared (get_or (take n items) k d) it) (sym (get_or_append_left front back e k (omega (arith, low.count, long, l))))
+          (low.each k d e (omega (arith, long, l)))))
+          (λ g.
+          let there : n + (k - n) ≡ k = omega (arith, g) in
+          subst (λ (item : DrawItem). IsPrepared item (get_or (front ++ back) k e)) (get_or-drop n items (k - n) d ∙ ap (λ (i : ℕ). get_or items i d) there)
+          (subst (λ (it : Prepared). IsPrepared (get_or (drop n items) (k - n) d) it) (sym (get_or-append_right front back n k e (low.count ∙ long) g))
+          (high.each (k - n) d e (omega (arith, rest, small, g)))));
+    }
 
 -- where the area of one has no pixel, its item doesn't cover it
 pub not-covered : (items : List DrawItem) (list : List Prepared) (n : ℕ) (d : DrawItem) (e : Prepared) (px py : ℕ) → ArePrepared items list → n < length items

@@ -6,7 +6,7 @@ ghost use Rattle.std.specs.Thread.{IsSync};
 ghost use Rattle.flat_render.specs.Plans.{IsPlan};
 ghost use Rattle.flat_render.specs.Strips.{rows_above, HasStrips};
 
-use crate::plan::{Plan, Span, cut_of};
+use crate::plan::{Plan, Span, cut_of, first_share};
 use crate::strips::{Strip, draw_strips};
 use flat_base::NoMemory;
 use std::thread::{Threads, join};
@@ -39,7 +39,7 @@ fn span_strips<R: Threads + Sync>(rt: &R, plan: &Plan<'_>, span: Span) -> Part
     if threads <= 1 || upto - from <= 1 {
         return draw_strips(plan.alloc, plan.items, plan.list, &plan.grid, from, upto);
     }
-    let low = threads / 2;
+    let low = first_share(threads);
     let cut = cut_of(plan.works, span, low);
     let before = Span {
         from,

@@ -121,6 +121,16 @@ pub fn works_for(
     Ok(works)
 }
 
+/// How many of some threads take the first part of what these share: one that is started for it,
+/// if there are more. The caller goes on with the others, so it starts all of them one right after
+/// the other. Some kernels spread such threads over the processors sooner than those that start
+/// each other.
+pub fn first_share(threads: usize) -> usize
+    ensures { result ≤ threads }
+{
+    if threads > 1 { 1 } else { 0 }
+}
+
 /// How much work all rows of tiles are.
 pub fn sum_of(works: &[usize]) -> usize {
     let mut sum: usize = 0;

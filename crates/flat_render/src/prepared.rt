@@ -1,4 +1,4 @@
-ghost use Rattle.std.specs.Prelude.{◌≡◌, All, IfOk, IsTrue, false, slice_index};
+ghost use Rattle.std.specs.Prelude.{◌≡◌, ◌<◌, ◌≤◌, All, IfOk, IsTrue, false, slice_index};
 ghost use Rattle.std.specs.Thread.{IsSync};
 ghost use Rattle.flat_drawable.specs.Drawable.{IsDrawable, IsSample};
 ghost use Rattle.flat_render.specs.Areas.{IsWindow};
@@ -147,8 +147,17 @@ fn prepare_each(alloc: Global, items: &[DrawItem]) -> Result<Vec<Prepared>, NoMe
     Ok(list)
 }
 
+/// How many of some items one of so many threads prepares.
+fn share_of(items: usize, threads: usize) -> usize
+    requires { 0 < threads }
+    ensures { result ≤ items }
+{
+    items / threads
+}
+
 /// Prepares items, each for itself, in at most so many threads.
 #[cycle(preparing)]
+#[tactic(auto, using(crate::proofs::PreparedLists::prepared_joined))]
 pub fn prepare_all<R: Threads + Sync>(
     rt: &R,
     alloc: Global,
@@ -161,8 +170,8 @@ pub fn prepare_all<R: Threads + Sync>(
     if threads <= 1 || items.len() <= ITEMS_FOR_ONE_THREAD {
         return prepare_each(alloc, items);
     }
-    let (low, high) = (threads / 2, threads - threads / 2);
-    let (front, back) = items.split_at(items.len() / 2);
+    let (low, high) = (1, threads - 1);
+    let (front, back) = items.split_at(share_of(items.len(), threads));
     let first = || -> Result<Vec<Prepared>, NoMemory>
         requires { IsSync R.row × All IsDrawable front.now }
         ensures { IfOk result (λ list. ArePrepared front.entry.now list.items) }

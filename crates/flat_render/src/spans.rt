@@ -7,7 +7,7 @@ ghost use Rattle.flat_render.specs.Stored.{drawn_at};
 
 use crate::band::draw_band;
 use crate::grid::bytes_of_bands;
-use crate::plan::{Plan, Span, cut_of};
+use crate::plan::{Plan, Span, cut_of, first_share};
 use std::thread::{Threads, join_mut};
 
 /// Draws the rows of tiles of a span in at most its number of threads.
@@ -26,7 +26,7 @@ pub fn draw_span<R: Threads + Sync>(rt: &R, plan: &Plan<'_>, span: Span, bytes: 
     if upto - from == 1 {
         return draw_band(plan.alloc, plan.items, plan.list, &plan.grid, from, bytes);
     }
-    let low = threads / 2;
+    let low = first_share(threads);
     let cut = cut_of(plan.works, span, low);
     let (front, back) = bytes.split_at_mut((cut - from) * bytes_of_bands(&plan.grid));
     let before = Span {

@@ -1,5 +1,4 @@
-use Rattle.std.proofs.Common.{ℕ, ◌≡◌, ◌∙◌, ◌+◌, ◌-◌, ◌*◌, ap, List, length, get_or, arith}
-use Rattle.std.proofs.lemmas.List.{get_or-drop}
+use Rattle.std.proofs.Common.{ℕ, ◌≡◌, ◌∙◌, ◌-◌, ◌*◌, ap, length, arith}
 use Rattle.flat_render.specs.Grids.{band_bytes}
 use Rattle.flat_render.specs.Stored.{drawn_at}
 use Rattle.flat_render.proofs.SpanSteps.{cut-size, spans-joined}
