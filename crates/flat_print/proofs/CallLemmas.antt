@@ -21,8 +21,13 @@ use Rattle.flat_places.specs.Known.{knows}
 use Rattle.flat_print.specs.Print.{call_fields, call_name}
 use Rattle.flat_forms.proofs.lemmas.FormLemmas.{Shown}
 use Rattle.flat_print.proofs.SpeltCalls.{CallShown, in_full}
-use Rattle.flat_print.proofs.TransformCalls.{spelt-CreateView, spelt-CreateTransform, spelt-ReleaseTransform, spelt-SetTranslation, spelt-AddChild, spelt-RemoveChild, spelt-ReplaceChildren, spelt-SetRootTransform, spelt-SetHitRegions, spelt-SetInfiniteHitRegion, spelt-SetContent, spelt-ReleaseView, spelt-Clear, spelt-SetOrientation, spelt-SetScale, spelt-SetOpacity, spelt-SetClipBoundary}
-use Rattle.flat_print.proofs.ContentCalls.{spelt-CreateFilledRect, spelt-SetSolidFill, spelt-ReleaseFilledRect, spelt-CreateImage, spelt-SetImageSampleRegion, spelt-SetImageDestinationSize, spelt-SetImageBlendingFunction, spelt-SetImageFlip, spelt-SetImageOpacity, spelt-ReleaseImage}
+use Rattle.flat_print.proofs.TransformCalls.{spelt-CreateView, spelt-CreateTransform, spelt-ReleaseTransform, spelt-SetTranslation, spelt-AddChild}
+use Rattle.flat_print.proofs.TransformCalls.{spelt-RemoveChild, spelt-ReplaceChildren, spelt-SetRootTransform, spelt-SetHitRegions, spelt-SetInfiniteHitRegion}
+use Rattle.flat_print.proofs.TransformCalls.{spelt-SetContent, spelt-ReleaseView, spelt-Clear, spelt-SetOrientation, spelt-SetScale, spelt-SetOpacity}
+use Rattle.flat_print.proofs.TransformCalls.{spelt-SetClipBoundary}
+use Rattle.flat_print.proofs.ContentCalls.{spelt-CreateFilledRect, spelt-SetSolidFill, spelt-ReleaseFilledRect, spelt-CreateImage, spelt-SetImageSampleRegion}
+use Rattle.flat_print.proofs.ContentCalls.{spelt-SetImageDestinationSize, spelt-SetImageBlendingFunction, spelt-SetImageFlip, spelt-SetImageOpacity}
+use Rattle.flat_print.proofs.ContentCalls.{spelt-ReleaseImage}
 use Rattle.flat_print.proofs.ViewportCalls.{spelt-SetViewportProperties, spelt-ReleaseViewport, shown-CreateViewport}
 
 abbrev pub AllShown : Script → SessionNo → List CallName → Type 0

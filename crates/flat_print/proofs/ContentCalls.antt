@@ -69,7 +69,8 @@ spelt-ReleaseFilledRect s o words c is =
     let taken : words ≡ call_fields s (h p1.a) = content_words.takes words p1.a [] p1.given in
     record { fields = ap (call_fields s) (sym value) ∙ sym taken; named = ap call_name (sym value) }
 
-pub spelt-CreateImage : (s : Script) (o : SessionNo) (words : List Word) (c : Call) → whole (call_form s o CreateImage) words ≡ Ok c → Spelt s CreateImage words c
+pub spelt-CreateImage : (s : Script) (o : SessionNo) (words : List Word) (c : Call) → whole (call_form s o CreateImage) words ≡ Ok c
+    → Spelt s CreateImage words c
 spelt-CreateImage s o words c is =
     let h : ContentId → BufferNo → ℕ → ℕ → ℕ → Call = λ x1 x2 x3 x4 x5. call.CreateImage x1 x2 x3 x4 x5 in
     let given = whole_ok (call_form s o CreateImage) words c is in

@@ -36,7 +36,8 @@ split f x spell words v rest spells given =
 pub steps_2 : {A B C : Type 0} (f0 : A → B → C) (a0 : A) (f1 : B → C) (a1 : B) (made : C) → f0 a0 ≡ f1 → f1 a1 ≡ made → f0 a0 a1 ≡ made
 steps_2 f0 a0 f1 a1 made e0 e1 = ap (λ g. g a1) e0 ∙ e1
 
-pub steps_3 : {A B C D : Type 0} (f0 : A → B → C → D) (a0 : A) (f1 : B → C → D) (a1 : B) (f2 : C → D) (a2 : C) (made : D) → f0 a0 ≡ f1 → f1 a1 ≡ f2 → f2 a2 ≡ made
+pub steps_3 : {A B C D : Type 0} (f0 : A → B → C → D) (a0 : A) (f1 : B → C → D) (a1 : B) (f2 : C → D) (a2 : C) (made : D) → f0 a0 ≡ f1 → f1 a1 ≡ f2
+    → f2 a2 ≡ made
     → f0 a0 a1 a2 ≡ made
 steps_3 f0 a0 f1 a1 f2 a2 made e0 e1 e2 = ap (λ g. g a1 a2) e0 ∙ ap (λ g. g a2) e1 ∙ e2
 
@@ -44,7 +45,8 @@ pub steps_4 : {A B C D E : Type 0} (f0 : A → B → C → D → E) (a0 : A) (f1
     → f0 a0 ≡ f1 → f1 a1 ≡ f2 → f2 a2 ≡ f3 → f3 a3 ≡ made → f0 a0 a1 a2 a3 ≡ made
 steps_4 f0 a0 f1 a1 f2 a2 f3 a3 made e0 e1 e2 e3 = ap (λ g. g a1 a2 a3) e0 ∙ ap (λ g. g a2 a3) e1 ∙ ap (λ g. g a3) e2 ∙ e3
 
-pub steps_5 : {A B C D E F : Type 0} (f0 : A → B → C → D → E → F) (a0 : A) (f1 : B → C → D → E → F) (a1 : B) (f2 : C → D → E → F) (a2 : C) (f3 : D → E → F) (a3 : D)
+pub steps_5 : {A B C D E F : Type 0} (f0 : A → B → C → D → E → F) (a0 : A) (f1 : B → C → D → E → F) (a1 : B) (f2 : C → D → E → F) (a2 : C) (f3 : D → E → F)
+    (a3 : D)
     (f4 : E → F) (a4 : E) (made : F) → f0 a0 ≡ f1 → f1 a1 ≡ f2 → f2 a2 ≡ f3 → f3 a3 ≡ f4 → f4 a4 ≡ made → f0 a0 a1 a2 a3 a4 ≡ made
 steps_5 f0 a0 f1 a1 f2 a2 f3 a3 f4 a4 made e0 e1 e2 e3 e4 = ap (λ g. g a1 a2 a3 a4) e0 ∙ ap (λ g. g a2 a3 a4) e1 ∙ ap (λ g. g a3 a4) e2 ∙ ap (λ g. g a4) e3 ∙ e4
 

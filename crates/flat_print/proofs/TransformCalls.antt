@@ -84,7 +84,8 @@ spelt-AddChild s o words c is =
     let taken : words ≡ call_fields s (h p1.a p2.a) = transform_words.takes words p1.a p2.mid p1.given ∙ ap (λ t. decimal p1.a.0 ∷ t) (p2.behind) in
     record { fields = ap (call_fields s) (sym value) ∙ sym taken; named = ap call_name (sym value) }
 
-pub spelt-RemoveChild : (s : Script) (o : SessionNo) (words : List Word) (c : Call) → whole (call_form s o RemoveChild) words ≡ Ok c → Spelt s RemoveChild words c
+pub spelt-RemoveChild : (s : Script) (o : SessionNo) (words : List Word) (c : Call) → whole (call_form s o RemoveChild) words ≡ Ok c
+    → Spelt s RemoveChild words c
 spelt-RemoveChild s o words c is =
     let h : TransformId → TransformId → Call = λ p k. call.RemoveChild p k in
     let given = whole_ok (call_form s o RemoveChild) words c is in
@@ -150,7 +151,8 @@ spelt-SetContent s o words c is =
     let taken : words ≡ call_fields s (h p1.a p2.a) = transform_words.takes words p1.a p2.mid p1.given ∙ ap (λ t. decimal p1.a.0 ∷ t) (p2.behind) in
     record { fields = ap (call_fields s) (sym value) ∙ sym taken; named = ap call_name (sym value) }
 
-pub spelt-ReleaseView : (s : Script) (o : SessionNo) (words : List Word) (c : Call) → whole (call_form s o ReleaseView) words ≡ Ok c → Spelt s ReleaseView words c
+pub spelt-ReleaseView : (s : Script) (o : SessionNo) (words : List Word) (c : Call) → whole (call_form s o ReleaseView) words ≡ Ok c
+    → Spelt s ReleaseView words c
 spelt-ReleaseView s o words c is =
     let given = whole_ok (call_form s o ReleaseView) words c is in
     let same = given.value in

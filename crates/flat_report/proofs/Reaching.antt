@@ -10,11 +10,11 @@ use Rattle.flat_scene.specs.declared.journal.Entry.{Entry}
 use Rattle.flat_scene.specs.History.{is_finish}
 use Rattle.flat_places.specs.declared.script.Script.{Script}
 use Rattle.flat_page.specs.Words.{text_of}
-use Rattle.flat_lines.specs.Ends.{end_line, title_line}
+use Rattle.flat_lines.specs.Ends.{title_line}
 use Rattle.flat_report.specs.declared.cursor.Cursor.{Cursor}
 use Rattle.flat_report.specs.declared.probes.ProbeAnswer.{ProbeAnswer}
 use Rattle.flat_report.specs.declared.sections.Section.{Section}
-use Rattle.flat_report.specs.Handed.{Rest, after_entries, after_entry, answers_text, entries_text, entry_text, handed_entries}
+use Rattle.flat_report.specs.Handed.{Rest, after_entries, after_entry, ending_text, entries_text, entry_text}
 use Rattle.flat_report.specs.Sections.{AllFit, Fits, end_of, is_written, rest_of, section_text, sections_text, whole_text, written_text}
 
 -- what is left after two lists of entries is what the second leaves of what the first left
@@ -44,18 +44,6 @@ module _ (script : Script) (lost : List Lost) where
   texts-append rest (x ∷ xs) ys = ap (λ t. entry_text script lost rest x ++ t) (texts-append (after_entry rest x) xs ys)
       ∙ sym (append_assoc (entry_text script lost rest x) (entries_text script lost (after_entry rest x) xs)
       (entries_text script lost (after_entries (after_entry rest x) xs) ys))
-
-  -- what a report says from a place on is the text of the entries left, the probes' lines and the last line
-  pub handed-entries : (probes : List (List ProbeAnswer)) (rest : Rest) (xs : List Entry)
-      → handed_entries script lost probes rest.place rest.finished rest.texts rest.answers rest.posts xs
-      ≡ entries_text script lost rest xs
-      ++ (answers_text script probes ++ text_of (end_line (after_entries rest xs).place (after_entries rest xs).finished ∷ []))
-  handed-entries probes rest [] = refl
-  handed-entries probes rest (x ∷ xs) =
-      let end : Rest = after_entries (after_entry rest x) xs in
-      ap (λ t. entry_text script lost rest x ++ t) (handed-entries probes (after_entry rest x) xs)
-      ∙ sym (append_assoc (entry_text script lost rest x) (entries_text script lost (after_entry rest x) xs)
-      (answers_text script probes ++ text_of (end_line end.place end.finished ∷ [])))
 
 -- ---- loops over entries
 
@@ -87,13 +75,11 @@ put_three old one two three first second third first_is second_is third_is =
 -- behind the title the text of all entries, and what ends the report
 pub whole_is : (script : Script) (probes : List (List ProbeAnswer)) (whole : Section) (body : List ℕ) (end : Cursor) → body ≡ section_text script whole
     → rest_of end ≡ end_of whole
-    → text_of (title_line script.version ∷ []) ++ (body ++ (answers_text script probes ++ text_of (end_line end.place end.finished ∷ [])))
-    ≡ whole_text script probes whole
+    → text_of (title_line script.version ∷ []) ++ (body ++ ending_text script probes (rest_of end)) ≡ whole_text script probes whole
 whole_is script probes whole body end body_is end_is =
     let title : List ℕ = text_of (title_line script.version ∷ []) in
-    let ending : Rest → List ℕ = λ r. answers_text script probes ++ text_of (end_line r.place r.finished ∷ []) in
-    ap (λ t. title ++ (t ++ ending (rest_of end))) body_is ∙ ap (λ r. title ++ (section_text script whole ++ ending r)) end_is
-    ∙ ap (λ t. title ++ t) (sym (handed-entries script whole.lost.now probes (rest_of whole.start) whole.entries.now))
+    ap (λ t. title ++ (t ++ ending_text script probes (rest_of end))) body_is
+    ∙ ap (λ r. title ++ (section_text script whole ++ ending_text script probes r)) end_is
 
 -- ---- sections that are written apart
 

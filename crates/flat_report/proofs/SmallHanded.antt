@@ -13,7 +13,7 @@ use Rattle.flat_report.specs.declared.probes.ProbeAnswer.{ProbeAnswer}
 use Rattle.flat_report.specs.declared.report.HitAnswer.{HitAnswer}
 use Rattle.flat_page.specs.Words.{text_of}
 use Rattle.flat_lines.specs.EntryLines.{entry_line}
-use Rattle.flat_report.specs.Handed.{Rest, after_entries, answers_text, entries_text, first_hits, first_posts, handed_text, handed_entries}
+use Rattle.flat_report.specs.Handed.{Rest, after_entries, answers_text, entries_text, first_hits, first_posts, handed_text, rest_text}
 use Rattle.flat_lines.specs.Ends.{end_line}
 
 module _ (s : SessionNo) (event : Event) where
@@ -32,17 +32,17 @@ module _ (s : SessionNo) (event : Event) where
       abbrev poll : Entry
       poll = record { line = 6; actor = actor; calls = []; kind = Poll; reply = reply }
 
-      -- a done has the text of a frame and its two posts, and a poll after it has what is left; behind it stand the answers to probes
-      in-turn : handed_entries script lost probes 0 0 (text ∷ []) answers (post 0 ∷ post 0 ∷ post 1 ∷ []) (done ∷ poll ∷ [])
-          ≡ handed_text script lost 0 (text ∷ []) answers (post 0 ∷ post 0 ∷ []) done
-          ++ (handed_text script lost 1 [] answers (post 1 ∷ []) poll ++ (answers_text script probes ++ text_of (end_line 2 1 ∷ [])))
-      in-turn = refl
-
       abbrev start : Rest
       start = record { place = 0; finished = 0; texts = text ∷ []; answers = answers; posts = post 0 ∷ post 0 ∷ post 1 ∷ [] }
 
       abbrev middle : Rest
       middle = record { place = 1; finished = 1; texts = []; answers = answers; posts = post 1 ∷ [] }
+
+      -- a done has the text of a frame and its two posts, and a poll after it has what is left; behind it stand the answers to probes
+      in-turn : rest_text script lost probes start (done ∷ poll ∷ [])
+          ≡ (handed_text script lost 0 (text ∷ []) answers (post 0 ∷ post 0 ∷ []) done ++ (handed_text script lost 1 [] answers (post 1 ∷ []) poll ++ []))
+          ++ (answers_text script probes ++ text_of (end_line 2 1 ∷ []))
+      in-turn = refl
 
       -- the same two entries alone
       alone : entries_text script lost start (done ∷ poll ∷ [])

@@ -15,7 +15,8 @@ use Rattle.flat_places.specs.declared.script.Script.{Script}
 use Rattle.flat_report.specs.declared.probes.ProbeAnswer.{ProbeAnswer}
 use Rattle.flat_report.specs.declared.report.HitAnswer.{HitAnswer}
 use Rattle.flat_report.specs.FrameTexts.{frame_text}
-use Rattle.flat_report.specs.Handed.{answers_of, answers_text, texts_after, answers_after, first_posts, handed_text, handed_entries}
+use Rattle.flat_report.specs.Handed.{answers_of, answers_text, entries_text, ending_text, after_entries, after_entry, entry_text, first_posts, handed_text}
+use Rattle.flat_report.specs.Handed.{rest_text, Rest}
 use Rattle.flat_lines.specs.Ends.{end_line, title_line}
 use Rattle.flat_report.specs.Laws.{HandedIsReport}
 use Rattle.flat_report.specs.Probes.{frames_seen}
@@ -47,15 +48,25 @@ finished_more before entry = finished_one (is_finish entry.kind) (legal.frames b
     ∙ counted (is_finish entry.kind) (filter (λ one. is_finish one.kind) before) entry
 
 module _ (script : Script) (lost : List Lost) (probes : List (List ProbeAnswer)) where
-  same_entries : (later : List Entry) {place place' count count' : ℕ} {ts ts' : List (List ℕ)} {hs hs' : List HitAnswer} {ps ps' : List Post} → place ≡ place'
+  -- what is left before an entry, where these are the places, frames, texts, answers and posts left
+  abbrev left : ℕ → ℕ → List (List ℕ) → List HitAnswer → List Post → Rest
+  left place count ts hs ps = record { place = place; finished = count; texts = ts; answers = hs; posts = ps }
+
+  same_rest : (later : List Entry) {place place' count count' : ℕ} {ts ts' : List (List ℕ)} {hs hs' : List HitAnswer} {ps ps' : List Post} → place ≡ place'
       → count ≡ count' → ts ≡ ts' → hs ≡ hs' → ps ≡ ps'
-      → handed_entries script lost probes place count ts hs ps later ≡ handed_entries script lost probes place' count' ts' hs' ps' later
-  same_entries later a b c d e = λ i. handed_entries script lost probes (a i) (b i) (c i) (d i) (e i) later
+      → rest_text script lost probes (left place count ts hs ps) later ≡ rest_text script lost probes (left place' count' ts' hs' ps') later
+  same_rest later a b c d e = λ i. rest_text script lost probes (left (a i) (b i) (c i) (d i) (e i)) later
+
+  -- the text of an entry and of later ones
+  one_and_later : (rest : Rest) (entry : Entry) (later : List Entry)
+      → rest_text script lost probes rest (entry ∷ later) ≡ entry_text script lost rest entry ++ rest_text script lost probes (after_entry rest entry) later
+  one_and_later rest entry later = append_assoc (entry_text script lost rest entry) (entries_text script lost (after_entry rest entry) later)
+      (ending_text script probes (after_entries (after_entry rest entry) later))
 
   -- the text of later entries by what they add is that of their lines, the probes' lines and the last line
   handed_tail : (before later : List Entry)
-      → handed_entries script lost probes (length before) (legal.frames before) (map (frame_text script) (tail (frame_step script.setup) before later))
-      (tail (answer_step script.setup) before later) (tail (post_step script.setup) before later) later
+      → rest_text script lost probes (left (length before) (legal.frames before) (map (frame_text script) (tail (frame_step script.setup) before later))
+      (tail (answer_step script.setup) before later) (tail (post_step script.setup) before later)) later
       ≡ text_of (tail (entry_lines script lost) before later)
       ++ (answers_text script probes ++ text_of (end_line (length (onto before later)) (legal.frames (onto before later)) ∷ []))
   handed_tail before [] = refl
@@ -65,20 +76,19 @@ module _ (script : Script) (lost : List Lost) (probes : List (List ProbeAnswer))
       let ps : List Post = tail (post_step script.setup) before (entry ∷ later) in
       let many : ℕ = first_posts (length before) ps in
       let split = split_posts script.setup before entry later ps many refl refl in
-      let rest : List (List Word) = tail (entry_lines script lost) (before ▹ entry) later in
+      let lines : List (List Word) = tail (entry_lines script lost) (before ▹ entry) later in
       let end : List ℕ = answers_text script probes ++ text_of
       (end_line (length (onto (before ▹ entry) later)) (legal.frames (onto (before ▹ entry) later)) ∷ []) in
-      ap (λ qs. handed_text script lost (legal.frames before) ts hs qs entry
-      ++ handed_entries script lost probes (length before + 1) (legal.frames before + cond (is_finish entry.kind) 1 0) (texts_after entry.kind ts)
-      (answers_after entry.kind hs) (drop many ps) later) split.0
-      ∙ ap (λ t. t ++ handed_entries script lost probes (length before + 1) (legal.frames before + cond (is_finish entry.kind) 1 0) (texts_after entry.kind ts)
-      (answers_after entry.kind hs) (drop many ps) later)
+      let behind : List ℕ = rest_text script lost probes (after_entry (left (length before) (legal.frames before) ts hs ps) entry) later in
+      one_and_later (left (length before) (legal.frames before) ts hs ps) entry later
+      ∙ ap (λ qs. handed_text script lost (legal.frames before) ts hs qs entry ++ behind) split.0
+      ∙ ap (λ t. t ++ behind)
       (next_text script lost before entry (tail (frame_step script.setup) (before ▹ entry) later) (tail (answer_step script.setup) (before ▹ entry) later))
       ∙ ap (λ t. text_of (entry_lines script lost before entry) ++ t)
-      (same_entries later (add-one (length before)) (finished_more before entry) (later_texts script before entry later)
+      (same_rest later (add-one (length before)) (finished_more before entry) (later_texts script before entry later)
       (later_answers script.setup before entry later) split.1 ∙ handed_tail (before ▹ entry) later)
-      ∙ sym (append_assoc (text_of (entry_lines script lost before entry)) (text_of rest) end)
-      ∙ ap (λ t. t ++ end) (sym (text-append (entry_lines script lost before entry) rest))
+      ∙ sym (append_assoc (text_of (entry_lines script lost before entry)) (text_of lines) end)
+      ∙ ap (λ t. t ++ end) (sym (text-append (entry_lines script lost before entry) lines))
 
 pub handed-is-report : HandedIsReport
 handed-is-report script all ps ts lost hs probes answered ask ps_are ts_are hs_are =
@@ -97,7 +107,7 @@ handed-is-report script all ps ts lost hs probes answered ask ps_are ts_are hs_a
     let seen : List (List Word) = map (seen_line script history) (zip (probe_lines script) (frames_seen probes)) in
     let title : List (List Word) = title_line script.version ∷ [] in
     let body : List (List Word) = history_lines script lost history in
-    ap (λ t. text_of title ++ t) (same_entries script lost probes all refl refl ts_tail hs_tail ps_tail ∙ handed_tail script lost probes [] all)
+    ap (λ t. text_of title ++ t) (same_rest script lost probes all refl refl ts_tail hs_tail ps_tail ∙ handed_tail script lost probes [] all)
     ∙ ap (λ ls. text_of title ++ (text_of ls ++ (answers_text script probes ++ text_of (end (onto [] all))))) lines
     ∙ ap (λ h. text_of title ++ (text_of body ++ (answers_text script probes ++ text_of (end h)))) (sym is)
     ∙ ap (λ t. text_of title ++ (text_of body ++ (t ++ text_of (end history)))) (sym (probes-text script history probes answered ask))

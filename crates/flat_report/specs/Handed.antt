@@ -90,28 +90,9 @@ answer_line script answer = actor_name script answer.actor ∷ number answer.lin
 abbrev pub answers_text : Script → List (List ProbeAnswer) → List ℕ
 answers_text script probes = flat_map (λ one. text_of (map (answer_line script) one)) probes
 
--- the text of the entries from a place on, by what is left there of what is handed in: each entry takes its own posts
--- from the front, a `done` the text of a frame, and a point an answer; behind them the probes' answers, and the last
--- line
-abbrev pub handed_entries : Script → List Lost → List (List ProbeAnswer) → ℕ → ℕ → List (List ℕ) → List HitAnswer
-    → List Post → List Entry → List ℕ
-handed_entries script lost probes place finished texts answers posts [] =
-    answers_text script probes ++ text_of (end_line place finished ∷ [])
-handed_entries script lost probes place finished texts answers posts (entry ∷ later) =
-    handed_text script lost finished texts answers (take (first_posts place posts) posts) entry
-    ++ handed_entries script lost probes (place + 1) (finished + cond (is_finish entry.kind) 1 0)
-    (texts_after entry.kind texts) (answers_after entry.kind answers) (drop (first_posts place posts) posts) later
-
--- the text of all that is handed in: the entries, the oldest first, their posts, the texts of frames, the displays
--- that were lost, the answers to points, and those to the probes
-abbrev pub handed_report : Script → List Entry → List Post → List (List ℕ) → List Lost → List HitAnswer
-    → List (List ProbeAnswer) → List ℕ
-handed_report script entries posts texts lost answers probes =
-    text_of (title_line script.version ∷ []) ++ handed_entries script lost probes 0 0 texts answers posts entries
-
--- ---- the text of some entries alone
-
--- what is left before an entry: its place, how many frames were finished before it, and what is handed in from it on
+-- what is left before an entry: its place, how many frames were finished before it, and what is handed in from it on:
+-- the texts of frames, of which a `done` takes one, the answers, of which a point takes one, and the posts, from whose
+-- front each entry takes its own
 pub record Rest : Type 0 where
   pub place : ℕ
   pub finished : ℕ
@@ -144,3 +125,23 @@ abbrev pub entries_text : Script → List Lost → Rest → List Entry → List 
 entries_text script lost rest [] = []
 entries_text script lost rest (entry ∷ later) =
     entry_text script lost rest entry ++ entries_text script lost (after_entry rest entry) later
+
+-- what ends a report: the probes' answers, and the last line
+abbrev pub ending_text : Script → List (List ProbeAnswer) → Rest → List ℕ
+ending_text script probes rest = answers_text script probes ++ text_of (end_line rest.place rest.finished ∷ [])
+
+-- the text of all entries that are left, and what ends the report
+abbrev pub rest_text : Script → List Lost → List (List ProbeAnswer) → Rest → List Entry → List ℕ
+rest_text script lost probes rest entries =
+    entries_text script lost rest entries ++ ending_text script probes (after_entries rest entries)
+
+-- what is left before the first entry: all that is handed in
+abbrev pub all_left : List (List ℕ) → List HitAnswer → List Post → Rest
+all_left texts answers posts = record { place = 0; finished = 0; texts = texts; answers = answers; posts = posts }
+
+-- the text of all that is handed in: the entries, the oldest first, their posts, the texts of frames, the displays
+-- that were lost, the answers to points, and those to the probes
+abbrev pub handed_report : Script → List Entry → List Post → List (List ℕ) → List Lost → List HitAnswer
+    → List (List ProbeAnswer) → List ℕ
+handed_report script entries posts texts lost answers probes =
+    text_of (title_line script.version ∷ []) ++ rest_text script lost probes (all_left texts answers posts) entries

@@ -7,11 +7,11 @@ use Rattle.flat_base.specs.declared.errors.NoMemory.{NoMemory}
 use Rattle.flat_scene.specs.declared.journal.Entry.{Entry}
 use Rattle.flat_page.specs.Words.{text_of}
 use Rattle.flat_places.specs.declared.script.Script.{Script}
-use Rattle.flat_lines.specs.Ends.{end_line, title_line}
+use Rattle.flat_lines.specs.Ends.{title_line}
 use Rattle.flat_report.specs.declared.cursor.Cursor.{Cursor}
 use Rattle.flat_report.specs.declared.probes.ProbeAnswer.{ProbeAnswer}
 use Rattle.flat_report.specs.declared.sections.Section.{Section}
-use Rattle.flat_report.specs.Handed.{Rest, after_entries, answers_text, entries_text, handed_entries}
+use Rattle.flat_report.specs.Handed.{Rest, after_entries, ending_text, entries_text, rest_text}
 
 -- what is left where a report stands
 abbrev pub rest_of : Cursor → Rest
@@ -48,8 +48,7 @@ sections_text script sections = flat_map (section_text script) sections
 -- the report whose entries are those of one section, with what probes were answered
 abbrev pub whole_text : Script → List (List ProbeAnswer) → Section → List ℕ
 whole_text script probes whole = text_of (title_line script.version ∷ [])
-    ++ handed_entries script whole.lost.now probes whole.start.place whole.start.finished whole.start.texts.now
-    whole.start.answers.now whole.start.posts.now whole.entries.now
+    ++ rest_text script whole.lost.now probes (rest_of whole.start) whole.entries.now
 
 -- what was written of a section, where memory was there for it
 abbrev pub is_written : Result (List ℕ) NoMemory → Bool
@@ -62,5 +61,5 @@ written_text (Err e) = []
 
 -- a report of which all sections were written, behind which it stands here
 abbrev pub joined_text : Script → List (List ProbeAnswer) → List (Result (List ℕ) NoMemory) → Cursor → List ℕ
-joined_text script probes texts end = text_of (title_line script.version ∷ []) ++ (concat (map written_text texts)
-    ++ (answers_text script probes ++ text_of (end_line end.place end.finished ∷ [])))
+joined_text script probes texts end = text_of (title_line script.version ∷ [])
+    ++ (concat (map written_text texts) ++ ending_text script probes (rest_of end))

@@ -17,8 +17,8 @@ ghost use Rattle.flat_scene.specs.Setups.{is_declared};
 ghost use Rattle.flat_scene.specs.Heads.{is_setup};
 ghost use Rattle.flat_rules.specs.Owned.{is_played_line};
 ghost use Rattle.flat_session.specs.Made.{kind_of, takes_memory};
-ghost use Rattle.flat_session.specs.Reads.{HasDraft, IsNew, Stands, IsReady, Tells, Enters, Reads, kept_calls, with_line};
-ghost use Rattle.flat_session.specs.Reads.{viewport_call, CanMake, Edits, IsMade};
+ghost use Rattle.flat_session.specs.Reads.{HasDraft, IsNew, Stands, IsReady, Tells, Enters, Reads};
+ghost use Rattle.flat_session.specs.Reads.{kept_calls, viewport_call, with_line, CanMake, Edits, IsMade};
 
 use crate::judging::{asked, called, presented};
 use crate::made::Made;
