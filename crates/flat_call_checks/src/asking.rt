@@ -1,7 +1,6 @@
 use crate::call::{Called, call};
 use crate::faults::NONE;
-use crate::flags::Flag;
-use crate::order::InOrder;
+use crate::flags::{Count, Flag, TURNS_OF_AN_ASK};
 use crate::texts::PROBED;
 use flat_base::NoMemory;
 use flat_display::Display;
@@ -10,6 +9,7 @@ use flat_race::Gate;
 use flat_scene::{FrameOut, Reply};
 use std::alloc::Global;
 use std::sync::{Arc, Wait};
+use std::thread;
 use std::thread::Threads;
 
 /// The number of the probe of `PROBED` as an actor.
@@ -22,9 +22,19 @@ const ORDER: [(u32, u32); 7] = [(1, 7), (1, 13), (0, 14), (0, 15), (0, 17), (0, 
 /// first frame.
 #[derive(Drop)]
 struct Asking {
-    turns: InOrder,
+    next: Count,
     shows: Flag,
     answered: Flag,
+}
+
+impl Asking {
+    /// Whether an entry is the next one, or stands behind all that have an order.
+    fn is_next(&self, actor: u32, line: u32) -> bool {
+        match ORDER.get(self.next.number() as usize) {
+            Some(entry) => *entry == (actor, line),
+            None => true,
+        }
+    }
 }
 
 impl Gate for Asking {
@@ -32,14 +42,20 @@ impl Gate for Asking {
         if actor == PROBE {
             return self.shows.is_set_soon();
         }
-        self.turns.open(actor, line)
+        for _ in 0..TURNS_OF_AN_ASK {
+            if self.is_next(actor, line) {
+                return true;
+            }
+            thread::yield_now();
+        }
+        false
     }
 
-    fn passed(&self, actor: u32, line: u32, reply: &Reply) {
+    fn passed(&self, actor: u32, _line: u32, _reply: &Reply) {
         if actor == PROBE {
             self.answered.set();
         } else {
-            self.turns.passed(actor, line, reply);
+            self.next.add();
         }
     }
 }
@@ -64,7 +80,7 @@ impl Display for Slow {
 /// nothing is published by then.
 pub fn race_asked<T: Threads + Wait + Sync>(rt: &T, alloc: Global) -> Result<Called, NoMemory> {
     let asking = Asking {
-        turns: InOrder::new(&ORDER),
+        next: Count::new(),
         shows: Flag::new(),
         answered: Flag::new(),
     };
