@@ -1,6 +1,7 @@
 use crate::call::{Called, call};
 use crate::faults::NONE;
-use crate::flags::{Count, Flag, TURNS_OF_AN_ASK};
+use crate::flags::{Count, Flag, answered};
+use crate::order::is_at;
 use crate::texts::PROBED;
 use flat_base::NoMemory;
 use flat_display::Display;
@@ -9,7 +10,6 @@ use flat_race::Gate;
 use flat_scene::{FrameOut, Reply};
 use std::alloc::Global;
 use std::sync::{Arc, Wait};
-use std::thread;
 use std::thread::Threads;
 
 /// The number of the probe of `PROBED` as an actor.
@@ -27,28 +27,12 @@ struct Asking {
     answered: Flag,
 }
 
-impl Asking {
-    /// Whether an entry is the next one, or stands behind all that have an order.
-    fn is_next(&self, actor: u32, line: u32) -> bool {
-        match ORDER.get(self.next.number() as usize) {
-            Some(entry) => *entry == (actor, line),
-            None => true,
-        }
-    }
-}
-
 impl Gate for Asking {
     fn open(&self, actor: u32, line: u32) -> bool {
         if actor == PROBE {
-            return self.shows.is_set_soon();
+            return answered(self.shows.is_set());
         }
-        for _ in 0..TURNS_OF_AN_ASK {
-            if self.is_next(actor, line) {
-                return true;
-            }
-            thread::yield_now();
-        }
-        false
+        answered(is_at(&ORDER, self.next.number(), actor, line))
     }
 
     fn passed(&self, actor: u32, _line: u32, _reply: &Reply) {

@@ -4,10 +4,21 @@ use std::thread;
 /// How often a thread turns while it waits for another one.
 const TURNS: u32 = 100_000_000;
 
-/// How often it turns while a gate is asked once. A race asks a gate a million times for a
-/// line and then goes on, so that on a busy machine a gate that answered at once would let
-/// a line in out of its turn.
-pub(crate) const TURNS_OF_AN_ASK: u32 = 100;
+/// How often a thread turns before a gate that is shut answers it.
+const TURNS_OF_AN_ASK: u32 = 100;
+
+/// What a gate answers that is open or shut, which takes a while if it is shut. A race asks a
+/// gate a million times for a line and then goes on. If each answer came at once, a thread that
+/// stands still for a fraction of a second would find others let in out of their turn.
+pub(crate) fn answered(is_open: bool) -> bool {
+    if is_open {
+        return true;
+    }
+    for _ in 0..TURNS_OF_AN_ASK {
+        thread::yield_now();
+    }
+    false
+}
 
 /// A flag that threads share, not set at first.
 #[derive(Drop)]
@@ -29,19 +40,9 @@ impl Flag {
         self.0.load(Ordering::SeqCst)
     }
 
-    /// Waits until it is set, for as long as a test may take. Whether it is.
-    pub(crate) fn is_set_in_time(&self) -> bool {
-        self.is_set_within(TURNS)
-    }
-
-    /// Waits for a short while until it is set, as a gate may that is asked. Whether it is.
-    pub(crate) fn is_set_soon(&self) -> bool {
-        self.is_set_within(TURNS_OF_AN_ASK)
-    }
-
     /// Waits until it is set, for so many turns at most. Whether it is.
-    fn is_set_within(&self, turns: u32) -> bool {
-        for _ in 0..turns {
+    pub(crate) fn is_set_in_time(&self) -> bool {
+        for _ in 0..TURNS {
             if self.is_set() {
                 return true;
             }

@@ -1,7 +1,6 @@
-use crate::flags::{Count, Flag, TURNS_OF_AN_ASK};
+use crate::flags::{Count, Flag, answered};
 use flat_race::Gate;
 use flat_scene::Reply;
-use std::thread;
 
 /// Opens entries in one order, and looks whether it is told of each with its reply.
 #[derive(Drop)]
@@ -30,25 +29,15 @@ impl Hearing {
     pub fn was_mistold(&self) -> bool {
         self.is_mistold.is_set()
     }
-
-    /// Whether it is to be told of an entry next, or of nothing more.
-    fn is_next(&self, actor: u32, line: u32) -> bool {
-        match self.told.get(self.next.number() as usize) {
-            Some((who, number, _)) => *who == actor && *number == line,
-            None => true,
-        }
-    }
 }
 
 impl Gate for Hearing {
     fn open(&self, actor: u32, line: u32) -> bool {
-        for _ in 0..TURNS_OF_AN_ASK {
-            if self.is_next(actor, line) {
-                return true;
-            }
-            thread::yield_now();
-        }
-        false
+        let is_next = match self.told.get(self.next.number() as usize) {
+            Some((who, number, _)) => *who == actor && *number == line,
+            None => true,
+        };
+        answered(is_next)
     }
 
     fn passed(&self, actor: u32, line: u32, reply: &Reply) {
@@ -92,12 +81,12 @@ impl HearsBegin {
 
 impl Gate for HearsBegin {
     fn open(&self, _actor: u32, line: u32) -> bool {
-        match line {
-            13 => self.first_presented.is_set_soon(),
-            15 => self.begun.is_set_soon(),
-            16 => self.done.is_set_soon(),
+        answered(match line {
+            13 => self.first_presented.is_set(),
+            15 => self.begun.is_set(),
+            16 => self.done.is_set(),
             _ => true,
-        }
+        })
     }
 
     fn passed(&self, _actor: u32, line: u32, _reply: &Reply) {

@@ -1,6 +1,6 @@
 use crate::call::{Called, call};
 use crate::faults::NONE;
-use crate::flags::Flag;
+use crate::flags::{Flag, answered};
 use crate::texts::FILL;
 use flat_base::NoMemory;
 use flat_display::Display;
@@ -56,8 +56,8 @@ impl Holding {
 
 impl Gate for Holding {
     fn open(&self, _actor: u32, line: u32) -> bool {
-        match line {
-            13 => self.first_presented.is_set_soon(),
+        answered(match line {
+            13 => self.first_presented.is_set(),
             // A done asks before its frame is shown.
             14 => {
                 if self.shows.is_set() {
@@ -65,10 +65,10 @@ impl Gate for Holding {
                 }
                 true
             }
-            15 => self.shows.is_set_soon(),
-            16 => self.done.is_set_soon(),
+            15 => self.shows.is_set(),
+            16 => self.done.is_set(),
             _ => true,
-        }
+        })
     }
 
     fn passed(&self, _actor: u32, line: u32, reply: &Reply) {

@@ -1,4 +1,4 @@
-use crate::flags::Flag;
+use crate::flags::{Flag, answered};
 use flat_race::Gate;
 use flat_scene::Reply;
 
@@ -42,18 +42,18 @@ impl Meeting {
 
 impl Gate for Meeting {
     fn open(&self, actor: u32, line: u32) -> bool {
-        match (actor, line) {
+        answered(match (actor, line) {
             (1, 8) => {
                 self.meet(&self.first, &self.second);
-                self.second_passed.is_set_soon()
+                self.second_passed.is_set()
             }
             (2, 9) => {
                 self.meet(&self.second, &self.first);
                 true
             }
-            (1, _) => self.first_passed.is_set_soon(),
-            _ => self.first_ended.is_set_soon(),
-        }
+            (1, _) => self.first_passed.is_set(),
+            _ => self.first_ended.is_set(),
+        })
     }
 
     fn passed(&self, actor: u32, line: u32, _reply: &Reply) {

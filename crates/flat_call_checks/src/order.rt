@@ -1,7 +1,15 @@
-use crate::flags::{Count, TURNS_OF_AN_ASK};
+use crate::flags::{Count, answered};
 use flat_race::Gate;
 use flat_scene::Reply;
-use std::thread;
+
+/// Whether the entry or line of an actor stands at a place of an order, or all that have an
+/// order stand before it.
+pub(crate) fn is_at(order: &[(u32, u32)], place: u32, actor: u32, line: u32) -> bool {
+    match order.get(place as usize) {
+        Some(entry) => *entry == (actor, line),
+        None => true,
+    }
+}
 
 /// Opens entries and probes' lines in one order, given by the numbers of actor and line.
 #[derive(Drop)]
@@ -18,25 +26,11 @@ impl InOrder {
             next: Count::new(),
         }
     }
-
-    /// Whether an entry or line is the next one, or stands behind all that have an order.
-    fn is_next(&self, actor: u32, line: u32) -> bool {
-        match self.order.get(self.next.number() as usize) {
-            Some(entry) => *entry == (actor, line),
-            None => true,
-        }
-    }
 }
 
 impl Gate for InOrder {
     fn open(&self, actor: u32, line: u32) -> bool {
-        for _ in 0..TURNS_OF_AN_ASK {
-            if self.is_next(actor, line) {
-                return true;
-            }
-            thread::yield_now();
-        }
-        false
+        answered(is_at(self.order, self.next.number(), actor, line))
     }
 
     fn passed(&self, _actor: u32, _line: u32, _reply: &Reply) {
