@@ -12,7 +12,7 @@ pub mod PollSteps
 pub mod Polled
 pub mod PresentSteps
 pub mod Presented
-pub mod ShownFirst
+pub mod Starting
 pub mod TiesCalls
 pub mod TiesRun
 pub mod UseSteps

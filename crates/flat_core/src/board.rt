@@ -24,7 +24,7 @@ mod presents;
 mod views;
 mod waits;
 
-use flat_base::{FrameNo, NoMemory, ShareList};
+use flat_base::{NoMemory, ShareList};
 use flat_fence::FenceSet;
 use flat_gets::watching::Watchers;
 use flat_links::entries::new_ends;
@@ -42,17 +42,7 @@ use flat_states::state::{SessionState, new_states};
 use std::alloc::Global;
 use std::marker::Model;
 use std::sync::Arc;
-
-/// A frame that began.
-#[derive(Clone, Copy)]
-pub struct Begun {
-    /// Its number.
-    pub frame: FrameNo,
-    /// The display's pixel ratio in it.
-    pub ratio: u32,
-    /// The sessions from which it took a present, or which closed.
-    pub changed: SessionSet,
-}
+pub use waits::asked_of;
 
 /// The machine and its journal. Each call below that answers a reply makes one
 /// entry; so do `begin` and `done`. What it answers and what it posts is decided by
@@ -135,9 +125,8 @@ impl Board {
         })
     }
 
-    /// The sessions that are open and have a view whose end isn't lost. It takes no
-    /// memory.
-    pub fn with_view(&self) -> SessionSet
+    /// The sessions that are open and have a view whose end isn't lost.
+    pub(crate) fn with_view(&self) -> SessionSet
         ensures members { (s : SessionNo) → is_declared self.now.setup s ≡ true →
             is_member result s.0 ≡ has_view self.now.setup self.now.history s }
         ensures others { (s : ℕ) → self.now.setup.sessions < s → is_member result s ≡ false }

@@ -5,6 +5,7 @@
 //! the board and what it tells; what makes entries stands in board/, by what is entered,
 //! and ends in entries.rt, which notes and logs;
 //! begins.rt and dones.rt go through all sessions at a frame, polls.rt through the events.
+//! What a frame starts with is a `FrameStart` (start.rt, specs/Starts).
 #![tactic(auto)]
 
 mod begins;
@@ -12,7 +13,9 @@ mod board;
 mod dones;
 mod entries;
 mod polls;
+mod start;
 
-pub use board::{Begun, Board};
+pub use board::{Board, asked_of};
 pub use flat_facts::shown_states_fit;
 pub use polls::EventList;
+pub use start::FrameStart;

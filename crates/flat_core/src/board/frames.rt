@@ -1,25 +1,23 @@
 //! The entries of the display: its pixel ratio is set, a frame begins, ends, or a point is
 //! asked of it.
-ghost use Rattle.std.specs.Prelude.{◌≡◌, ◌+◌, Some, true, false, not, ◌&&◌, List, [], ◌∷◌};
-ghost use Rattle.std.specs.Prelude.{◌++◌, slice_get};
-ghost use Rattle.std.specs.List.{list_any};
-ghost use Rattle.flat_base.specs.declared.ids.SessionNo.{SessionNo};
-ghost use Rattle.flat_scene.specs.Frames.{going, is_ready, is_signalled, is_unsquashable, ratio};
-ghost use Rattle.flat_scene.specs.Frames.{waiting};
-ghost use Rattle.flat_scene.specs.History.{is_closed, Published};
-ghost use Rattle.flat_topology.specs.Changes.{AreSame};
+ghost use Rattle.std.specs.Prelude.{◌≡◌, ◌+◌, true, []};
+ghost use Rattle.flat_scene.specs.Frames.{ratio};
+ghost use Rattle.flat_scene.specs.Interleave.{entry_of_display};
 ghost use Rattle.flat_states.specs.Machines.{MayCall, entered};
 ghost use Rattle.flat_rules.specs.Ends.{to_begin};
-ghost use Rattle.flat_rules.specs.Legal.{frames};
-ghost use Rattle.flat_rules.specs.Shown.{shown, shown_states, tree_of};
+ghost use Rattle.flat_rules.specs.Legal.{frames, reply_to};
+ghost use Rattle.flat_rules.specs.Shown.{shown_states};
+ghost use Rattle.flat_core.specs.Changes.{NotesChanges};
+ghost use Rattle.flat_core.specs.Starts.{is_beside, IsStart, StartsFrame, TakesReady};
 
 use crate::begins::begin_all;
-use crate::board::{Begun, Board};
+use crate::board::Board;
 use crate::dones::done_all;
 use crate::entries::enter;
+use crate::start::FrameStart;
 use flat_base::{Actor, FrameNo};
 use flat_gets::telling::Telling;
-use flat_scene::{CallList, Entry, Kind, Reply, SessionSet};
+use flat_scene::{CallList, DisplayLine, Entry, Kind, Reply, SessionSet};
 use flat_states::clock::Clock;
 use flat_states::port::port_of;
 use flat_topology::Shown;
@@ -29,31 +27,40 @@ impl Board {
     ghost use Rattle.flat_scene.specs.declared.journal.Kind.TheVariants.{Begin, Dpr, Finish, Hit};
     ghost use Rattle.flat_scene.specs.declared.journal.Reply.TheVariants.{Done};
 
-    /// Begins a frame. The states shown are made those of this frame: what was taken
-    /// last of each open session, and nothing of a closed one. Of an open session the
-    /// first present that still waits wasn't ready, or follows an unsquashable one that
-    /// was taken; and an unsquashable one that was taken is the last, and is shown.
-    /// Answers the frame's number, its pixel ratio, which is the one set last, and the
-    /// sessions of which another state may be shown than before. It takes no memory.
-    pub fn begin(&mut self, line: u32, time: u64, into: &mut Shown) -> Begun
+    /// Begins a frame, of which `start` then says what it shows. Each open session shows what
+    /// was taken last of it, a closed one nothing. Answers the frame's number. It takes no memory.
+    pub fn begin(&mut self, line: u32, time: u64, start: &mut FrameStart) -> FrameNo
+        requires may { MayCall self.old Display [] (Begin time) }
+        requires start { IsStart self.old.setup self.old.history start.old }
+        ensures entry { self.new ≡ entered self.old Display line [] (Begin time) Done }
+        ensures frame { result.0 ≡ frames self.new.history + 1 }
+        ensures starts { StartsFrame self.new.setup self.new.history start.old start.new }
+        ensures takes { TakesReady self.old self.new.history time }
+    {
+        let mut changed = SessionSet { has: [false; 16] };
+        let frame = self.enter_begin(line, time, &mut start.shown, &mut changed);
+        start.changed = changed;
+        start.with_view = self.with_view();
+        start.ratio = self.begun_ratio();
+        frame
+    }
+
+    /// Makes the entry of a begin, and shows the states of its frame.
+    fn enter_begin(
+        &mut self,
+        line: u32,
+        time: u64,
+        into: &mut Shown,
+        changed: &mut SessionSet,
+    ) -> FrameNo
         requires may { MayCall self.old Display [] (Begin time) }
         requires shown { into.old ≡ shown_states self.old.setup (to_begin self.old.history) }
         ensures entry { self.new ≡ entered self.old Display line [] (Begin time) Done }
-        ensures frame { result.frame.0 ≡ frames self.new.history + 1 }
-        ensures ratio { result.ratio ≡ ratio self.new.setup self.new.history }
+        ensures frame { result.0 ≡ frames self.new.history + 1 }
         ensures shown { into.new ≡ shown_states self.new.setup self.new.history }
-        ensures changed { AreSame result.changed into.old into.new }
-        ensures next { (s : SessionNo) (present : Published) → is_closed s self.old.history
-            ≡ false → slice_get (waiting self.new.setup self.new.history s) 0 ≡ Some present →
-            (not (list_any is_unsquashable (going self.new.setup self.new.history s))
-            && is_ready time (is_signalled self.old.setup self.old.history) present.args) ≡ false }
-        ensures unsquashable { (s : SessionNo) (earlier later : List Published)
-            (present : Published) → is_closed s self.old.history ≡ false →
-            going self.new.setup self.new.history s ≡ earlier ++ present ∷ later →
-            is_unsquashable present ≡ true → (later ≡ []) × (shown self.new.setup
-            self.new.history s ≡ tree_of self.new.setup present) }
+        ensures changed { NotesChanges changed.old changed.new into.old into.new }
+        ensures takes { TakesReady self.old self.new.history time }
     {
-        let mut changed = SessionSet { has: [false; 16] };
         let count = begin_all(
             &self.setup,
             line,
@@ -62,7 +69,7 @@ impl Board {
             &mut self.sessions,
             &mut self.log,
             into,
-            &mut changed,
+            changed,
         );
         self.ties.begin(&self.setup, self.sessions.as_slice(), into);
         self.owed -= count;
@@ -87,11 +94,14 @@ impl Board {
                 reply: Reply::Done,
             },
         );
-        Begun {
-            frame: FrameNo(frames + 1),
-            ratio: ratios.begun,
-            changed,
-        }
+        FrameNo(frames + 1)
+    }
+
+    /// The pixel ratio at the last begin.
+    fn begun_ratio(&self) -> u32
+        ensures { result ≡ ratio self.now.setup (to_begin self.now.history) }
+    {
+        self.clock.ratios.begun
     }
 
     /// Ends the open frame, and answers its number. The release fences of what it
@@ -144,6 +154,25 @@ impl Board {
             },
         );
         FrameNo(frames)
+    }
+
+    /// Makes the entry of a line that begins no frame and ends none. A frame that is open stays
+    /// as it began. It takes no memory.
+    pub fn enter_display(&mut self, line: u32, text: DisplayLine) -> Reply
+        requires beside { is_beside text ≡ true }
+        requires may { MayCall self.old Display [] (entry_of_display text) }
+        ensures reply { result ≡ reply_to self.old.setup self.old.history Display []
+            (entry_of_display text) }
+        ensures entry { self.new ≡ entered self.old Display line [] (entry_of_display text) result }
+    {
+        let calls = CallList::new(self.alloc);
+        match text {
+            DisplayLine::Signal(f) => self.signal(Actor::Display, line, calls, f),
+            DisplayLine::Wait(c) => self.wait(Actor::Display, line, calls, c),
+            DisplayLine::Dpr(ratio) => self.dpr(line, ratio),
+            DisplayLine::Hit(x, y) => self.hit(line, x, y),
+            DisplayLine::Begin(_) | DisplayLine::Done => unreachable!(),
+        }
     }
 
     /// Sets the display's pixel ratio, for the frames that begin from now on. It takes

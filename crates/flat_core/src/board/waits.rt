@@ -43,7 +43,7 @@ impl Board {
         ensures entry { self.new ≡ entered self.old who line calls (Wait c) result }
     {
         let value = self.value(who, c);
-        let reply = wait_reply(asked(c), value);
+        let reply = wait_reply(asked_of(c), value);
         enter(
             &mut self.sessions,
             &mut self.viewports,
@@ -85,8 +85,8 @@ impl Board {
     }
 }
 
-/// The number that a condition asks for.
-fn asked(c: Cond) -> u32
+/// The number that a condition asks for: it is met by a value that isn't below it.
+pub fn asked_of(c: Cond) -> u32
     ensures { result ≡ asked_of c }
 {
     match c {

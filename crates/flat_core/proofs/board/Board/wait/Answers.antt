@@ -30,7 +30,7 @@ invariant_of-self c =
     let reply = c.wait_reply-reply.result in
     let replied = c.wait_reply-reply.ensures in
     let value = rw (← c.self.view_is) at c.value-value.ensures in
-    let asked = c.asked.ensures in
+    let asked = c.asked_of.ensures in
     let inside = c.self.inside in
     let m : Machine = record { setup = inside.setup; shares = inside.shares; history = inside.log.history } in
     let states = inside.sessions.items in
@@ -39,10 +39,10 @@ invariant_of-self c =
     let ends = ends-after m c.args.who c.args.line c.args.calls (Wait c.args.c) reply call is refl refl (λ opened. refl) c.self.invariant.0.legal states
     inside.viewports.items c.enter.new.ends.items inside.ties c.enter.new.ties stands did.ends c.self.invariant.2 c.self.invariant.3 in
     let kept = kept-quiet m c.args.who c.args.line c.args.calls (Wait c.args.c) reply call is (plain-wait _ _ _ _ _)
-    (rw replied (closes-waited c.asked.result c.value-value.result)) refl _ _ _ _ _ _ _ _ _ _ refl c.self.invariant.0 c.self.invariant.1
+    (rw replied (closes-waited c.asked_of.result c.value-value.result)) refl _ _ _ _ _ _ _ _ _ _ refl c.self.invariant.0 c.self.invariant.1
     (unchanged _ _ _ _ (λ sessions g f. refl) (λ p. refl))
     (did.sessions ∙ entered-none c.args.who c.args.line c.args.calls (Wait c.args.c) reply states
-    (λ state. ap (λ (r : Reply). after_reply (Wait c.args.c) r state) replied ∙ heard-wait c.args.c c.asked.result c.value-value.result state))
+    (λ state. ap (λ (r : Reply). after_reply (Wait c.args.c) r state) replied ∙ heard-wait c.args.c c.asked_of.result c.value-value.result state))
     (told-too inside.watchers ends.1)
     (record { history = did.history; posts = did.posts; room = did.room; post_room = did.post_room }) in (
       kept.0,

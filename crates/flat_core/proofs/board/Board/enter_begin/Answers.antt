@@ -1,12 +1,7 @@
-use Rattle.std.specs.Prelude.{not, ◌&&◌}
 use Rattle.std.specs.List.{list_any}
 use Rattle.flat_facts.specs.Lives.{is_new_viewport}
-use Rattle.flat_rules.specs.Shown.{shown, tree_of}
 use Rattle.std.proofs.Common.{◌≡◌, List, [], ◌∷◌, ◌++◌, length, true, false, ◌+◌, ◌<◌, ◌^◌, Some, slice_get, refl, sym, ◌∙◌, ap, subst, arith}
 use Rattle.flat_base.specs.declared.ids.SessionNo.{SessionNo}
-use Rattle.flat_scene.specs.History.{is_closed, Published}
-use Rattle.flat_scene.specs.Frames.{is_signalled, is_unsquashable, going, waiting}
-use Rattle.flat_scene.specs.Frames.{is_ready}
 use Rattle.flat_base.specs.declared.ids.Actor.TheVariants.{Display}
 use Rattle.flat_scene.specs.declared.calls.Call.{Call}
 use Rattle.flat_scene.specs.declared.journal.Entry.{Entry}
@@ -28,21 +23,14 @@ use Rattle.flat_gets.proofs.lemmas.EndSteps.{ends-other}
 use Rattle.flat_facts.proofs.lemmas.ShownFits.{begun-fits}
 use Rattle.flat_states.proofs.lemmas.Opened.{few-declared}
 use Rattle.flat_states.proofs.lemmas.Steps.{has-room, legal-entered}
-use Rattle.flat_core.proofs.Changes.{changes-same}
 use Rattle.flat_gets.proofs.lemmas.BoardBegins.{kept-begun, place-small, held-back, unsquashable-shown}
 use Rattle.flat_gets.proofs.lemmas.WatchingSteps.{watched-after}
-use Rattle.flat_scene.specs.Frames.{ratio}
-use Rattle.flat_states.specs.declared.ratios.Ratios.{Ratios}
-use Rattle.flat_core.proofs.DisplayRatios.{ratios-kept}
-use Rattle.flat_core.proofs.board.Board.begin.Goals as goal
+use Rattle.flat_core.specs.Starts.{TakesReady}
+use Rattle.flat_core.proofs.board.Board.enter_begin.Goals as goal
 use Rattle.flat_rules.proofs.lemmas.ShownList.{length-listed}
 
 pub begin_all-count-requires-clause-within : goal.begin_all-count-requires-clause-within
 begin_all-count-requires-clause-within c = (few-declared c.self.inside.setup c.self.invariant.1.limits).0
-
-pub returns-clause-changed : goal.returns-clause-changed
-returns-clause-changed c = changes-same c.begin_all-count.new.changed c.args.into.now c.begin_all-count.new.into
-    (λ k none. (c.begin_all-count.ensures.changes k none).1)
 
 pub begin_all-count-requires-clause-place : goal.begin_all-count-requires-clause-place
 begin_all-count-requires-clause-place c =
@@ -124,8 +112,8 @@ invariant_of-self c =
           c.self.invariant.4),
     )
 
-pub returns-clause-next : goal.returns-clause-next
-returns-clause-next c =
+pub returns-clause-takes : goal.returns-clause-takes
+returns-clause-takes c =
     let inside = c.self.inside in
     let m : Machine = record { setup = inside.setup; shares = inside.shares; history = inside.log.history } in
     let after = c.enter.new.log.history in
@@ -133,32 +121,8 @@ returns-clause-next c =
     c.enter.ensures.history ∙ ap (λ (carries : List Call). c.begin_all-count.new.log.history ▹ entry_of Display c.args.line carries (Begin c.args.time) Done)
     c.new.ensures
     ∙ ap (λ (h : List Entry). begun h c.args.line c.args.time) c.begin_all-count.ensures.history in
-    let P : List Entry → Machine → Type 0 = λ h n. (s : SessionNo) (present : Published) → is_closed s n.history ≡ false
-    → slice_get (waiting inside.setup h s) 0 ≡ Some present
-    → (not (list_any is_unsquashable (going inside.setup h s)) && is_ready c.args.time (is_signalled n.setup n.history) present.args) ≡ false in
-    subst (P after) c.self.view_is (subst (λ (h : List Entry). P h m) (sym new) (held-back inside.setup inside.log.history c.args.line c.args.time))
-
-pub returns-clause-unsquashable : goal.returns-clause-unsquashable
-returns-clause-unsquashable c =
-    let inside = c.self.inside in
-    let m : Machine = record { setup = inside.setup; shares = inside.shares; history = inside.log.history } in
-    let after = c.enter.new.log.history in
-    let new : after ≡ begun inside.log.history c.args.line c.args.time =
-    c.enter.ensures.history ∙ ap (λ (carries : List Call). c.begin_all-count.new.log.history ▹ entry_of Display c.args.line carries (Begin c.args.time) Done)
-    c.new.ensures
-    ∙ ap (λ (h : List Entry). begun h c.args.line c.args.time) c.begin_all-count.ensures.history in
-    let P : List Entry → Machine → Type 0 = λ h n. (s : SessionNo) (earlier later : List Published) (present : Published) → is_closed s n.history ≡ false
-    → going inside.setup h s ≡ earlier ++ present ∷ later → is_unsquashable present ≡ true
-    → (later ≡ []) × (shown inside.setup h s ≡ tree_of inside.setup present) in
-    subst (P after) c.self.view_is (subst (λ (h : List Entry). P h m) (sym new) (unsquashable-shown inside.setup inside.log.history c.args.line c.args.time))
-
-pub returns-clause-ratio : goal.returns-clause-ratio
-returns-clause-ratio c =
-    let inside = c.self.inside in
-    let new : c.enter.new.log.history ≡ begun inside.log.history c.args.line c.args.time =
-    c.enter.ensures.history ∙ ap (λ (carries : List Call). c.begin_all-count.new.log.history ▹ entry_of Display c.args.line carries (Begin c.args.time) Done)
-    c.new.ensures
-    ∙ ap (λ (h : List Entry). begun h c.args.line c.args.time) c.begin_all-count.ensures.history in
-    let noted = c.begin-ratios.ensures inside.setup inside.log.history c.args.line c.args.time
-    (ratios-kept inside.setup inside.log.history _ _ _ _ c.self.invariant.0) in
-    ap (λ (r : Ratios). r.begun) noted ∙ sym (ap (ratio inside.setup) new)
+    let P : List Entry → Machine → Type 0 = λ h n. TakesReady n h c.args.time in
+    subst (P after) c.self.view_is (subst (λ (h : List Entry). P h m) (sym new) (record {
+      next = held-back inside.setup inside.log.history c.args.line c.args.time;
+      unsquashable = unsquashable-shown inside.setup inside.log.history c.args.line c.args.time;
+    }))
