@@ -14,7 +14,7 @@ use crate::film::DISPLAY;
 use crate::gate::{ASKS, Gate, LOOKS, ask};
 use crate::hand::Hand;
 use crate::lent::Lent;
-use crate::session::asked_of;
+use flat_core::asked_of;
 use flat_scene::{Cond, DisplayLine};
 use flat_waits::Waiter;
 use std::sync::Wait;

@@ -21,6 +21,7 @@ ghost use Rattle.flat_actors.specs.Sessions.{makes_entry, HasRun, IsSame, IsStag
 use crate::gate::{ASKS, Gate, LOOKS, ask};
 use crate::lent::Lent;
 use flat_base::{NoMemory, SessionNo, TryCopy};
+use flat_core::asked_of;
 use flat_scene::{Body, Call, Cond, Line};
 use flat_session::Edit;
 use flat_stage::{SessionSeat, new_seats_have_read};
@@ -41,20 +42,6 @@ pub fn both(first: bool, second: bool) -> bool
     ensures { result ≡ (first && second) }
 {
     first && second
-}
-
-/// The number that a condition asks for.
-pub(crate) fn asked_of(c: Cond) -> u32
-    ensures { result ≡ asked_of c }
-{
-    match c {
-        Cond::Frames(n) => n,
-        Cond::Credits(n) => n,
-        Cond::Taken(n) => n,
-        Cond::Answers(n) => n,
-        Cond::Fence(_) => 1,
-        Cond::Presents(_, n) => n,
-    }
 }
 
 /// Whether a line of an open session always makes an entry: all do but calls of its

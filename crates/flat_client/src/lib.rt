@@ -17,4 +17,4 @@ pub use client::Client;
 pub use error::CallError;
 pub use laws::misuses_have_their_reason;
 pub use present::{NO_INSET, Presented, present_at};
-pub use waits::{FIRST_NAP, LONGEST_NAP, asked_of};
+pub use waits::{FIRST_NAP, LONGEST_NAP};

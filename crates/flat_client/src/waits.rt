@@ -1,11 +1,11 @@
 //! A wait: it makes no entry, and looks again and again at a condition.
 ghost use Rattle.std.specs.Prelude.{◌≡◌, true};
-ghost use Rattle.flat_rules.specs.Legal.{asked_of};
 ghost use Rattle.flat_rules.specs.Owned.{is_played_condition};
 ghost use Rattle.flat_client.specs.Clients.{HasLooked, Stays, Waits, setup_for};
 
 use crate::client::Client;
 use crate::error::CallError;
+use flat_core::asked_of;
 use flat_scene::Cond;
 use flat_setup::may_wait;
 use std::sync::Wait;
@@ -65,19 +65,5 @@ impl Client {
         // proof: the session is declared
         let _ = self.seat.session();
         self.seat.look(rt, &self.stage, c)
-    }
-}
-
-/// The number that a condition asks for: 1 of a fence.
-pub fn asked_of(c: Cond) -> u32
-    ensures { result ≡ asked_of c }
-{
-    match c {
-        Cond::Frames(n) => n,
-        Cond::Credits(n) => n,
-        Cond::Taken(n) => n,
-        Cond::Answers(n) => n,
-        Cond::Fence(_) => 1,
-        Cond::Presents(_, n) => n,
     }
 }

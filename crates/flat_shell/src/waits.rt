@@ -7,7 +7,8 @@ ghost use Rattle.flat_shell.specs.Live.{HasLooked, Waits};
 
 use crate::compositor::DisplayCompositor;
 use crate::fault::DisplayFault;
-use flat_client::{FIRST_NAP, LONGEST_NAP, asked_of};
+use flat_client::{FIRST_NAP, LONGEST_NAP};
+use flat_core::asked_of;
 use flat_scene::{Cond, DisplayLine};
 use flat_setup::may_direct;
 use std::sync::Wait;
