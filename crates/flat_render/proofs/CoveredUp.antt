@@ -18,7 +18,7 @@ painted-anew c x px py a b e =
     ap (λ (m : BlendMode). laid m x.opacity (slice_index (paint_colour x x.paint px py) 3) (slice_index (paint_colour x x.paint px py) c) a) e
     ∙ sym (ap (λ (m : BlendMode). laid m x.opacity (slice_index (paint_colour x x.paint px py) 3) (slice_index (paint_colour x x.paint px py) c) b) e)
 
-step-anew : (c : ℕ) (x : DrawItem) (px py a b : ℕ) → x.blend ≡ Src → covers x px py ≡ true → channel_step c x px py a ≡ channel_step c x px py b
+pub step-anew : (c : ℕ) (x : DrawItem) (px py a b : ℕ) → x.blend ≡ Src → covers x px py ≡ true → channel_step c x px py a ≡ channel_step c x px py b
 step-anew c x px py a b e h =
     ap (λ (t : Bool). if t then channel_painted c x px py a else a) h ∙ painted-anew c x px py a b e
     ∙ sym (ap (λ (t : Bool). if t then channel_painted c x px py b else b) h)

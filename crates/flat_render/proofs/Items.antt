@@ -75,14 +75,6 @@ pub tile-window : (tile : Tile) (window cut : Area) (m : ℕ) → IsTile tile �
 tile-window tile window cut m is some both =
     both (x_at tile m) (y_at tile m) ∙ and-true-right _ _ (tile-has-byte tile m is some)
 
--- drawn on black, by the items that are seen
-pub drawn-fresh : (c : ℕ) (items : List DrawItem) (first : ℕ) (b : Bool) (px py was now : ℕ) → b ≡ true → was ≡ 0
-    → channel_after c items px py 0 ≡ channel_after c (drop first items) px py 0
-    → now ≡ (if b then channel_after c (drop first items) px py was else was) → now ≡ channel_after c items px py 0
-drawn-fresh c items first b px py was now e black same h =
-    h ∙ ap (λ (t : Bool). if t then channel_after c (drop first items) px py was else was) e
-    ∙ ap (λ (o : ℕ). channel_after c (drop first items) px py o) black ∙ sym same
-
 -- drawn anew where a test holds
 pub drawn-anew : (c : ℕ) (items : List DrawItem) (first : ℕ) (b t : Bool) (px py was blackened now : ℕ) → b ≡ t
     → (b ≡ true → channel_after c items px py 0 ≡ channel_after c (drop first items) px py 0)

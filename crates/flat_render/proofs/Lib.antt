@@ -18,6 +18,7 @@ pub mod Brushing
 pub mod Preparing
 pub mod ThreePlanes
 pub mod PreparedLists
+pub mod Fresh
 pub mod Bands
 pub mod Runs
 pub mod Rendered

@@ -6,11 +6,11 @@ ghost use Rattle.flat_render.specs.Preparing.{ArePrepared};
 ghost use Rattle.flat_render.specs.Stored.{drawn_at, drawn_in};
 ghost use Rattle.flat_render.specs.Tiles.{pixels_of, tile_area, IsTile};
 
-use crate::chosen::draw_chosen;
+use crate::chosen::{draw, draw_chosen};
 use crate::grid::{Grid, bytes_of_tiles, tile};
 use crate::prepared::Prepared;
 use crate::sorting::sorted;
-use crate::tile::{Tile, draw};
+use crate::tile::Tile;
 use flat_scene::DrawItem;
 use std::alloc::Global;
 
@@ -30,8 +30,9 @@ fn draw_tile(items: &[DrawItem], list: &[Prepared], places: &[usize], tile: Tile
 }
 
 /// Draws a row of tiles, each by all of the items.
-fn draw_each(items: &[DrawItem], grid: &Grid, row: usize, bytes: &mut [u8])
+fn draw_each(items: &[DrawItem], list: &[Prepared], grid: &Grid, row: usize, bytes: &mut [u8])
     requires items { All IsDrawable items.now }
+    requires prepared { ArePrepared items.now list.now }
     requires grid { IsGrid grid.now }
     requires row { row < grid.now.down }
     requires size { length bytes.old ≡ band_bytes grid.now }
@@ -42,7 +43,12 @@ fn draw_each(items: &[DrawItem], grid: &Grid, row: usize, bytes: &mut [u8])
     for n in 0..grid.across {
         let start = n * size;
         let bytes_of_tile = &mut bytes[start..start + size];
-        draw(items, tile(grid, row * grid.across + n), bytes_of_tile);
+        draw(
+            items,
+            list,
+            tile(grid, row * grid.across + n),
+            bytes_of_tile,
+        );
     }
 }
 
@@ -92,10 +98,10 @@ pub fn draw_band(
         ≡ drawn_at grid.now items.now (row * band_bytes grid.now + m) }
 {
     if items.len() <= ITEMS_ON_EACH_TILE {
-        return draw_each(items, grid, row, bytes);
+        return draw_each(items, list, grid, row, bytes);
     }
     match sorted(alloc, items, list, grid, row) {
         Ok(lists) => draw_picked(items, list, lists.as_slice(), grid, row, bytes),
-        Err(_) => draw_each(items, grid, row, bytes),
+        Err(_) => draw_each(items, list, grid, row, bytes),
     }
 }

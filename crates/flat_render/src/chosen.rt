@@ -4,14 +4,17 @@ ghost use Rattle.flat_drawable.specs.Drawable.{IsDrawable};
 ghost use Rattle.flat_render.specs.Areas.{has_pixel, IsInArea, IsWindow};
 ghost use Rattle.flat_render.specs.Bands.{chosen};
 ghost use Rattle.flat_render.specs.Channels.{channel_after, channel_step};
+ghost use Rattle.flat_render.specs.Inks.{mixed};
 ghost use Rattle.flat_render.specs.Preparing.{ArePrepared, IsOver, IsPrepared};
 ghost use Rattle.flat_render.specs.Stored.{drawn_in};
 ghost use Rattle.flat_render.specs.Tiles.{x_at, y_at, channel_at, pixels_of, tile_area, IsTile};
 
-use crate::area::{Area, common};
+use crate::area::{Area, common, is_in};
+use crate::colour::cover;
+use crate::ink::Mix;
 use crate::laying::{lay_fill, lay_steps};
 use crate::prepared::{Prepared, Tones, is_over};
-use crate::tile::{Tile, area, paint_item};
+use crate::tile::{Tile, area, first_seen, paint_all, paint_item};
 use flat_scene::DrawItem;
 
 /// Of the items with some numbers, the first one of which something is seen in a window: which
@@ -85,6 +88,112 @@ fn paint_chosen(
     }
 }
 
+/// Makes a tile black.
+fn blacken_all(bytes: &mut [u8])
+    ensures { (m : ℕ) → m < length bytes.old → slice_index bytes.new m ≡ 0 }
+{
+    bytes.fill(0);
+}
+
+/// A channel that is mixed with black.
+fn over_black(mix: Mix, s: u8) -> u8
+    ensures { result ≡ mixed mix s 0 }
+{
+    match mix {
+        Mix::Replace => s,
+        Mix::Cover(weight) => cover(weight, s, 0),
+    }
+}
+
+/// A colour that is mixed with black.
+fn colour_over_black(mix: Mix, tones: [u8; 3]) -> [u8; 3]
+    ensures { (c : ℕ) → c < 3 → slice_index result c ≡ mixed mix (slice_index tones c) 0 }
+{
+    [
+        over_black(mix, tones[0]),
+        over_black(mix, tones[1]),
+        over_black(mix, tones[2]),
+    ]
+}
+
+/// Draws an item on a tile that is made black.
+fn paint_on_black(item: &DrawItem, it: &Prepared, tile: Tile, bytes: &mut [u8])
+    requires item { IsDrawable item.now }
+    requires prepared { IsPrepared item.now it.now }
+    requires tile { IsTile tile }
+    requires size { length bytes.old ≡ 3 * pixels_of tile }
+    ensures { (m : ℕ) → m < length bytes.old → slice_index bytes.new m
+        ≡ channel_step (channel_at tile m) item.now (x_at tile m) (y_at tile m) 0 }
+{
+    blacken_all(bytes);
+    paint_prepared(item, it, tile, area(tile), bytes);
+}
+
+/// Draws an item that covers a tile and replaces what is there. So nothing has to be black before.
+fn paint_over(item: &DrawItem, it: &Prepared, tile: Tile, bytes: &mut [u8])
+    requires item { IsDrawable item.now }
+    requires prepared { IsPrepared item.now it.now }
+    requires tile { IsTile tile }
+    requires over { IsOver it.now (tile_area tile) }
+    requires size { length bytes.old ≡ 3 * pixels_of tile }
+    ensures { (m : ℕ) → m < length bytes.old → slice_index bytes.new m
+        ≡ channel_step (channel_at tile m) item.now (x_at tile m) (y_at tile m) 0 }
+{
+    paint_prepared(item, it, tile, area(tile), bytes);
+}
+
+/// Draws a fill that covers a tile, as if this was black.
+fn fill_over(item: &DrawItem, it: &Prepared, tones: [u8; 3], tile: Tile, bytes: &mut [u8])
+    requires prepared { IsPrepared item.now it.now }
+    requires tones { it.now.tones ≡ Tones.Even tones }
+    requires tile { IsTile tile }
+    requires covered { IsInArea it.now.area (tile_area tile) }
+    requires size { length bytes.old ≡ 3 * pixels_of tile }
+    ensures { (m : ℕ) → m < length bytes.old → slice_index bytes.new m
+        ≡ channel_step (channel_at tile m) item.now (x_at tile m) (y_at tile m) 0 }
+{
+    let colour = colour_over_black(it.mix, tones);
+    lay_fill(Mix::Replace, colour, tile, area(tile), bytes);
+}
+
+/// Draws the first item of a tile, from black. A fill that covers the tile, and what replaces all
+/// of it, begins it: nothing is made black before.
+fn begin(item: &DrawItem, it: &Prepared, tile: Tile, bytes: &mut [u8])
+    requires item { IsDrawable item.now }
+    requires prepared { IsPrepared item.now it.now }
+    requires tile { IsTile tile }
+    requires size { length bytes.old ≡ 3 * pixels_of tile }
+    ensures { (m : ℕ) → m < length bytes.old → slice_index bytes.new m
+        ≡ channel_step (channel_at tile m) item.now (x_at tile m) (y_at tile m) 0 }
+{
+    let window = area(tile);
+    if is_over(it, window) {
+        return paint_over(item, it, tile, bytes);
+    }
+    match it.tones {
+        Tones::Even(tones) if is_in(it.area, window) => fill_over(item, it, tones, tile, bytes),
+        _ => paint_on_black(item, it, tile, bytes),
+    }
+}
+
+/// Draws items on a tile, from black.
+pub fn draw(items: &[DrawItem], list: &[Prepared], tile: Tile, bytes: &mut [u8])
+    requires items { All IsDrawable items.now }
+    requires prepared { ArePrepared items.now list.now }
+    requires tile { IsTile tile }
+    requires size { length bytes.old ≡ 3 * pixels_of tile }
+    ensures { (m : ℕ) → m < length bytes.old → slice_index bytes.new m
+        ≡ drawn_in tile items.now m }
+{
+    if items.is_empty() {
+        return blacken_all(bytes);
+    }
+    let window = area(tile);
+    let first = first_seen(items, window);
+    begin(&items[first], &list[first], tile, bytes);
+    paint_all(&items[first + 1..], tile, window, bytes);
+}
+
 /// Draws the items with some numbers, in the order of these, on a tile, from black.
 pub fn draw_chosen(
     items: &[DrawItem],
@@ -101,8 +210,11 @@ pub fn draw_chosen(
     ensures { (m : ℕ) → m < length bytes.old → slice_index bytes.new m
         ≡ drawn_in tile (chosen items.now places.now) m }
 {
+    if places.is_empty() {
+        return blacken_all(bytes);
+    }
     let window = area(tile);
     let first = first_chosen(list, places, window);
-    bytes.fill(0);
-    paint_chosen(items, list, &places[first..], tile, window, bytes);
+    begin(&items[places[first]], &list[places[first]], tile, bytes);
+    paint_chosen(items, list, &places[first + 1..], tile, window, bytes);
 }

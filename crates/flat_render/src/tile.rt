@@ -159,7 +159,7 @@ pub fn paint_item(item: &DrawItem, tile: Tile, window: Area, bytes: &mut [u8])
 }
 
 /// Draws items in order on what is in a window.
-fn paint_all(items: &[DrawItem], tile: Tile, window: Area, bytes: &mut [u8])
+pub fn paint_all(items: &[DrawItem], tile: Tile, window: Area, bytes: &mut [u8])
     requires items { All IsDrawable items.now }
     requires tile { IsTile tile }
     requires size { length bytes.old ≡ 3 * pixels_of tile }
@@ -206,9 +206,10 @@ pub fn hides(item: &DrawItem, window: Area) -> bool
 
 /// The first item of which something is seen in a window: those before it are
 /// hidden.
-fn first_seen(items: &[DrawItem], window: Area) -> usize
+pub fn first_seen(items: &[DrawItem], window: Area) -> usize
     requires { IsWindow window }
     ensures there { result ≤ length items.now }
+    ensures inside { 0 < length items.now → result < length items.now }
     ensures same { (c px py : ℕ) → has_pixel window px py ≡ true → channel_after c items.now px py 0
         ≡ channel_after c (drop result items.now) px py 0 }
 {
@@ -219,20 +220,6 @@ fn first_seen(items: &[DrawItem], window: Area) -> usize
         }
     }
     0
-}
-
-/// Draws items on a tile, from black.
-pub fn draw(items: &[DrawItem], tile: Tile, bytes: &mut [u8])
-    requires items { All IsDrawable items.now }
-    requires tile { IsTile tile }
-    requires size { length bytes.old ≡ 3 * pixels_of tile }
-    ensures { (m : ℕ) → m < length bytes.old → slice_index bytes.new m
-        ≡ channel_after (channel_at tile m) items.now (x_at tile m) (y_at tile m) 0 }
-{
-    let window = area(tile);
-    let first = first_seen(items, window);
-    bytes.fill(0);
-    paint_all(&items[first..], tile, window, bytes);
 }
 
 /// Draws what is in a window anew.
