@@ -21,6 +21,10 @@ const ITEM_WORK: usize = 1024;
 /// How much longer it takes to lay a pixel over what is there than to replace it.
 const COVER_WORK: usize = 3;
 
+/// So many items tell how the work lies on a picture. Of more, each of them stands for as many as
+/// follow it up to the next one.
+const ITEMS_ASKED: usize = 2048;
+
 /// The most threads that draw a picture: more of them would make tiles so low that items lie on
 /// many.
 pub const THREADS_MAX: usize = 8;
@@ -85,8 +89,8 @@ pub fn threads_for(list: &[Prepared], most: usize) -> usize
     if work_of(list) <= LIGHT { 1 } else { most }
 }
 
-/// Adds what an item costs in each row of tiles.
-fn add_item(works: &mut Vec<usize>, grid: &Grid, it: &Prepared) {
+/// Adds what an item, and so many like it, cost in each row of tiles.
+fn add_items(works: &mut Vec<usize>, grid: &Grid, it: &Prepared, count: usize) {
     let area = it.area;
     let height = grid.tile_h.max(1);
     let bottom = area.y1.min(grid.height);
@@ -99,12 +103,12 @@ fn add_item(works: &mut Vec<usize>, grid: &Grid, it: &Prepared) {
             .saturating_sub(area.y0.max(top));
         if let Some(work) = works.get_mut(row) {
             let more = rows.saturating_mul(each).saturating_add(ITEM_WORK);
-            *work = work.saturating_add(more);
+            *work = work.saturating_add(more.saturating_mul(count));
         }
     }
 }
 
-/// How much work each row of tiles is, in pixels, if several threads are to share it.
+/// About how much work each row of tiles is, in pixels, if several threads are to share it.
 pub fn works_for(
     alloc: Global,
     list: &[Prepared],
@@ -115,8 +119,11 @@ pub fn works_for(
         return Ok(Vec::new(alloc));
     }
     let mut works = vec![in alloc; grid.width; grid.down]?;
-    for it in list {
-        add_item(&mut works, grid, it);
+    let step = list.len() / ITEMS_ASKED + 1;
+    for n in 0..list.len().div_ceil(step) {
+        if let Some(it) = list.get(n.saturating_mul(step)) {
+            add_items(&mut works, grid, it, step);
+        }
     }
     Ok(works)
 }
