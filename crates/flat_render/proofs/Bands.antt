@@ -44,6 +44,28 @@ module _ (area : Area) (items seen : List DrawItem) where
         ∙ sym (after-more c items i d px py old within);
   }
 
+module _ (area : Area) (all seen : List DrawItem) (item : DrawItem) where
+  -- one item more behind both of two lists
+  pub seen-both : IsDrawable item → IsSeenIn area all seen → IsSeenIn area (all ++ item ∷ []) (seen ++ item ∷ [])
+  seen-both drawable is = record {
+    drawable = All-append IsDrawable seen (item ∷ []) is.drawable (All-cons IsDrawable item [] drawable (All-nil IsDrawable));
+    same = λ c px py old there.
+        fold-append (λ was it. channel_step c it px py was) old seen (item ∷ [])
+        ∙ ap (λ (was : ℕ). channel_step c item px py was) (is.same c px py old there)
+        ∙ sym (fold-append (λ was it. channel_step c it px py was) old all (item ∷ []));
+  }
+
+  -- and behind the first alone, where it isn't seen
+  pub seen-first : ((px py : ℕ) → has_pixel area px py ≡ true → covers item px py ≡ false) → IsSeenIn area all seen
+      → IsSeenIn area (all ++ item ∷ []) seen
+  seen-first unseen is = record {
+    drawable = is.drawable;
+    same = λ c px py old there.
+        is.same c px py old there
+        ∙ sym (step-none c item px py (channel_after c all px py old) (unseen px py there))
+        ∙ sym (fold-append (λ was it. channel_step c it px py was) old all (item ∷ []));
+  }
+
 -- an item of a list that has one
 pub some-item : (items : List DrawItem) (i : ℕ) → i < length items → DrawItem
 some-item [] i within = absurd (omega arith)

@@ -34,6 +34,28 @@ pub record AreChoices (grid : Grid) (row : ℕ) (items : List DrawItem) (lists :
     pub serve : (c : ℕ) (d : Vec ℕ Global) → c < grid.across
         → IsChoice (tile_area (tile_of grid (row * grid.across + c))) items (slice_index_or lists c d).items n
 
+-- numbers that serve all tiles of a row
+abbrev pub ServesRow : Grid → ℕ → List DrawItem → List ℕ → ℕ → Type 0
+ServesRow grid row items places n = (c : ℕ) → c < grid.across
+    → IsChoice (tile_area (tile_of grid (row * grid.across + c))) items places n
+
+-- a list of such numbers for each of some rows
+abbrev pub AreRows : Grid → List DrawItem → List (Vec ℕ Global) → ℕ → Type 0
+AreRows grid items lists n = (row : ℕ) (d : Vec ℕ Global) → row < length lists
+    → ServesRow grid row items (slice_index_or lists row d).items n
+
+-- numbers of items that give each pixel of an area what those with all of some numbers give it
+pub record IsPart (area : Area) (items : List DrawItem) (all places : List ℕ) : Type 0 where
+  pub within : All (λ p. p < length items) places
+  pub seen : IsSeenIn area (chosen items all) (chosen items places)
+
+-- a list of such numbers for each tile of a row
+pub record AreParts (grid : Grid) (row : ℕ) (items : List DrawItem) (all : List ℕ) (lists : List (Vec ℕ Global)) : Type 0
+  where
+    pub count : length lists ≡ grid.across
+    pub serve : (c : ℕ) (d : Vec ℕ Global) → c < grid.across
+        → IsPart (tile_area (tile_of grid (row * grid.across + c))) items all (slice_index_or lists c d).items
+
 -- so many lists, and nothing in them
 pub record AreEmpty (n : ℕ) (lists : List (Vec ℕ Global)) : Type 0 where
   pub count : length lists ≡ n

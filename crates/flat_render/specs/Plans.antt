@@ -1,16 +1,18 @@
 -- What is drawn, for all threads that draw it.
 use Rattle.std.specs.Prelude.{◌≡◌, ℕ, ◌-◌, ◌*◌, ◌<◌, ◌≤◌, All, List, length}
 use Rattle.flat_drawable.specs.Drawable.{IsDrawable}
+use Rattle.flat_render.specs.Bands.{AreRows}
 use Rattle.flat_render.specs.Grids.{band_bytes, IsGrid}
 use Rattle.flat_render.specs.Preparing.{ArePrepared}
 use Rattle.flat_render.specs.declared.plan.Plan.{Plan}
 use Rattle.flat_render.specs.declared.plan.Span.{Span}
 
--- the items may be drawn, and each was prepared
+-- the items may be drawn, each was prepared, and those are found that serve for a row of tiles
 pub record IsPlan (plan : Plan) : Type 0 where
   pub items : All IsDrawable plan.items.now
   pub prepared : ArePrepared plan.items.now plan.list.now
   pub grid : IsGrid plan.grid
+  pub rows : AreRows plan.grid plan.items.now plan.rows.now (length plan.items.now)
 
 -- there are so many bytes as some rows of tiles have
 pub record IsSpan (plan : Plan) (span : Span) (bytes : List ℕ) : Type 0 where

@@ -2,20 +2,18 @@ ghost use Rattle.std.specs.Prelude.{◌≡◌, ◌+◌, ◌<◌, ◌*◌, ℕ, A
 ghost use Rattle.flat_drawable.specs.Drawable.{IsDrawable};
 ghost use Rattle.flat_render.specs.Bands.{AreChoices, IsChoice};
 ghost use Rattle.flat_render.specs.Grids.{band_bytes, IsGrid};
+ghost use Rattle.flat_render.specs.Plans.{IsPlan};
 ghost use Rattle.flat_render.specs.Preparing.{ArePrepared};
 ghost use Rattle.flat_render.specs.Stored.{drawn_at, drawn_in};
 ghost use Rattle.flat_render.specs.Tiles.{pixels_of, tile_area, IsTile};
 
 use crate::chosen::{draw, draw_chosen};
 use crate::grid::{Grid, bytes_of_tiles, tile};
+use crate::plan::Plan;
 use crate::prepared::Prepared;
 use crate::sorting::sorted;
 use crate::tile::Tile;
 use flat_scene::DrawItem;
-use std::alloc::Global;
-
-/// So many items are asked for each tile sooner than they are chosen for it.
-const ITEMS_ON_EACH_TILE: usize = 32;
 
 /// Draws a tile by the items with some numbers, which are those that may be seen there.
 fn draw_tile(items: &[DrawItem], list: &[Prepared], places: &[usize], tile: Tile, bytes: &mut [u8])
@@ -81,26 +79,18 @@ fn draw_picked(
 
 /// Draws a row of tiles, from black. Of many items it looks twice at those alone that may be seen
 /// on a tile, if memory is there for their numbers.
-pub fn draw_band(
-    alloc: Global,
-    items: &[DrawItem],
-    list: &[Prepared],
-    grid: &Grid,
-    row: usize,
-    bytes: &mut [u8],
-)
-    requires items { All IsDrawable items.now }
-    requires prepared { ArePrepared items.now list.now }
-    requires grid { IsGrid grid.now }
-    requires row { row < grid.now.down }
-    requires size { length bytes.old ≡ band_bytes grid.now }
+pub fn draw_band(plan: &Plan<'_>, row: usize, bytes: &mut [u8])
+    requires plan { IsPlan plan.now }
+    requires row { row < plan.now.grid.down }
+    requires size { length bytes.old ≡ band_bytes plan.now.grid }
     ensures { (m : ℕ) → m < length bytes.old → slice_index bytes.new m
-        ≡ drawn_at grid.now items.now (row * band_bytes grid.now + m) }
+        ≡ drawn_at plan.now.grid plan.now.items.now (row * band_bytes plan.now.grid + m) }
 {
-    if items.len() <= ITEMS_ON_EACH_TILE {
+    let (items, list, grid) = (plan.items, plan.list, &plan.grid);
+    let Some(places) = plan.rows.get(row) else {
         return draw_each(items, list, grid, row, bytes);
-    }
-    match sorted(alloc, items, list, grid, row) {
+    };
+    match sorted(plan.alloc, items, list, places.as_slice(), grid, row) {
         Ok(lists) => draw_picked(items, list, lists.as_slice(), grid, row, bytes),
         Err(_) => draw_each(items, list, grid, row, bytes),
     }

@@ -37,7 +37,7 @@ fn span_strips<R: Threads + Sync>(rt: &R, plan: &Plan<'_>, span: Span) -> Part
         threads,
     } = span;
     if threads <= 1 || upto - from <= 1 {
-        return draw_strips(plan.alloc, plan.items, plan.list, &plan.grid, from, upto);
+        return draw_strips(plan, from, upto);
     }
     let low = first_share(threads);
     let cut = cut_of(plan.works, span, low);

@@ -36,6 +36,8 @@ pub struct Plan<'a> {
     pub items: &'a [DrawItem],
     pub list: &'a [Prepared],
     pub grid: Grid,
+    /// For each row of tiles, the numbers of the items that may be seen there, if they are many.
+    pub rows: &'a [Vec<usize>],
     /// How much work each row of tiles is.
     pub works: &'a [usize],
 }

@@ -12,6 +12,7 @@ use crate::picture::Picture;
 use crate::plan::{Plan, THREADS_MAX, most_threads, threads_for, works_for};
 use crate::ppm::ppm_head;
 use crate::prepared::prepare_all;
+use crate::sorting::sorted_rows;
 use crate::spans::draw_rows;
 use crate::strips::Strip;
 use flat_base::{Items, NoMemory};
@@ -87,12 +88,14 @@ pub fn render(
     let list = prepared.as_slice();
     let threads = threads_for(list, most);
     let grid = grid_for(w, h, step_for(threads));
+    let rows = sorted_rows(alloc, drawn, list, &grid)?;
     let works = works_for(alloc, list, &grid, threads)?;
     let plan = Plan {
         alloc,
         items: drawn,
         list,
         grid,
+        rows: rows.as_slice(),
         works: works.as_slice(),
     };
     let mut bytes = vec![in alloc; 0u8; stored(&grid)]?;
@@ -118,12 +121,14 @@ pub fn render_into(
     let prepared = prepare_all(rt, alloc, drawn, most)?;
     let list = prepared.as_slice();
     let threads = threads_for(list, most);
+    let rows = sorted_rows(alloc, drawn, list, &picture.grid)?;
     let works = works_for(alloc, list, &picture.grid, threads)?;
     let plan = Plan {
         alloc,
         items: drawn,
         list,
         grid: picture.grid,
+        rows: rows.as_slice(),
         works: works.as_slice(),
     };
     draw_rows(rt, &plan, threads, picture.bytes.as_mut_slice());
@@ -153,12 +158,14 @@ pub fn render_strips(
     let list = prepared.as_slice();
     let threads = threads_for(list, most);
     let grid = grid_for(w, h, step_for_strips(drawn.len(), threads));
+    let rows = sorted_rows(alloc, drawn, list, &grid)?;
     let works = works_for(alloc, list, &grid, threads)?;
     let plan = Plan {
         alloc,
         items: drawn,
         list,
         grid,
+        rows: rows.as_slice(),
         works: works.as_slice(),
     };
     let head = ppm_head(alloc, w, h)?;

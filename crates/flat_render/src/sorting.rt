@@ -2,7 +2,7 @@ ghost use Rattle.std.specs.Prelude.{◌≡◌, ◌+◌, ◌*◌, ◌/◌, ◌<�
 ghost use Rattle.std.specs.Prelude.{OnOk, length, if◌then◌else◌, slice_index_or};
 ghost use Rattle.flat_drawable.specs.Drawable.{IsDrawable};
 ghost use Rattle.flat_render.specs.Areas.{has_pixel, is_among};
-ghost use Rattle.flat_render.specs.Bands.{AreChoices, AreEmpty, IsNoted};
+ghost use Rattle.flat_render.specs.Bands.{AreChoices, AreEmpty, AreRows, IsNoted, ServesRow};
 ghost use Rattle.flat_render.specs.Grids.{IsGrid};
 ghost use Rattle.flat_render.specs.Preparing.{ArePrepared};
 
@@ -14,10 +14,13 @@ use flat_base::NoMemory;
 use flat_scene::DrawItem;
 use std::alloc::Global;
 
-/// Some of the tiles of a row, from a first one up to a last one, which isn't among
-/// them.
+/// So many items are asked for each tile sooner than they are chosen for it.
+const ITEMS_ON_EACH_TILE: usize = 32;
+
+/// Some of the tiles of a row, or of the rows, from a first one up to a last one, which isn't
+/// among them.
 #[derive(Clone, Copy)]
-struct Columns {
+struct Run {
     from: usize,
     upto: usize,
 }
@@ -36,7 +39,7 @@ fn part_with(side: usize, x: usize) -> usize
 }
 
 /// The tiles of a row in which an area may have a pixel.
-fn columns_of(grid: &Grid, row: usize, area: Area) -> Columns
+fn columns_of(grid: &Grid, row: usize, area: Area) -> Run
     requires grid { IsGrid grid.now }
     requires row { row < grid.now.down }
     ensures within { result.upto ≤ grid.now.across }
@@ -47,11 +50,25 @@ fn columns_of(grid: &Grid, row: usize, area: Area) -> Columns
 {
     let top = row * grid.tile_h;
     if area.y1 <= top || area.y0 >= top + grid.tile_h {
-        return Columns { from: 0, upto: 0 };
+        return Run { from: 0, upto: 0 };
     }
-    Columns {
+    Run {
         from: part_with(grid.tile_w, area.x0),
         upto: area.x1.div_ceil(grid.tile_w).min(grid.across),
+    }
+}
+
+/// The rows of tiles in which an area may have a pixel.
+fn rows_of(grid: &Grid, area: Area) -> Run
+    requires { IsGrid grid.now }
+    ensures within { result.upto ≤ grid.now.down }
+    ensures others { (row px py : ℕ) → row < grid.now.down → row * grid.now.tile_h ≤ py →
+        py < row * grid.now.tile_h + grid.now.tile_h → is_among result.from result.upto row ≡ false →
+        has_pixel area px py ≡ false }
+{
+    Run {
+        from: area.y0 / grid.tile_h,
+        upto: area.y1.div_ceil(grid.tile_h).min(grid.down),
     }
 }
 
@@ -67,36 +84,64 @@ fn empties(alloc: Global, count: usize) -> Result<Vec<Vec<usize>>, NoMemory>
 }
 
 /// Puts a number at the end of some of the lists.
-fn note(lists: &mut [Vec<usize>], n: usize, columns: Columns) -> Result<(), NoMemory>
-    requires { columns.upto ≤ length lists.old }
-    ensures { OnOk result (IsNoted n columns.from columns.upto lists.old lists.new) }
+fn note(lists: &mut [Vec<usize>], n: usize, run: Run) -> Result<(), NoMemory>
+    requires { run.upto ≤ length lists.old }
+    ensures { OnOk result (IsNoted n run.from run.upto lists.old lists.new) }
 {
-    if columns.from >= columns.upto {
+    if run.from >= run.upto {
         return Ok(());
     }
-    for c in columns.from..columns.upto {
+    for c in run.from..run.upto {
         lists[c].push(n)?;
     }
     Ok(())
 }
 
-/// For each tile of a row, the numbers of the items that may be seen there.
+/// For each row of tiles, the numbers of the items that may be seen there: no lists if the items
+/// are few.
+pub fn sorted_rows(
+    alloc: Global,
+    items: &[DrawItem],
+    list: &[Prepared],
+    grid: &Grid,
+) -> Result<Vec<Vec<usize>>, NoMemory>
+    requires items { All IsDrawable items.now }
+    requires prepared { ArePrepared items.now list.now }
+    requires grid { IsGrid grid.now }
+    ensures { IfOk result (λ lists. AreRows grid.now items.now lists.items (length items.now)) }
+{
+    if items.len() <= ITEMS_ON_EACH_TILE {
+        return Ok(Vec::new(alloc));
+    }
+    let mut lists = empties(alloc, grid.down)?;
+    for n in 0..items.len() {
+        let rows = rows_of(grid, list[n].area);
+        note(lists.as_mut_slice(), n, rows)?;
+    }
+    Ok(lists)
+}
+
+/// For each tile of a row, the numbers of the items that may be seen there. They are among those
+/// that may be seen in the row.
 pub fn sorted(
     alloc: Global,
     items: &[DrawItem],
     list: &[Prepared],
+    places: &[usize],
     grid: &Grid,
     row: usize,
 ) -> Result<Vec<Vec<usize>>, NoMemory>
     requires items { All IsDrawable items.now }
     requires prepared { ArePrepared items.now list.now }
+    requires places { ServesRow grid.now row items.now places.now (length items.now) }
     requires grid { IsGrid grid.now }
     requires row { row < grid.now.down }
     ensures { IfOk result (λ lists. AreChoices grid.now row items.now lists.items
         (length items.now)) }
 {
     let mut lists = empties(alloc, grid.across)?;
-    for n in 0..items.len() {
+    for k in 0..places.len() {
+        let n = places[k];
         let columns = columns_of(grid, row, list[n].area);
         note(lists.as_mut_slice(), n, columns)?;
     }

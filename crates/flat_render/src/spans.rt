@@ -24,7 +24,7 @@ pub fn draw_span<R: Threads + Sync>(rt: &R, plan: &Plan<'_>, span: Span, bytes: 
         threads,
     } = span;
     if upto - from == 1 {
-        return draw_band(plan.alloc, plan.items, plan.list, &plan.grid, from, bytes);
+        return draw_band(plan, from, bytes);
     }
     let low = first_share(threads);
     let cut = cut_of(plan.works, span, low);

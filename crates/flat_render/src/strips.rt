@@ -1,23 +1,21 @@
 //! Strips: the bytes of a picture, a row of tiles each. They are drawn one after the other in the
 //! same memory, so that what is drawn is still in the processor's cache, and a strip that looks
 //! like the one before it shares its bytes.
-ghost use Rattle.std.specs.Prelude.{◌≡◌, ◌+◌, ◌-◌, ◌*◌, ◌<◌, ◌≤◌, ◌++◌, ℕ, All, IfOk, IsTrue};
+ghost use Rattle.std.specs.Prelude.{◌≡◌, ◌+◌, ◌-◌, ◌*◌, ◌<◌, ◌≤◌, ◌++◌, ℕ, IfOk, IsTrue};
 ghost use Rattle.std.specs.Prelude.{length};
 ghost use Rattle.std.specs.Arc.{arc_value};
 ghost use Rattle.std.specs.List.{flat_map};
-ghost use Rattle.flat_drawable.specs.Drawable.{IsDrawable};
 ghost use Rattle.flat_render.specs.Grids.{band_bytes, IsGrid};
-ghost use Rattle.flat_render.specs.Preparing.{ArePrepared};
+ghost use Rattle.flat_render.specs.Plans.{IsPlan};
 ghost use Rattle.flat_render.specs.Stored.{drawn_at};
 ghost use Rattle.flat_render.specs.Strips.{rows_above, strip_in};
 
 use crate::band::draw_band;
 use crate::grid::{Grid, bytes_of_bands};
+use crate::plan::Plan;
 use crate::ppm::push_band;
-use crate::prepared::Prepared;
 use crate::tile::CHANNELS;
 use flat_base::{Items, NoMemory};
-use flat_scene::DrawItem;
 use std::alloc::Global;
 use std::mem::swap;
 use std::sync::Arc;
@@ -81,22 +79,14 @@ fn next_strip(
 }
 
 /// The strips of the rows of tiles from one up to another.
-pub fn draw_strips(
-    alloc: Global,
-    items: &[DrawItem],
-    list: &[Prepared],
-    grid: &Grid,
-    from: usize,
-    upto: usize,
-) -> Result<Vec<Strip>, NoMemory>
-    requires items { All IsDrawable items.now }
-    requires prepared { ArePrepared items.now list.now }
-    requires grid { IsGrid grid.now }
+pub fn draw_strips(plan: &Plan<'_>, from: usize, upto: usize) -> Result<Vec<Strip>, NoMemory>
+    requires plan { IsPlan plan.now }
     requires order { from ≤ upto }
-    requires there { upto ≤ grid.now.down }
-    ensures { IfOk result (λ strips. rows_above items.now grid.now upto
-        ≡ rows_above items.now grid.now from ++ flat_map arc_value strips.items) }
+    requires there { upto ≤ plan.now.grid.down }
+    ensures { IfOk result (λ strips. rows_above plan.now.items.now plan.now.grid upto
+        ≡ rows_above plan.now.items.now plan.now.grid from ++ flat_map arc_value strips.items) }
 {
+    let (alloc, grid) = (plan.alloc, &plan.grid);
     let size = bytes_of_bands(grid);
     let mut band = vec![in alloc; 0u8; size]?;
     let mut before = vec![in alloc; 0u8; size]?;
@@ -104,7 +94,7 @@ pub fn draw_strips(
     let mut strips = Vec::with_capacity(alloc, upto - from)?;
     for n in from..upto {
         swap(&mut band, &mut before);
-        draw_band(alloc, items, list, grid, n, band.as_mut_slice());
+        draw_band(plan, n, band.as_mut_slice());
         let again = is_again(grid, from, n, before.as_slice(), band.as_slice());
         last = next_strip(alloc, grid, n, band.as_slice(), again, &last)?;
         strips.push(Arc::try_clone(&last)?)?;

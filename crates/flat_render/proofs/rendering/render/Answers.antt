@@ -1,4 +1,11 @@
-use Rattle.std.proofs.Common.{◌∙◌, arith}
+use Rattle.std.proofs.Common.{ℕ, ◌∙◌, sym, subst, List, Vec, length, arith}
+use Rattle.std.specs.List.{All}
+use Rattle.std.specs.declared.alloc.Global.{Global}
+use Rattle.flat_drawable.specs.Drawable.{IsDrawable}
+use Rattle.flat_scene.specs.declared.frames.DrawItem.{DrawItem}
+use Rattle.flat_render.specs.Bands.{AreRows}
+use Rattle.flat_render.specs.Preparing.{ArePrepared}
+use Rattle.flat_render.specs.declared.prepared.Prepared.{Prepared}
 use Rattle.flat_render.specs.declared.grid.Grid.{Grid}
 use Rattle.flat_render.proofs.Rendered.{rendered}
 use Rattle.flat_render.proofs.rendering.render.Goals as goal
@@ -22,4 +29,13 @@ pub invariant_of-result : goal.invariant_of-result
 invariant_of-result g c = record {
   sides = c.grid_for-grid.ensures.grid;
   filled = c.in_ok-bytes.ensures.len ∙ c.stored.ensures;
+}
+
+pub draw_rows-requires-clause-plan : goal.draw_rows-requires-clause-plan
+draw_rows-requires-clause-plan g c = λ lives within. record {
+  items = subst (λ (all : List DrawItem). All IsDrawable all) (sym c.as_slice-drawn.ensures) c.requires.items;
+  prepared = subst (λ (list : List Prepared). ArePrepared c.as_slice-drawn.result.now list) (sym c.as_slice-list.ensures.value) c.in_ok-prepared.ensures;
+  grid = c.grid_for-grid.ensures.grid;
+  rows = subst (λ (rows : List (Vec ℕ Global)). AreRows c.grid_for-grid.result c.as_slice-drawn.result.now rows (length c.as_slice-drawn.result.now))
+      (sym c.as_slice.ensures.value) c.in_ok-rows.ensures;
 }

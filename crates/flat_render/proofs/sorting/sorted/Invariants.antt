@@ -1,5 +1,6 @@
-use Rattle.flat_render.specs.Bands.{AreChoices}
+use Rattle.std.proofs.Common.{take}
+use Rattle.flat_render.specs.Bands.{AreParts}
 use Rattle.flat_render.proofs.sorting.sorted.Given as goal
 
-abbrev pub invariant-loop-n : goal.invariant-loop-n
-invariant-loop-n l = AreChoices l.grid l.row l.items l.lists.items l.n
+abbrev pub invariant-loop-k : goal.invariant-loop-k
+invariant-loop-k l = AreParts l.grid l.row l.items (take l.k l.places) l.lists.items

@@ -9,7 +9,7 @@ use Rattle.flat_render.proofs.strips.draw_strips.Goals as goal
 
 pub loop-n-preserved : goal.loop-n-preserved
 loop-n-preserved c =
-    let g : Grid = c.args.grid.now in
+    let g : Grid = c.args.plan.now.grid in
     let n : ℕ = c.loop-n.n in
     let drawn : List ℕ = c.draw_band.new.bytes in
     let band : List ℕ = c.as_slice-in-loop-n-2.result.now in
@@ -20,9 +20,9 @@ loop-n-preserved c =
     let same : n ≡ n + 1 - 1 = omega arith in
     let there : n < g.down = omega (arith, c.loop-n-test.true, c.requires.there) in
     let size : length band ≡ band_bytes g = ap length is ∙ kept ∙ room in
-    let more : rows_above c.args.items.now g n ++ strip ≡ rows_above c.args.items.now g (n + 1) =
-    ap (λ (t : List ℕ). rows_above c.args.items.now g n ++ t) (c.in_ok-try_clone.ensures ∙ c.in_ok-last-2.ensures)
-    ∙ strip-more c.args.items.now g n band c.requires.grid there size
+    let more : rows_above c.args.plan.now.items.now g n ++ strip ≡ rows_above c.args.plan.now.items.now g (n + 1) =
+    ap (λ (t : List ℕ). rows_above c.args.plan.now.items.now g n ++ t) (c.in_ok-try_clone.ensures ∙ c.in_ok-last-2.ensures)
+    ∙ strip-more c.args.plan.now.items.now g n band c.requires.plan.grid there size
     (λ m small. ap (λ (xs : List ℕ). get_or xs m 0) is ∙ c.draw_band.ensures m (omega (arith, small, ap length is, c.draw_band.auto.bytes))) in
     record {
       room = room;

@@ -7,8 +7,8 @@ use Rattle.flat_render.proofs.strips.draw_strips.Given as goal
 
 abbrev pub invariant-loop-n : goal.invariant-loop-n
 invariant-loop-n l = record {
-  room : l.band.len ≡ band_bytes l.grid;
-  spare : l.before.len ≡ band_bytes l.grid;
-  last : l.from < l.n → arc_value l.last ≡ strip_in l.grid (l.n - 1) l.band.items;
-  rows : rows_above l.items l.grid l.n ≡ rows_above l.items l.grid l.from ++ flat_map arc_value l.strips.items;
+  room : l.band.len ≡ band_bytes l.plan.grid;
+  spare : l.before.len ≡ band_bytes l.plan.grid;
+  last : l.from < l.n → arc_value l.last ≡ strip_in l.plan.grid (l.n - 1) l.band.items;
+  rows : rows_above l.plan.items.now l.plan.grid l.n ≡ rows_above l.plan.items.now l.plan.grid l.from ++ flat_map arc_value l.strips.items;
 }
