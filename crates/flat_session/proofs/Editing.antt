@@ -1,5 +1,5 @@
 -- A line that may make no entry: what is known where it is read, and where it comes back.
-use Rattle.std.proofs.Common.{◌≡◌, ◌+◌, ◌-◌, Bool, true, false, Ok, List, [], ◌∷◌, ◌++◌, length, take, refl, sym, ap, ◌∙◌, Option, Some, None}
+use Rattle.std.proofs.Common.{◌≡◌, ◌-◌, Bool, true, false, Ok, List, [], ◌∷◌, ◌++◌, length, take, refl, sym, ap, ◌∙◌, Option, Some, None}
 use Rattle.std.specs.Prelude.{is_some}
 use Rattle.flat_base.specs.Last.{last_item}
 use Rattle.flat_base.specs.declared.errors.Reason.{Reason}

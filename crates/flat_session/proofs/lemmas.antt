@@ -2,6 +2,7 @@
 pub mod Entering
 pub mod Following
 pub mod Outcomes
+pub mod Preparing
 pub mod Readying
 pub mod Standing
 pub mod Tellings

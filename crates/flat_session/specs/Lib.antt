@@ -1,3 +1,4 @@
 pub mod Made
-pub mod Reads
+pub mod Prepared
 pub mod Readings
+pub mod Reads

@@ -13,4 +13,4 @@ mod reader;
 
 pub use laws::lines_are_read;
 pub use made::Made;
-pub use reader::{Edit, Reader};
+pub use reader::{Edit, Prepared, Reader};

@@ -1,4 +1,4 @@
-ghost use Rattle.std.specs.Prelude.{◌≡◌, ◌+◌, ◌-◌, ◌<◌, ◌≢◌, ◌^◌, [], ◌∷◌, ◌++◌, true, false, length, slice_get, take};
+ghost use Rattle.std.specs.Prelude.{◌≡◌, ◌+◌, ◌-◌, ◌<◌, ◌≢◌, ◌^◌, List, [], ◌∷◌, ◌++◌, true, false, length, slice_get, take};
 ghost use Rattle.std.specs.Prelude.{Some, None, IfOk, IfErr, OnErr, IsTrue, IfSome};
 ghost use Rattle.flat_base.specs.Last.{last_item};
 ghost use Rattle.flat_base.specs.declared.ids.Actor.TheVariants.{Session};
@@ -10,7 +10,8 @@ ghost use Rattle.flat_scene.specs.History.{closes, own};
 ghost use Rattle.flat_scene.specs.Misuse.{misuse};
 ghost use Rattle.flat_core.specs.Machines.{HasShare, entered};
 ghost use Rattle.flat_scene.specs.declared.journal.Kind.TheVariants.{End};
-ghost use Rattle.flat_scene.specs.declared.journal.Reply.TheVariants.{Done};
+ghost use Rattle.flat_scene.specs.declared.journal.Reply.TheVariants.{Done, Closed};
+ghost use Rattle.flat_scene.specs.declared.journal.Entry.{Entry};
 ghost use Rattle.flat_draft.specs.Answers.{has_room_for, uses_an_end};
 ghost use Rattle.flat_draft.specs.Stands.{StandsFor};
 ghost use Rattle.flat_scene.specs.Setups.{is_declared};
@@ -19,6 +20,7 @@ ghost use Rattle.flat_rules.specs.Owned.{is_played_line};
 ghost use Rattle.flat_session.specs.Made.{kind_of, takes_memory};
 ghost use Rattle.flat_session.specs.Reads.{HasDraft, IsNew, Stands, IsReady, Tells, Enters, Reads};
 ghost use Rattle.flat_session.specs.Reads.{kept_calls, viewport_call, with_line, CanMake, Edits, IsMade};
+ghost use Rattle.flat_session.specs.Prepared.{HasStood, Prepares};
 
 use crate::judging::{asked, called, presented};
 use crate::made::Made;
@@ -38,6 +40,17 @@ pub enum Edit {
     Read(Reply),
     /// It makes an entry, so it comes back unread.
     Unread(Line),
+}
+
+/// What came of a line, before an entry is made.
+#[derive(Drop)]
+pub enum Prepared {
+    /// The session is closed: the line is answered so, and counted.
+    Refused(Reply),
+    /// The line makes no entry, and has this reply: its call waits for the next one.
+    Waits(Reply),
+    /// The session is ready to make this entry.
+    Enters(Made),
 }
 
 /// A session that reads its lines: what it has beside its entries.
@@ -92,15 +105,43 @@ impl Reader {
         ensures same { OnErr result (board.new ≡ board.old) }
         ensures kept { OnErr result (self.new ≡ record self.old { draft = self.new.draft }) }
     {
+        match self.prepare(text)? {
+            Prepared::Refused(reply) => Ok(reply),
+            Prepared::Waits(reply) => Ok(reply),
+            Prepared::Enters(made) => self.enter(board, number, made),
+        }
+    }
+
+    /// Reads a line up to its entry, which [`Reader::enter`] makes. It needs no board,
+    /// so a session may prepare its entry while others make theirs.
+    ///
+    /// If memory runs out, the line is dropped.
+    pub fn prepare(&mut self, text: Line) -> Result<Prepared, NoMemory>
+        requires stands { HasStood self.old }
+        requires few { self.old.refused + 1 < 2 ^ 32 }
+        ensures prepares { (setup : Setup) (mine : List Entry) → Stands setup mine self.old →
+            is_played_line setup self.old.session text ≡ true →
+            IfOk result (Prepares setup mine text self.old self.new) }
+        ensures same { OnErr result (self.new ≡ self.old) }
+    {
         if self.closed {
             drop(text);
-            self.refused += 1;
-            return Ok(Reply::Closed(None, None));
+            return Ok(Prepared::Refused(self.refuse()));
         }
         match self.judge(text)? {
-            None => Ok(Reply::Done),
-            Some(made) => self.enter(board, number, made),
+            None => Ok(Prepared::Waits(Reply::Done)),
+            Some(made) => Ok(Prepared::Enters(made)),
         }
+    }
+
+    /// Answers a line that came after the one that closed the session, and counts it.
+    pub fn refuse(&mut self) -> Reply
+        requires few { self.old.refused + 1 < 2 ^ 32 }
+        ensures reply { result ≡ Closed None None }
+        ensures rest { self.new ≡ record self.old { refused = self.old.refused + 1 } }
+    {
+        self.refused += 1;
+        Reply::Closed(None, None)
     }
 
     /// Ends the session's entries. It takes no memory.

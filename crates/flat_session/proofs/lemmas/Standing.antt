@@ -295,15 +295,3 @@ stands_kept setup mine reader after one ready takes rest =
       };
       when_closed = λ is. absurd (let both : false ≡ true = sym ready.opened ∙ is in cc);
     }))
-
--- after a line for which there was no memory the session is as it was, but for the room of its draft
-pub kept_line : (setup : Setup) (text : Line) (old judged after : Reader) (draft : Draft) (one : Made) → judged ≡ with_line text old judged.draft
-    → Tells setup old.session draft text judged.draft (Some one) → takes_memory one ≡ true
-    → after ≡ record judged { pending = kept_calls (viewport_call one) judged.pending } → after ≡ record old { draft = after.draft }
-kept_line setup text old judged after draft one rest tells takes is =
-    let same : kept_calls (viewport_call one) (old.pending ++ calls_of_line text) ≡ old.pending =
-    kept_are setup old.session draft old.pending (old.pending ++ calls_of_line text) judged.draft one (tells.leaves old.pending) takes in
-    let so : after ≡ record old { draft = judged.draft } =
-    is ∙ ap (λ (r : Reader). let t : Reader = record r { pending = kept_calls (viewport_call one) r.pending } in t) rest
-    ∙ ap (λ pending. let t : Reader = record old { draft = judged.draft; pending = pending } in t) same in
-    so ∙ ap (λ d. let t : Reader = record old { draft = d } in t) (sym (ap (λ (r : Reader). r.draft) so))
