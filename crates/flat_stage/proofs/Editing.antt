@@ -1,5 +1,5 @@
 -- What came of a line that may make no entry, of the seat of a session.
-use Rattle.std.proofs.Common.{◌≡◌, ◌+◌, ◌-◌, Bool, true, false, Ok, List, ◌++◌, refl, sym, ap, ◌∙◌, subst, Option, None, Result, Err, IfOk, OnErr}
+use Rattle.std.proofs.Common.{◌≡◌, ◌+◌, Bool, true, false, Ok, List, ◌++◌, sym, ap, ◌∙◌, subst, Option, None, Result, Err, IfOk, OnErr}
 use Rattle.std.specs.Prelude.{is_some, ⊤}
 use Rattle.flat_scene.specs.declared.journal.Entry.{Entry}
 use Rattle.flat_scene.specs.declared.journal.Kind.{Kind}
@@ -84,16 +84,14 @@ module _ (seat : Seat) (reader after : Reader) (text : Line) (stands : Stands (s
       AreOne seat in subst O (sym same) (record { at_one = at_one; stands = λ unended. stands })
 
 -- a line of a closed session is counted
-pub read_closed : (seat : Seat) (reader : Reader) (text : Line) → reader.closed ≡ true
-    → IsReadAlone text (Closed None None) (session_view seat reader) (session_view seat (record reader { refused = reader.refused + 1 }))
-read_closed seat reader text closed = record {
+pub read_closed : (seat : Seat) (reader after : Reader) (text : Line) (reply : Reply) → reader.closed ≡ true → reply ≡ Closed None None
+    → after ≡ record reader { refused = reader.refused + 1 } → IsReadAlone text reply (session_view seat reader) (session_view seat after)
+read_closed seat reader after text reply closed answer rest = record {
   alone = λ opened. absurd (let both : true ≡ false = sym closed ∙ opened in cc);
   reads = λ number.
-      let R : Bool → Type 0 = SessionReads number text (Closed None None) (session_view seat reader)
-      (session_view seat (record reader { refused = reader.refused + 1 })) in
-      subst R (sym closed) (refl, refl);
-  follows = λ given number has. refused_more (setup_of seat.lock) given number text (history_of seat.mine) reader
-      (record reader { refused = reader.refused + 1 }) has closed refl;
+      let R : Bool → Type 0 = SessionReads number text reply (session_view seat reader) (session_view seat after) in
+      subst R (sym closed) (answer, ap (session_view seat) rest);
+  follows = λ given number has. refused_more (setup_of seat.lock) given number text (history_of seat.mine) reader after has closed rest;
 }
 
 -- what a line leaves of a seat that it makes no entry of

@@ -22,7 +22,7 @@ use flat_base::{Actor, NoMemory, SessionNo};
 use flat_core::EventList;
 use flat_lock::LockSeat;
 use flat_scene::{Cond, Line, Reply};
-use flat_session::{Edit, Made, Reader};
+use flat_session::{Edit, Made, Prepared, Reader};
 use std::marker::Model;
 use std::sync::Wait;
 
@@ -98,14 +98,12 @@ impl SessionSeat {
         ensures follows { (given : List (ℕ × Line)) → SeatHasRead given self.old →
             IfOk result (λ _. SeatHasRead (given ++ (number, text) ∷ []) self.new) }
     {
-        if self.reader.closed {
-            drop(text);
-            self.reader.refused += 1;
-            return Ok(Reply::Closed(None, None));
-        }
-        match self.reader.judge(text)? {
-            None => Ok(Reply::Done),
-            Some(made) => enter(rt, stage, &mut self.seat, &mut self.reader, number, made),
+        match self.reader.prepare(text)? {
+            Prepared::Refused(reply) => Ok(reply),
+            Prepared::Waits(reply) => Ok(reply),
+            Prepared::Enters(made) => {
+                enter(rt, stage, &mut self.seat, &mut self.reader, number, made)
+            }
         }
     }
 
@@ -124,8 +122,7 @@ impl SessionSeat {
     {
         if self.reader.closed {
             drop(text);
-            self.reader.refused += 1;
-            return Ok(Edit::Read(Reply::Closed(None, None)));
+            return Ok(Edit::Read(self.reader.refuse()));
         }
         self.reader.edit(text)
     }

@@ -1,6 +1,5 @@
-use Rattle.std.proofs.Common.{◌≡◌, ◌+◌, true, None, List, ap, ◌∙◌, subst, IfOk}
+use Rattle.std.proofs.Common.{◌≡◌, true, List, ap, ◌∙◌, subst, IfOk}
 use Rattle.flat_scene.specs.declared.journal.Entry.{Entry}
-use Rattle.flat_scene.specs.declared.journal.Reply.TheVariants.{Closed}
 use Rattle.flat_scene.specs.declared.setup.Setup.{Setup}
 use Rattle.flat_scene.specs.Journals.{history_of}
 use Rattle.flat_rules.specs.Owned.{is_played_line}
@@ -17,8 +16,9 @@ pub returns-then-self-clause-edits : goal.returns-then-self-clause-edits
 returns-then-self-clause-edits c =
     let seat : Seat = c.self.inside.seat in
     let reader : Reader = c.self.inside.reader in
-    let V : SessionView → Type 0 = λ v. IsReadAlone c.args.text (Closed None None) v (session_view seat (record reader { refused = reader.refused + 1 })) in
-    subst V c.self.view_is (read_closed seat reader c.args.text c.if-self.true)
+    let after : Reader = c.refuse.new.self in
+    let V : SessionView → Type 0 = λ v. IsReadAlone c.args.text c.refuse.result v (session_view seat after) in
+    subst V c.self.view_is (read_closed seat reader after c.args.text c.refuse.result c.if-self.true c.refuse.ensures.reply c.refuse.ensures.rest)
 
 pub invariant_of-self-2 : goal.invariant_of-self-2
 invariant_of-self-2 c =
