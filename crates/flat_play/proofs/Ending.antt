@@ -15,16 +15,14 @@ use Rattle.flat_scene.specs.Frames.{sessions_to}
 use Rattle.flat_scene.specs.History.{◌▹◌, own}
 use Rattle.flat_scene.specs.Interleave.{session_lines, display_lines, IsReading, IsWritten}
 use Rattle.flat_core.specs.Machines.{Machine, HasShare, entered, entry_of, made}
-use Rattle.flat_report.specs.Handed.{answers_of}
-use Rattle.flat_report.specs.Report.{finished}
 use Rattle.flat_places.specs.declared.script.Script.{Script}
 use Rattle.flat_play.specs.declared.play.Play.{Play}
 use Rattle.flat_session.specs.declared.reader.Reader.{Reader}
 use Rattle.flat_session.specs.Readings.{EndsAreRead, HasRead, Rise}
 use Rattle.flat_session.specs.Reads.{Stands}
 use Rattle.flat_playable.specs.Playable.{is_playable}
-use Rattle.flat_play.specs.Keeping.{Keeps}
-use Rattle.flat_play.proofs.lemmas.PlaySteps.{keeps_same}
+use Rattle.flat_play.specs.Storing.{StoreStands}
+use Rattle.flat_play.proofs.lemmas.Storing.{finish_the_same, stored_on}
 use Rattle.flat_play.specs.Playing.{lines_by, ReaderStands, DisplayStands, PlayStands, HasEnds, EndsStand, HasPlayed}
 use Rattle.flat_play.proofs.lemmas.Places.{all_to, drop_all, rises}
 use Rattle.flat_play.proofs.lemmas.Readers.{on_board, session_rise}
@@ -51,8 +49,7 @@ ends_first script play stands = record {
     in_order = refl;
   };
   unspent = λ k from. let spent = stands.spent.spent (k + 1) in omega arith;
-  keeps = stands.keeps;
-  answering = stands.answers.answering;
+  stored = stands.frames.stored;
 }
 
 -- ---- one session ends
@@ -139,8 +136,8 @@ module _ (ends_are_read : EndsAreRead) (script : Script) (playable : is_playable
 
       pub ends_more : (new : Play) (changed : Reader) → new.board
           ≡ entered old.board (Session reader.session) (script.count + 1) reader.pending (End reader.refused) Done
-          → new.readers.items ≡ set old.readers.items before changed → new.kept ≡ old.kept → new.answers ≡ old.answers → EndsStand script (before + 1) new
-      ends_more new changed board readers same_kept same_answers =
+          → new.readers.items ≡ set old.readers.items before changed → new.store ≡ old.store → EndsStand script (before + 1) new
+      ends_more new changed board readers same_store =
           let h : List Entry = old.board.history in
           let own_entry : entry_of (Session reader.session) (script.count + 1) reader.pending (End reader.refused) Done ≡ last =
           ap (λ (n : SessionNo). entry_of (Session n) (script.count + 1) reader.pending (End reader.refused) Done) mine.session in
@@ -155,8 +152,7 @@ module _ (ends_are_read : EndsAreRead) (script : Script) (playable : is_playable
           let D : List Entry → Type 0 = DisplayStands script (length script.lines) in
           let E : List Entry → Type 0 = HasEnds (before + 1) in
           let U : List Entry → Type 0 = λ es. (k : ℕ) → before + 1 ≤ k → made (k + 1) es ≤ lines_by (k + 1) script.lines in
-          let Q : List Entry → Type 0 = λ es. new.answers ≡ answers_of script.setup es in
-          let K : List Entry → Type 0 = λ es. Keeps script new.kept (finished script.setup es) in
+          let S : List Entry → Type 0 = λ es. StoreStands script es new.store in
           let waiting : W still (h ▹ last) = (λ k d from inside.
           let other : k ≢ before = (λ same. omega arith) in
           let there : k < length old.readers.items = omega (arith, length-set old.readers.items before changed) in
@@ -171,14 +167,13 @@ module _ (ends_are_read : EndsAreRead) (script : Script) (playable : is_playable
             display = subst D grown (let d = stands.display in record { follows = d.follows; left = d.left; closing = d.closing });
             has_ends = subst E grown more_ends;
             unspent = subst U grown still_unspent;
-            keeps = subst K grown (keeps_same script old.kept new.kept (finished script.setup h) (finished script.setup (h ▹ last)) same_kept
-                (append-nil (finished script.setup h)) stands.keeps);
-            answering = subst Q grown (same_answers ∙ stands.answering ∙ sym (append-nil (answers_of script.setup h)));
+            stored = subst S grown
+                (rw same_store (stored_on script h (h ▹ last) old.store (finish_the_same script.setup h last refl refl) stands.stored));
           }
 
 -- ---- all sessions have ended
 
-pub has_played : (script : Script) (play : Play) → EndsStand script script.setup.sessions play → HasPlayed script play.board play.kept play.answers
+pub has_played : (script : Script) (play : Play) → EndsStand script script.setup.sessions play → HasPlayed script play.board play.store.kept play.store.answers
 has_played script play stands =
     let h : List Entry = play.board.history in
     record {
@@ -188,8 +183,8 @@ has_played script play stands =
         display = stands.display.follows;
         all_read = stands.display.left ∙ ap display_lines (drop_all script.lines);
       };
-      keeps = stands.keeps;
-      answering = stands.answering;
+      keeps = stands.stored.keeps;
+      answering = stands.stored.points;
     }
 
 pub is_written : (script : Script) (play : Play) → EndsStand script script.setup.sessions play → IsWritten script.setup play.board.history

@@ -1,12 +1,9 @@
 -- The next frame, where what is shown and the pixel ratio are those of the last one.
-use Rattle.std.proofs.Common.{◌≡◌, ℕ, suc, ◌+◌, ◌<◌, Bool, true, false, cond, List, [], ◌∷◌, ◌++◌, Some, Result, Ok, Err, OnOk, sym, ap, ◌∙◌, subst, arith}
+use Rattle.std.proofs.Common.{◌≡◌, ℕ, suc, ◌+◌, ◌<◌, Bool, true, false, List, [], ◌∷◌, ◌++◌, Some, Result, Ok, Err, OnOk, sym, ap, ◌∙◌, subst, arith}
 use Rattle.std.proofs.Common.{append-nil, refl}
 use Rattle.flat_base.specs.Last.{last_item}
 use Rattle.flat_base.specs.declared.ids.FrameNo.{FrameNo}
-use Rattle.flat_scene.specs.declared.frames.DrawItem.{DrawItem}
 use Rattle.flat_scene.specs.declared.frames.FrameOut.{FrameOut}
-use Rattle.flat_scene.specs.declared.frames.SessionSet.{SessionSet}
-use Rattle.flat_scene.specs.declared.frames.ViewNode.{ViewNode}
 use Rattle.flat_scene.specs.declared.frames.ViewTree.{ViewTree}
 use Rattle.flat_scene.specs.declared.journal.Entry.{Entry}
 use Rattle.flat_scene.specs.declared.setup.Setup.{Setup}
@@ -20,21 +17,20 @@ use Rattle.flat_rules.specs.Shown.{shown_states}
 use Rattle.flat_page.proofs.lemmas.LastItems.{last-more}
 use Rattle.flat_places.specs.declared.script.Script.{Script}
 use Rattle.flat_topology.specs.Draw.{draw_list}
-use Rattle.flat_topology.specs.Shown.{Shown}
 use Rattle.flat_topology.specs.Views.{view_nodes}
 use Rattle.flat_tree.specs.Laws.{ViewsGiveTrees}
 use Rattle.flat_tree.specs.Trees.{tree_of}
-use Rattle.flat_report.specs.declared.report.HitAnswer.{HitAnswer}
-use Rattle.flat_report.specs.declared.frame_texts.FrameTexts.{FrameTexts}
-use Rattle.flat_report.specs.FrameTexts.{AreTexts, unchanged}
+use Rattle.flat_report.specs.FrameTexts.{unchanged}
 use Rattle.flat_report.specs.Report.{finished, frame_at}
 use Rattle.flat_play.specs.declared.frame.LastFrame.{LastFrame}
 use Rattle.flat_play.specs.declared.kept.Kept.{Kept}
 use Rattle.flat_play.specs.declared.kept.Kept.TheVariants as kept
 use Rattle.flat_play.specs.Keeping.{Keeps, KeepsUnchanged, KeepsMore, keeping_of}
-use Rattle.flat_play.specs.Playing.{AnswersStand, FramesStand, HasViews}
+use Rattle.flat_core.specs.declared.start.FrameStart.{FrameStart}
+use Rattle.flat_core.specs.Starts.{IsStart}
+use Rattle.flat_play.specs.Last.{EndsFrames}
 use Rattle.flat_play.proofs.Composing.{composed}
-use Rattle.flat_play.proofs.lemmas.FramesShown.{scaled, viewed}
+use Rattle.flat_play.proofs.lemmas.FramesShown.{scaled}
 use Rattle.flat_play.proofs.lemmas.Seen.{finished_by, frames_more}
 
 -- the last finished frame, where there is one
@@ -94,23 +90,21 @@ kept-unchanged script number tree old new frames last (Ok value) keeps is more =
 kept-unchanged script number tree old new frames last (Err error) keeps is more = tt
 
 -- the frame of the begin is the last one, unchanged, where it shows the same states at the same pixel ratio
-module _ (setup : Setup) (history : List Entry) (last : LastFrame) (answers : List HitAnswer) (shown : Shown) (at : ℕ) (views : SessionSet)
-    (ended : AnswersStand setup history last answers) (stands : FramesStand setup history shown at views)
-    (shows : last.reuse ≡ shown) (scales : last.ratio ≡ at) where
-  there : setup_at setup (to_finished history) ≡ at_ratio at setup
-  there = ap (λ r. at_ratio r setup) (sym ended.scaling ∙ scales)
+module _ (setup : Setup) (history : List Entry) (last : LastFrame) (start : FrameStart) (ends : EndsFrames setup history last)
+    (starts : IsStart setup history start) (shows : last.reuse ≡ start.shown) (scales : last.ratio ≡ start.ratio) where
+  there : setup_at setup (to_finished history) ≡ at_ratio start.ratio setup
+  there = ap (λ r. at_ratio r setup) (sym ends.scales ∙ scales)
 
-  states : shown_states setup (to_finished history) ≡ shown
-  states = sym ended.showing ∙ shows
+  states : shown_states setup (to_finished history) ≡ start.shown
+  states = sym ends.shows ∙ shows
 
-  pub next-unchanged : is_setup setup ≡ true → ViewsGiveTrees → HasViews setup views
-      → unchanged (record { 0 = last.frame.0 + 1 }) (tree_of (frame_at setup (frames history) (to_finished history)).tree.nodes views)
+  pub next-unchanged : is_setup setup ≡ true → ViewsGiveTrees
+      → unchanged (record { 0 = last.frame.0 + 1 }) (tree_of (frame_at setup (frames history) (to_finished history)).tree.nodes start.with_view)
       (frame_at setup (frames history) (to_finished history)) ≡ frame_at setup (frames history + 1) (to_begin history)
-  next-unchanged is_one follow none =
+  next-unchanged is_one follow =
       let was : FrameOut = frame_at setup (frames history) (to_finished history) in
-      let items : was.items ≡ draw_list (at_ratio at setup) shown = λ i. draw_list (there i) (states i) in
-      let nodes : was.tree.nodes ≡ view_nodes (at_ratio at setup) shown = λ i. view_nodes (there i) (states i) in
-      ap (λ (n : ℕ). unchanged (record { 0 = n + 1 }) (tree_of was.tree.nodes views) was) ended.number
-      ∙ composed setup (to_begin history) shown views at (scaled setup (to_begin history) at stands.scaling) stands.showing
-      (viewed setup history shown at views stands none) (frames history + 1) was.items was.tree.nodes (tree_of was.tree.nodes views) is_one follow items
-      nodes refl
+      let items : was.items ≡ draw_list (at_ratio start.ratio setup) start.shown = (λ i. draw_list (there i) (states i)) in
+      let nodes : was.tree.nodes ≡ view_nodes (at_ratio start.ratio setup) start.shown = (λ i. view_nodes (there i) (states i)) in
+      ap (λ (n : ℕ). unchanged (record { 0 = n + 1 }) (tree_of was.tree.nodes start.with_view) was) ends.number
+      ∙ composed setup (to_begin history) start.shown start.with_view start.ratio (scaled setup (to_begin history) start.ratio starts.scales) starts.shows
+      starts.views (frames history + 1) was.items was.tree.nodes (tree_of was.tree.nodes start.with_view) is_one follow items nodes refl

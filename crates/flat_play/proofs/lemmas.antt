@@ -1,6 +1,7 @@
 -- Lemmas that other crates may cite.
 pub mod Alone
 pub mod Begun
+pub mod Beside
 pub mod DisplaySteps
 pub mod FewViews
 pub mod FramesShown
@@ -13,4 +14,5 @@ pub mod Seen
 pub mod Slots
 pub mod Starting
 pub mod Steps
+pub mod Storing
 pub mod Unread

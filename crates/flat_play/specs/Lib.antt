@@ -6,5 +6,6 @@ pub mod Last
 pub mod Playing
 pub mod Probing
 pub mod Showing
+pub mod Storing
 pub mod Touches
 pub mod Touching

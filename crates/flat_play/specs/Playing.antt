@@ -1,5 +1,5 @@
 -- How a session stands at a place of the script.
-use Rattle.std.specs.Prelude.{◌≡◌, ℕ, ℤ, Bool, ◌+◌, ◌<◌, ◌≤◌, ◌==◌, true, false, List, [], ◌∷◌, ◌++◌, length, take}
+use Rattle.std.specs.Prelude.{◌≡◌, ℕ, Bool, ◌+◌, ◌<◌, ◌≤◌, ◌==◌, true, false, List, [], ◌∷◌, ◌++◌, length, take}
 use Rattle.std.specs.Prelude.{drop, map, reverse, count_by, slice_index, slice_index_or, slice_set, Option, Some, None}
 use Rattle.std.specs.List.{AllByRecursion}
 use Rattle.std.specs.List.Sorted.{IsStrictlyIncreasing}
@@ -11,30 +11,23 @@ use Rattle.flat_scene.specs.declared.script.DisplayLine.{DisplayLine}
 use Rattle.flat_scene.specs.declared.script.DisplayLine.TheVariants as display
 use Rattle.flat_base.specs.declared.ids.SessionNo.{SessionNo}
 use Rattle.flat_scene.specs.declared.journal.Entry.{Entry}
-use Rattle.flat_scene.specs.declared.journal.Kind.{Kind}
-use Rattle.flat_scene.specs.declared.journal.Kind.TheVariants.{Begin, Finish, Hit}
-use Rattle.flat_scene.specs.declared.journal.Reply.{Reply}
+use Rattle.flat_scene.specs.declared.journal.Kind.TheVariants.{Begin, Finish}
 use Rattle.flat_scene.specs.declared.script.Line.{Line}
 use Rattle.flat_scene.specs.declared.script.ScriptLine.{ScriptLine}
 use Rattle.flat_scene.specs.declared.setup.Setup.{Setup}
-use Rattle.flat_scene.specs.declared.frames.SessionSet.{SessionSet}
 use Rattle.flat_scene.specs.Frames.{ratio, sessions_to}
 use Rattle.flat_scene.specs.History.{own, is_end}
 use Rattle.flat_scene.specs.Journals.{seat_number}
 use Rattle.flat_scene.specs.Interleave.{session_lines, display_lines, by_display, unread_lines, last_line}
-use Rattle.flat_scene.specs.Interleave.{FollowsDisplay, Interleaves, IsReading}
-use Rattle.flat_scene.specs.Setups.{at_ratio, is_declared}
+use Rattle.flat_scene.specs.Interleave.{FollowsDisplay, Interleaves, IsReading, entry_of_display}
 use Rattle.flat_core.specs.Machines.{Machine, entered, made}
-use Rattle.flat_rules.specs.Ends.{to_begin, to_finished, has_view}
-use Rattle.flat_rules.specs.Legal.{is_frame_open, begin_time, frames}
+use Rattle.flat_core.specs.Starts.{StartsFrame}
+use Rattle.flat_rules.specs.Ends.{to_finished}
+use Rattle.flat_rules.specs.Legal.{is_frame_open, begin_time, frames, reply_to}
 use Rattle.flat_rules.specs.Shown.{shown_states}
-use Rattle.flat_topology.specs.Changes.{AreSame}
-use Rattle.flat_topology.specs.Hits.{hit_list}
-use Rattle.flat_topology.specs.Shown.{Shown}
-use Rattle.flat_topology.specs.Members.{is_member}
 use Rattle.flat_report.specs.declared.report.HitAnswer.{HitAnswer}
 use Rattle.flat_report.specs.Handed.{answers_of}
-use Rattle.flat_report.specs.Report.{finished, frame_at}
+use Rattle.flat_report.specs.Report.{finished}
 use Rattle.flat_places.specs.declared.script.Script.{Script}
 use Rattle.flat_session.specs.declared.reader.Reader.{Reader}
 use Rattle.flat_session.specs.Readings.{HasRead}
@@ -42,8 +35,9 @@ use Rattle.flat_session.specs.Reads.{IsNew, Stands}
 use Rattle.flat_play.specs.declared.play.Play.{Play}
 use Rattle.flat_play.specs.declared.frame.LastFrame.{LastFrame}
 use Rattle.flat_play.specs.declared.kept.Kept.{Kept}
-use Rattle.flat_play.specs.Keeping.{Keeps, KeepsMore}
-use Rattle.flat_play.specs.Last.{IsLast, StaysLast}
+use Rattle.flat_play.specs.Keeping.{Keeps}
+use Rattle.flat_play.specs.Last.{IsLast}
+use Rattle.flat_play.specs.Storing.{AnswersLine, FinishesNext, FramesStand, StoreStands}
 use Rattle.flat_playable.specs.Playable.{frames_close}
 
 -- ---- a session at a place
@@ -95,14 +89,6 @@ pub record DisplayStands (script : Script) (place : ℕ) (history : List Entry) 
   pub left : unread_lines (by_display history) (display_lines script.lines) ≡ display_lines (drop place script.lines)
   pub closing : frames_close (is_frame_open history) (begin_time history) (drop place script.lines) ≡ true
 
--- What is shown is that of the last begin, and so is the pixel ratio.
-pub record FramesStand (setup : Setup) (history : List Entry) (shown : Shown) (at : ℕ) (with_view : SessionSet) : Type 0
-  where
-    pub showing : shown ≡ shown_states setup (to_begin history)
-    pub scaling : at ≡ ratio setup (to_begin history)
-    pub viewing : (s : SessionNo) → is_declared setup s ≡ true
-        → is_member with_view s.0 ≡ has_view setup (to_begin history) s
-
 -- The last finished frame is known, and the points that were asked for are answered.
 pub record AnswersStand (setup : Setup) (history : List Entry) (last : LastFrame) (answers : List HitAnswer) : Type 0
   where
@@ -111,10 +97,6 @@ pub record AnswersStand (setup : Setup) (history : List Entry) (last : LastFrame
     pub showing : last.reuse ≡ shown_states setup (to_finished history)
     pub scaling : last.ratio ≡ ratio setup (to_finished history)
     pub answering : answers ≡ answers_of setup history
-
--- a set of sessions has none beyond those of the setup
-abbrev pub HasViews : Setup → SessionSet → Type 0
-HasViews setup views = (s : ℕ) → setup.sessions < s → is_member views s ≡ false
 
 -- All readers stand at a place.
 pub record ReadersStand (script : Script) (place : ℕ) (history : List Entry) (readers : List Reader) : Type 0 where
@@ -130,42 +112,31 @@ pub record PlayStands (script : Script) (place : ℕ) (play : Play) : Type 0 whe
   pub display : DisplayStands script place play.board.history
   pub order : IsInOrder script place play.board.history
   pub spent : IsSpent script place play.board.history
-  pub views : HasViews script.setup play.with_view
-  pub shows : FramesStand script.setup play.board.history play.shown play.ratio play.with_view
-  pub keeps : Keeps script play.kept (finished script.setup play.board.history)
-  pub same : AreSame play.changed play.last.reuse play.shown
-  pub answers : AnswersStand script.setup play.board.history play.last play.answers
+  pub frames : FramesStand script play.board.history play.start play.store
 
 -- ---- what the display does to a run
 
--- A frame begins: it shows what the sessions show from then on, at the pixel ratio of its begin.
+-- A frame begins.
 pub record BeginsFrame (old new : Play) (number time : ℕ) : Type 0 where
   pub board : new.board ≡ entered old.board Display number [] (Begin time) Done
-  pub shown : new.shown ≡ shown_states new.board.setup new.board.history
-  pub scaling : new.ratio ≡ ratio new.board.setup new.board.history
-  pub changed : AreSame new.changed old.shown new.shown
-  pub viewing : (s : SessionNo) → is_declared new.board.setup s ≡ true
-      → is_member new.with_view s.0 ≡ has_view new.board.setup new.board.history s
-  pub views : HasViews new.board.setup new.with_view
+  pub start : StartsFrame new.board.setup new.board.history old.start new.start
   pub readers : new.readers ≡ old.readers
-  pub kept : new.kept ≡ old.kept
-  pub last : new.last ≡ old.last
-  pub answers : new.answers ≡ old.answers
+  pub store : new.store ≡ old.store
 
 -- A frame is finished, and kept.
 pub record FinishesFrame (script : Script) (old new : Play) (number : ℕ) : Type 0 where
   pub board : new.board ≡ entered old.board Display number [] Finish Done
-  pub shown : new.shown ≡ old.shown
-  pub ratio : new.ratio ≡ old.ratio
-  pub with_view : new.with_view ≡ old.with_view
+  pub start : new.start ≡ old.start
   pub readers : new.readers ≡ old.readers
-  pub kept : KeepsMore script (frame_at script.setup (frames new.board.history) (to_begin old.board.history)) old.kept
-      new.kept
-  pub shows : new.last.frame.0 ≡ frames new.board.history
-  pub is_last : IsLast old.board.setup new.last
-  pub showing : new.last.reuse ≡ old.shown
-  pub scaling : new.last.ratio ≡ old.ratio
-  pub answers : new.answers ≡ old.answers
+  pub store : FinishesNext script old.board.history old.start old.store new.store
+
+-- The display makes the entry of a line that begins no frame and ends none. If it asks for a point, this is answered.
+pub record EntersBeside (old new : Play) (number : ℕ) (text : DisplayLine) : Type 0 where
+  pub board : new.board ≡ entered old.board Display number [] (entry_of_display text)
+      (reply_to old.board.setup old.board.history Display [] (entry_of_display text))
+  pub start : new.start ≡ old.start
+  pub readers : new.readers ≡ old.readers
+  pub store : AnswersLine old.board.setup number text old.store new.store
 
 -- a line of the display that leaves frames and points alone
 abbrev pub is_alone : DisplayLine → Bool
@@ -173,39 +144,6 @@ is_alone (display.Signal f) = true
 is_alone (display.Wait c) = true
 is_alone (display.Dpr ratio) = true
 is_alone _ = false
-
--- The display makes an entry that begins no frame and ends none.
-pub record EntersBeside (old new : Play) (number : ℕ) (kind : Kind) (reply : Reply) : Type 0 where
-  pub board : new.board ≡ entered old.board Display number [] kind reply
-  pub shown : new.shown ≡ old.shown
-  pub ratio : new.ratio ≡ old.ratio
-  pub changed : new.changed ≡ old.changed
-  pub with_view : new.with_view ≡ old.with_view
-  pub readers : new.readers ≡ old.readers
-  pub kept : new.kept ≡ old.kept
-  pub last : new.last ≡ old.last
-  pub answers : new.answers ≡ old.answers
-
--- the answer to a point that the display asks for, by the last finished frame
-abbrev pub point_answer : Setup → LastFrame → ℕ → ℤ → ℤ → HitAnswer
-point_answer setup last number x y = record {
-  actor = Display;
-  line = number;
-  frame = last.frame;
-  hits = hit_list (at_ratio last.ratio setup) last.reuse x y;
-}
-
--- The display asks for a point, and is answered by the last finished frame.
-pub record AsksPoint (old new : Play) (number : ℕ) (x y : ℤ) : Type 0 where
-  pub board : new.board ≡ entered old.board Display number [] (Hit x y) Done
-  pub shown : new.shown ≡ old.shown
-  pub ratio : new.ratio ≡ old.ratio
-  pub changed : new.changed ≡ old.changed
-  pub with_view : new.with_view ≡ old.with_view
-  pub readers : new.readers ≡ old.readers
-  pub kept : new.kept ≡ old.kept
-  pub last : StaysLast old.board.setup old.last new.last
-  pub answers : new.answers ≡ old.answers ++ point_answer old.board.setup old.last number x y ∷ []
 
 -- the line of a session that a body is, and the line of the display
 abbrev pub session_text : Body → Option Line
@@ -247,8 +185,7 @@ pub record EndsStand (script : Script) (ended : ℕ) (play : Play) : Type 0 wher
   pub display : DisplayStands script (length script.lines) play.board.history
   pub has_ends : HasEnds ended play.board.history
   pub unspent : (k : ℕ) → ended ≤ k → made (k + 1) play.board.history ≤ lines_by (k + 1) script.lines
-  pub keeps : Keeps script play.kept (finished script.setup play.board.history)
-  pub answering : play.answers ≡ answers_of script.setup play.board.history
+  pub stored : StoreStands script play.board.history play.store
 
 -- A script was run to its end: the history interleaves the script's actors, what is kept of frames is that of those
 -- that it finishes, and the answers are those to the points that it asks for.

@@ -6,12 +6,10 @@ ghost use Rattle.flat_places.specs.declared.script.Script.{Script};
 ghost use Rattle.flat_scene.specs.declared.journal.Entry.{Entry};
 ghost use Rattle.flat_scene.specs.Heads.{is_setup};
 ghost use Rattle.flat_rules.specs.Legal.{frames};
-ghost use Rattle.flat_report.specs.Report.{finished};
 ghost use Rattle.flat_why.specs.Text.{why_text};
 ghost use Rattle.flat_play.specs.Explaining.{StandsExplained, ToldExplained, is_film, is_on};
 ghost use Rattle.flat_play.specs.declared.explaining.Explaining.TheVariants as explaining;
-ghost use Rattle.flat_play.specs.Keeping.{Keeps};
-ghost use Rattle.flat_play.specs.Playing.{FramesStand};
+ghost use Rattle.flat_play.specs.Storing.{FramesStand};
 ghost use Rattle.flat_play.specs.Touching.{GoesOnAt};
 
 use crate::play::Play;
@@ -46,14 +44,11 @@ impl Explaining {
     ) -> Result<(), NoMemory>
         requires setup { is_setup script.now.setup ≡ true }
         requires of { play.now.board.setup ≡ script.now.setup }
-        requires shows { FramesStand script.now.setup play.now.board.history play.now.shown
-            play.now.ratio play.now.with_view }
-        requires keeps { Keeps script.now play.now.kept
-            (finished script.now.setup play.now.board.history) }
+        requires frames { FramesStand script.now play.now.board.history play.now.start
+            play.now.store }
         requires before { (old : List Entry) × (number : ℕ) × (length old ≡ entries)
             × GoesOnAt number old play.now.board.history
             × StandsExplained script.now old self.old × (frames old ≡ frame.0) }
-        requires number { play.now.last.frame.0 ≡ frames play.now.board.history }
         ensures stands { OnOk result (StandsExplained script.now play.now.board.history
             self.new) }
         ensures on { OnOk result (is_on self.new ≡ is_on self.old) }
@@ -65,15 +60,16 @@ impl Explaining {
                 if play.board.journal().entries.len() == entries {
                     return Ok(());
                 }
-                let frame = play.kept.last();
-                whys.note(alloc, script, &play.board, play.ratio, &play.shown, frame)
+                let start = &play.start;
+                let frame = play.store.kept.last();
+                whys.note(alloc, script, &play.board, start.ratio, &start.shown, frame)
             }
             Explaining::Film(film) => {
-                if play.last.frame.0 == frame.0 {
+                if play.store.last.frame.0 == frame.0 {
                     return Ok(());
                 }
                 items_are_drawable();
-                match play.kept.last() {
+                match play.store.kept.last() {
                     Some(frame) => film.push(frame),
                     None => unreachable!(),
                 }

@@ -23,12 +23,14 @@ ghost use Rattle.flat_report.specs.Report.{frame_at};
 ghost use Rattle.flat_core.specs.Views.{AreViewed};
 ghost use Rattle.flat_places.specs.declared.script.Script.{Script};
 ghost use Rattle.flat_play.specs.Keeping.{Keeps};
+ghost use Rattle.flat_core.specs.Starts.{IsStart};
 ghost use Rattle.flat_play.specs.Last.{IsJoined};
+ghost use Rattle.flat_rules.specs.Ends.{to_begin};
 ghost use Rattle.flat_play.specs.Probing.{answer_of};
 
 use crate::kept::Kept;
 use flat_base::{Actor, FrameNo, NoMemory};
-use flat_core::shown_states_fit;
+use flat_core::{FrameStart, shown_states_fit};
 use flat_display::{Display, DisplaySet};
 use flat_hit::Touchable;
 use flat_report::ProbeAnswer;
@@ -84,7 +86,7 @@ fn has_any(set: &SessionSet) -> bool
 }
 
 impl LastFrame {
-    ghost use Rattle.flat_play.specs.Last.{IsLast, StaysLast};
+    ghost use Rattle.flat_play.specs.Last.{IsLast, MayFollow, ShowsStart, StaysLast};
 
     /// No frame: nothing is shown.
     pub fn none(alloc: Global, setup: &Setup) -> Result<LastFrame, NoMemory>
@@ -149,17 +151,48 @@ impl LastFrame {
         })
     }
 
-    /// Whether the next frame has the items of this one: no session changed, and the pixel
-    /// ratio is the same.
-    pub fn stays(&self, changed: &SessionSet, ratio: u32) -> bool
-        ensures shown { (shown : Shown) → length self.now.reuse ≡ length shown →
-            AreSame changed.now self.now.reuse shown → IsTrue result → self.now.reuse ≡ shown }
-        ensures ratio { IsTrue result → self.now.ratio ≡ ratio }
+    /// The next frame, composed as it starts. What is kept is that of the next frame from then
+    /// on, but for its number.
+    pub fn compose(
+        &mut self,
+        alloc: Global,
+        setup: &Setup,
+        start: &FrameStart,
+    ) -> Result<FrameOut, NoMemory>
+        requires setup { is_setup setup.now ≡ true }
+        requires follows { MayFollow setup.now start.now self.old }
+        ensures frame { (history : List Entry) → IsStart setup.now history start.now →
+            IfOk result (λ frame. frame
+            ≡ frame_at setup.now (self.old.frame.0 + 1) (to_begin history)) }
+        ensures shows { OnOk result (ShowsStart setup.now start.now self.new) }
+        ensures number { self.new.frame ≡ self.old.frame }
     {
-        if has_any(changed) {
+        self.compose_next(
+            alloc,
+            setup,
+            start.ratio,
+            &start.shown,
+            start.changed,
+            start.with_view,
+        )
+    }
+
+    /// Whether there is a frame, and the next one has its items: no session changed, and the
+    /// pixel ratio is the same.
+    pub(crate) fn stays(&self, start: &FrameStart) -> bool
+        ensures some { IsTrue result → 0 < self.now.frame.0 }
+        ensures shown { length self.now.reuse ≡ length start.now.shown →
+            AreSame start.now.changed self.now.reuse start.now.shown → IsTrue result →
+            self.now.reuse ≡ start.now.shown }
+        ensures ratio { IsTrue result → self.now.ratio ≡ start.now.ratio }
+    {
+        if self.frame.0 == 0 {
             return false;
         }
-        self.ratio == ratio
+        if has_any(&start.changed) {
+            return false;
+        }
+        self.ratio == start.ratio
     }
 
     /// What is joined of it, taken out; nothing where a session is one of these, or this

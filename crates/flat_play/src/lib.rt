@@ -1,8 +1,8 @@
 //! The play of a script in written order: its lines are read over one board, its frames
 //! composed and shown to displays, and lines of pointers and probes answered in between.
-//! It keeps `HasPlayed` (specs/Playing): run.rt goes through the lines, play.rt plays each,
-//! next_frame.rt makes the next frame, frame.rt composes it and answers points, and kept.rt has
-//! what stays of the frames.
+//! It keeps `HasPlayed` (specs/Playing): run.rt goes through the lines, play.rt plays each.
+//! A `FrameStore` (store.rt, specs/Storing) has what is kept of the frames: frame.rt composes
+//! the next one and answers points, kept.rt has what is written of them.
 //!
 //! Other crates may cite the lemmas of proofs/lemmas/: lines that leave frames alone (Alone),
 //! lines at their places (Places,
@@ -16,10 +16,10 @@ mod explaining;
 mod filming;
 mod frame;
 mod kept;
-mod next_frame;
 mod play;
 mod probes;
 mod run;
+mod store;
 mod touches;
 mod trees;
 
@@ -28,3 +28,4 @@ pub use frame::{LastFrame, show_last};
 pub use kept::{Keeping, Kept};
 pub use play::Play;
 pub use run::{Played, let_go, open_board, play_explained, play_script, play_touched};
+pub use store::FrameStore;

@@ -21,20 +21,19 @@ ghost use Rattle.flat_pointer.specs.Lines.{rise_after};
 ghost use Rattle.flat_play.specs.Showing.{HaveSeen};
 
 use crate::explaining::Explaining;
-use crate::frame::LastFrame;
 use crate::kept::{Keeping, Kept};
 use crate::play::Play;
 use crate::probes::{answer_line, no_answers};
+use crate::store::FrameStore;
 use crate::touches::{answer_all, answer_upto};
 use flat_base::{Actor, NoMemory, SessionNo, ShareList, TryCopy};
-use flat_core::{Board, shown_states_fit};
+use flat_core::{Board, FrameStart};
 use flat_display::{Display, DisplaySet};
 use flat_places::Script;
 use flat_pointer::{PointerLine, Touch};
 use flat_report::{HitAnswers, ProbeAnswers};
-use flat_scene::{SessionSet, Setup};
+use flat_scene::Setup;
 use flat_session::{Reader, lines_are_read};
-use flat_topology::Shown;
 use flat_why::Whys;
 use std::alloc::Global;
 
@@ -106,25 +105,19 @@ pub fn open_board(alloc: Global, script: &Script) -> Result<Board, NoMemory>
 fn start(alloc: Global, script: &Script, keeping: Keeping) -> Result<Play, NoMemory>
     requires { is_playable script.now ≡ true }
     ensures stands { IfOk result (λ play. PlayStands script.now 0 play) }
-    ensures keeping { IfOk result (λ play. keeping_of play.kept ≡ keeping) }
+    ensures keeping { IfOk result (λ play. keeping_of play.store.kept ≡ keeping) }
     ensures no_entry { IfOk result (λ play. play.board.history ≡ []) }
 {
     lines_are_read();
-    shown_states_fit();
     let readers = new_readers(alloc, &script.setup)?;
-    let shown = Shown::new(alloc, script.setup.sessions)?;
-    let last = LastFrame::none(alloc, &script.setup)?;
+    let start = FrameStart::new(alloc, &script.setup)?;
+    let store = FrameStore::new(alloc, script, keeping)?;
     let board = open_board(alloc, script)?;
     Ok(Play {
         board,
         readers,
-        shown,
-        changed: SessionSet { has: [false; 16] },
-        ratio: script.setup.ratio,
-        with_view: SessionSet { has: [false; 16] },
-        kept: Kept::new(alloc, keeping),
-        last,
-        answers: HitAnswers::new(alloc),
+        start,
+        store,
     })
 }
 
@@ -163,7 +156,8 @@ fn play_each(
         explaining.new) }
     ensures on { OnOk result (is_on explaining.new ≡ is_on explaining.old) }
     ensures film { OnOk result (is_film explaining.new ≡ is_film explaining.old) }
-    ensures keeping { OnOk result (keeping_of play.new.kept ≡ keeping_of play.old.kept) }
+    ensures keeping { OnOk result (keeping_of play.new.store.kept
+        ≡ keeping_of play.old.store.kept) }
     ensures seen { OnOk result (HaveSeen (λ d. shown d) (λ d. faults d)
         (finished script.now.setup play.new.board.history) play.new.board.history set.new.lost
         displays.old.items displays.new.items) }
@@ -176,10 +170,10 @@ fn play_each(
         // proof: the entries so far are legal.
         let _journal = play.board.journal();
         let line = script.lines.at(place);
-        left = answer_upto(alloc, setup, &mut play.last, left, line.number, found)?;
-        answer_line(alloc, setup, &mut play.last, line, answers)?;
+        left = answer_upto(alloc, setup, &mut play.store.last, left, line.number, found)?;
+        answer_line(alloc, setup, &mut play.store.last, line, answers)?;
         let entries = play.board.journal().entries.len();
-        let frame = play.last.frame;
+        let frame = play.store.last.frame;
         play.play_line(alloc, script, place, set, displays)?;
         // proof: and so are they with those of the line.
         let _journal = play.board.journal();
@@ -187,7 +181,7 @@ fn play_each(
     }
     // proof: so are all of them.
     let _journal = play.board.journal();
-    answer_all(alloc, setup, &mut play.last, left, found)?;
+    answer_all(alloc, setup, &mut play.store.last, left, found)?;
     Ok(())
 }
 
@@ -227,7 +221,7 @@ fn play_lines(
         explaining.new) }
     ensures on { OnOk result (is_on explaining.new ≡ is_on explaining.old) }
     ensures film { OnOk result (is_film explaining.new ≡ is_film explaining.old) }
-    ensures keeping { IfOk result (λ ran. keeping_of ran.play.kept ≡ keeping) }
+    ensures keeping { IfOk result (λ ran. keeping_of ran.play.store.kept ≡ keeping) }
     ensures seen { IfOk result (λ ran. HaveSeen (λ d. shown d) (λ d. faults d)
         (finished script.now.setup ran.play.board.history) ran.play.board.history set.new.lost
         displays.old.items displays.new.items) }
@@ -351,14 +345,14 @@ pub(crate) fn play_whole(
     let Play {
         board,
         readers: _,
-        shown: _,
-        changed: _,
-        ratio: _,
-        with_view: _,
+        start: _,
+        store,
+    } = play;
+    let FrameStore {
         kept,
         last: _,
         answers,
-    } = play;
+    } = store;
     let played = Played {
         board,
         kept,

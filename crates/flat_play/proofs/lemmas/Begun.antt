@@ -7,7 +7,6 @@ use Rattle.flat_scene.specs.declared.journal.Entry.{Entry}
 use Rattle.flat_scene.specs.declared.script.Line.{Line}
 use Rattle.flat_scene.specs.declared.script.ScriptLine.{ScriptLine}
 use Rattle.flat_scene.specs.declared.setup.Setup.{Setup}
-use Rattle.flat_scene.specs.Frames.{sessions_to}
 use Rattle.flat_scene.specs.History.{own, is_session}
 use Rattle.flat_scene.specs.Interleave.{Follows, session_line, session_lines}
 use Rattle.flat_rules.specs.Legal.{Legal}
@@ -15,10 +14,10 @@ use Rattle.flat_report.specs.Report.{finished}
 use Rattle.flat_places.specs.declared.script.Script.{Script}
 use Rattle.flat_playable.specs.Playable.{is_playable}
 use Rattle.flat_session.specs.declared.reader.Reader.{Reader}
-use Rattle.flat_session.specs.Readings.{HasReadBy, Rise}
+use Rattle.flat_session.specs.Readings.{Rise}
 use Rattle.flat_play.specs.declared.play.Play.{Play}
-use Rattle.flat_play.specs.Beginning.{Begins, AreBegun}
-use Rattle.flat_play.specs.Playing.{PlayStands, ReaderStands}
+use Rattle.flat_play.specs.Beginning.{AreBegun}
+use Rattle.flat_play.specs.Playing.{PlayStands}
 use Rattle.flat_play.proofs.lemmas.Places.{all_to, rises}
 use Rattle.flat_play.proofs.lemmas.Readers.{session_rise}
 

@@ -4,10 +4,8 @@ use Rattle.std.proofs.Common.{◌∙◌, subst, arith, append-nil}
 use Rattle.std.proofs.lemmas.Grind.{common_steps}
 use Rattle.flat_base.specs.declared.ids.Actor.TheVariants.{Display}
 use Rattle.flat_base.specs.declared.ids.FenceNo.{FenceNo}
-use Rattle.flat_base.specs.declared.ids.SessionNo.{SessionNo}
 use Rattle.flat_base.specs.declared.ids.FrameNo.{FrameNo}
 use Rattle.flat_scene.specs.declared.frames.Hit as point
-use Rattle.flat_scene.specs.declared.frames.SessionSet.{SessionSet}
 use Rattle.flat_scene.specs.declared.journal.Entry.{Entry}
 use Rattle.flat_scene.specs.declared.journal.Kind.{Kind}
 use Rattle.flat_scene.specs.declared.journal.Kind.TheVariants.{Begin, Dpr, Finish, End, Hit, Signal, Wait}
@@ -26,21 +24,23 @@ use Rattle.flat_scene.specs.declared.setup.Setup.{Setup}
 use Rattle.flat_scene.specs.History.{◌▹◌, is_display, is_begin, is_finish, is_end}
 use Rattle.flat_scene.specs.Interleave.{display_lines, display_line, by_display, unread_lines, entry_of_display, FollowsDisplay}
 use Rattle.flat_scene.specs.Frames.{ratio}
-use Rattle.flat_scene.specs.Setups.{at_ratio, is_declared, is_ratio}
+use Rattle.flat_scene.specs.Setups.{at_ratio, is_ratio}
 use Rattle.flat_core.specs.Machines.{Machine, MayCall, HasShare, entry_of}
-use Rattle.flat_rules.specs.Ends.{to_begin, to_finished, has_view}
+use Rattle.flat_rules.specs.Ends.{to_begin, to_finished}
 use Rattle.flat_rules.specs.Legal.{is_frame_open, begin_time, frames, display_owns, names_declared, display_may}
 use Rattle.flat_rules.specs.Shown.{shown_states}
 use Rattle.flat_topology.specs.Hits.{hit_list}
-use Rattle.flat_topology.specs.Shown.{Shown}
-use Rattle.flat_topology.specs.Members.{is_member}
 use Rattle.flat_report.specs.declared.report.HitAnswer.{HitAnswer}
 use Rattle.flat_report.specs.Handed.{answer_to, answers_of}
 use Rattle.flat_report.specs.Report.{finished, frame_at, hits_at}
 use Rattle.flat_places.specs.declared.script.Script.{Script}
 use Rattle.flat_playable.specs.Playable.{frames_close, keeps_frames}
 use Rattle.flat_rules.specs.Owned.{is_played_display}
-use Rattle.flat_play.specs.Playing.{DisplayStands, FramesStand, IsSpent, lines_by, rest_shares, AnswersStand}
+use Rattle.flat_play.specs.Playing.{DisplayStands, IsSpent, lines_by, rest_shares, AnswersStand}
+use Rattle.flat_play.specs.Storing.{FramesStand}
+use Rattle.flat_play.specs.declared.store.FrameStore.{FrameStore}
+use Rattle.flat_play.proofs.lemmas.Storing.{frames_beside}
+use Rattle.flat_core.specs.declared.start.FrameStart.{FrameStart}
 use Rattle.flat_play.specs.declared.frame.LastFrame.{LastFrame}
 use Rattle.flat_play.specs.Last.{IsLast, StaysLast}
 use Rattle.flat_play.proofs.Displayed.{display_more}
@@ -305,35 +305,14 @@ pub finished-session : (setup : Setup) (old new : List Entry) → QuietStep old 
 finished-session setup old new (same now) = ap (finished setup) now
 finished-session setup old new (more e other quiet now) = ap (finished setup) now ∙ finished-beside setup old e (quiet_finish e.kind quiet)
 
-module _ (setup : Setup) (old : List Entry) (shown : Shown) (at : ℕ) (views : SessionSet) (stands : FramesStand setup old shown at views) where
-  -- an entry that begins no frame and ends none
-  pub frames_beside : (e : Entry) → is_begin e.kind ≡ false → FramesStand setup (old ▹ e) shown at views
-  frames_beside e no_begin =
-      let begun : to_begin (old ▹ e) ≡ to_begin old = rw no_begin refl in
-      record {
-        showing = stands.showing ∙ ap (shown_states setup) (sym begun);
-        scaling = stands.scaling ∙ ap (ratio setup) (sym begun);
-        viewing = λ s declared. stands.viewing s declared ∙ ap (λ h. has_view setup h s) (sym begun);
-      }
-
-  pub frames_session : (new : List Entry) → QuietStep old new → FramesStand setup new shown at views
-  frames_session new (same now) = let P : List Entry → Type 0 = λ h. FramesStand setup h shown at views in subst P (sym now) stands
-  frames_session new (more e other quiet now) = let P : List Entry → Type 0 =
-      λ h. FramesStand setup h shown at views in subst P (sym now) (frames_beside e (quiet_begin e.kind quiet))
-
-  pub frames_begin : (n time : ℕ) (new_shown : Shown) (new_at : ℕ) (new_views : SessionSet)
-      → new_shown ≡ shown_states setup (old ▹ entry_of Display n [] (Begin time) Done)
-      → new_at ≡ ratio setup (old ▹ entry_of Display n [] (Begin time) Done)
-      → ((s : SessionNo) → is_declared setup s ≡ true → is_member new_views s.0 ≡ has_view setup (old ▹ entry_of Display n [] (Begin time) Done) s)
-      → FramesStand setup (old ▹ entry_of Display n [] (Begin time) Done) new_shown new_at new_views
-  frames_begin n time new_shown new_at new_views shows scales views_are = record {
-    showing = shows;
-    scaling = scales;
-    viewing = views_are;
-  }
-
-  pub frames_done : (n : ℕ) → FramesStand setup (old ▹ entry_of Display n [] Finish Done) shown at views
-  frames_done n = record { showing = stands.showing; scaling = stands.scaling; viewing = stands.viewing }
+-- what a session enters leaves what is shown and kept of frames
+pub frames_session : (script : Script) (old new : List Entry) (start : FrameStart) (store : FrameStore) → QuietStep old new
+    → FramesStand script old start store → FramesStand script new start store
+frames_session script old new start store (same now) stands = subst (λ (h : List Entry). FramesStand script h start store) (sym now) stands
+frames_session script old new start store (more e other quiet now) stands =
+    subst (λ (h : List Entry). FramesStand script h start store) (sym now)
+    (frames_beside script old start store e (quiet_begin e.kind quiet) (quiet_finish e.kind quiet)
+    (quiet_answers e (frames old) (hits_at script.setup (to_finished old)) e.kind quiet) stands)
 
 -- ---- answers
 

@@ -1,9 +1,8 @@
 -- What is shown at a place, and how many frames there may be.
-use Rattle.std.proofs.Common.{◌≡◌, ℕ, ◌+◌, ◌≤◌, Bool, true, false, cond, ◌&&◌, ◌||◌, not, ◌==◌, List, [], length, sym, ap, ◌∙◌, subst, arith, refl}
+use Rattle.std.proofs.Common.{◌≡◌, ℕ, ◌+◌, ◌≤◌, Bool, true, false, cond, ◌&&◌, ◌||◌, not, ◌==◌, List, [], sym, ap, ◌∙◌, arith, refl}
 use Rattle.std.proofs.lemmas.Grind.{common_steps}
 use Rattle.flat_base.specs.declared.ids.Actor.{Actor}
 use Rattle.flat_base.specs.declared.ids.Actor.TheVariants.{Display, Session, Probe}
-use Rattle.flat_scene.specs.declared.frames.SessionSet.{SessionSet}
 use Rattle.flat_scene.specs.declared.journal.Entry.{Entry}
 use Rattle.flat_scene.specs.declared.setup.Setup.{Setup}
 use Rattle.flat_scene.specs.History.{◌▹◌, is_begin, is_finish}
@@ -12,28 +11,13 @@ use Rattle.flat_scene.specs.Frames.{ratio, setup_at}
 use Rattle.flat_scene.specs.Setups.{at_ratio, is_declared}
 use Rattle.flat_core.specs.Machines.{made}
 use Rattle.flat_rules.specs.Ends.{to_begin, to_finished}
-use Rattle.flat_rules.specs.Laws.{BegunStatesFit, EachSessionHasOneState}
 use Rattle.flat_rules.specs.Legal.{Legal, frames, is_frame_open, may_act, session_may}
-use Rattle.flat_topology.specs.Fit.{FitsSetup}
-use Rattle.flat_topology.specs.Shown.{Shown}
-use Rattle.flat_core.specs.Views.{AreViewed}
-use Rattle.flat_play.specs.Playing.{FramesStand, HasViews}
 use Rattle.flat_rules.proofs.lemmas.FrameKinds.{not-finish}
 use Rattle.flat_base.proofs.lemmas.Tests.{and-left}
 
 -- the setup at a pixel ratio that is the one after a history
 pub scaled : (setup : Setup) (history : List Entry) (at : ℕ) → at ≡ ratio setup history → at_ratio at setup ≡ setup_at setup history
 scaled setup history at is = ap (λ r. at_ratio r setup) is
-
-module _ (setup : Setup) (history : List Entry) (shown : Shown) (at : ℕ) (views : SessionSet) (stands : FramesStand setup history shown at views) where
-  pub shown_count : EachSessionHasOneState → length shown ≡ setup.sessions
-  shown_count each = ap (length {A = _}) stands.showing ∙ each setup (to_begin history)
-
-  pub shown_fits : BegunStatesFit → Legal setup history → FitsSetup setup shown
-  shown_fits begun legal = let P : Shown → Type 0 = FitsSetup setup in subst P (sym stands.showing) (begun setup history legal)
-
-  pub viewed : HasViews setup views → AreViewed setup (to_begin history) views
-  viewed none = record { members = stands.viewing; others = none }
 
 -- while no frame is open, the last one that began is finished
 pub all-finished : (history : List Entry) → is_frame_open history ≡ false → to_finished history ≡ to_begin history

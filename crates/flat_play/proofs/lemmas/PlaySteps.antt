@@ -1,19 +1,15 @@
 -- The whole run after one more line of the script.
-use Rattle.std.proofs.Common.{◌≡◌, ◌≢◌, ℕ, ℤ, zero, suc, ◌+◌, ◌-◌, ◌<◌, ◌≤◌, Bool, true, false, not, ◌==◌, nat_lt, nat_le, List, [], ◌∷◌, ◌++◌, length, map}
-use Rattle.std.proofs.Common.{get_or, set, refl, sym, ap, ◌∙◌, subst, arith, append-nil, None, get_or-set_other, get_or-set_same}
+use Rattle.std.proofs.Common.{◌≡◌, ◌≢◌, ℕ, zero, suc, ◌+◌, ◌-◌, ◌<◌, ◌≤◌, Bool, true, false, not, ◌==◌, nat_lt, nat_le, List, [], ◌∷◌, ◌++◌, length, map}
+use Rattle.std.proofs.Common.{get_or, set, refl, sym, ap, ◌∙◌, subst, arith, None, get_or-set_other, get_or-set_same}
 use Rattle.std.proofs.lemmas.List.{length-set, map-append, get_or_append_left}
 use Rattle.std.proofs.Math.Seq.{get_or-append_seam}
 use Rattle.std.proofs.lemmas.Bool.{eq-eqb, eqb-true}
 use Rattle.std.proofs.lemmas.Bool.Decides.{nat_tests}
 use Rattle.flat_base.specs.declared.ids.Actor.TheVariants.{Display, Session, Probe}
 use Rattle.flat_base.specs.declared.ids.SessionNo.{SessionNo}
-use Rattle.flat_scene.specs.declared.frames.FrameOut.{FrameOut}
-use Rattle.flat_scene.specs.declared.frames.SessionSet.{SessionSet}
-use Rattle.flat_topology.specs.Shown.{Shown, state_of}
-use Rattle.flat_topology.specs.Changes.{AreSame}
 use Rattle.flat_scene.specs.declared.journal.Entry.{Entry}
 use Rattle.flat_scene.specs.declared.journal.Kind.{Kind}
-use Rattle.flat_scene.specs.declared.journal.Kind.TheVariants.{Begin, Finish, Hit}
+use Rattle.flat_scene.specs.declared.journal.Kind.TheVariants.{Begin, Finish}
 use Rattle.flat_scene.specs.declared.journal.Reply.{Reply}
 use Rattle.flat_scene.specs.declared.journal.Reply.TheVariants.{Done}
 use Rattle.flat_scene.specs.declared.script.Body.{Body}
@@ -24,42 +20,32 @@ use Rattle.flat_scene.specs.declared.script.Line.{Line}
 use Rattle.flat_scene.specs.declared.script.ProbeLine.{ProbeLine}
 use Rattle.flat_scene.specs.declared.script.ScriptLine.{ScriptLine}
 use Rattle.flat_scene.specs.declared.setup.Setup.{Setup}
-use Rattle.flat_scene.specs.Frames.{ratio, sessions_to}
+use Rattle.flat_scene.specs.Frames.{sessions_to}
 use Rattle.flat_scene.specs.Interleave.{entry_of_display}
-use Rattle.flat_scene.specs.History.{◌▹◌, is_begin, is_end, is_finish, is_session}
-use Rattle.flat_scene.specs.Setups.{at_ratio, is_declared}
+use Rattle.flat_scene.specs.History.{◌▹◌, is_finish, is_session}
+use Rattle.flat_scene.specs.Setups.{is_declared}
 use Rattle.flat_core.specs.Machines.{Machine, HasShare, entered, entry_of, made}
-use Rattle.flat_topology.specs.Hits.{hit_list}
-use Rattle.flat_rules.specs.Ends.{to_begin, to_finished, has_view}
-use Rattle.flat_topology.specs.Members.{is_member}
-use Rattle.flat_rules.specs.Legal.{frames, is_frame_open}
-use Rattle.flat_rules.specs.Shown.{shown_states}
-use Rattle.flat_report.specs.Report.{finished, frame_at, hits_at}
+use Rattle.flat_core.specs.Starts.{StartsFrame, is_beside}
+use Rattle.flat_rules.specs.Legal.{is_frame_open, reply_to}
+use Rattle.flat_report.specs.Report.{finished}
 use Rattle.flat_places.specs.declared.script.Script.{Script}
 use Rattle.flat_play.specs.declared.frame.LastFrame.{LastFrame}
 use Rattle.flat_play.specs.declared.play.Play.{Play}
-use Rattle.flat_play.specs.declared.kept.Kept.{Kept}
-use Rattle.flat_play.specs.Keeping.{Keeps}
-use Rattle.flat_play.specs.Last.{IsLast, StaysLast}
-use Rattle.flat_report.specs.declared.report.HitAnswer.{HitAnswer}
+use Rattle.flat_play.specs.Last.{StaysLast}
+use Rattle.flat_play.specs.Storing.{AnswersLine, FramesStand}
 use Rattle.flat_session.specs.declared.reader.Reader.{Reader}
-use Rattle.flat_playable.specs.Playable.{is_played, keeps_frames}
-use Rattle.flat_play.specs.Playing.{IsSpent, lines_by, shares_of, ReaderStands, ReadersStand, DisplayStands, FramesStand, PlayStands, BeginsFrame}
-use Rattle.flat_play.specs.Playing.{FinishesFrame, EntersBeside, AsksPoint, AnswersStand, HasViews, session_text, display_text}
-use Rattle.flat_play.proofs.lemmas.Growing.{Grows, grows, stays, is_quiet}
-use Rattle.flat_play.proofs.lemmas.FramesShown.{all-finished}
-use Rattle.flat_play.proofs.lemmas.DisplaySteps.{QuietStep, begin_time_ok, quiet_begin, quiet_finish, quiet_end, quiet_answers, answers_session, answers_beside}
-use Rattle.flat_play.proofs.lemmas.DisplaySteps.{answers_done, answers_point, answers_stay, display_session, display_probe, display_begin, display_done}
-use Rattle.flat_play.proofs.lemmas.DisplaySteps.{display_beside, finished-beside, finished-session, frames_session, frames_beside, frames_begin, frames_done}
+use Rattle.flat_playable.specs.Playable.{is_played}
+use Rattle.flat_play.specs.Playing.{IsSpent, lines_by, shares_of, ReaderStands, ReadersStand, DisplayStands, PlayStands, BeginsFrame}
+use Rattle.flat_play.specs.Playing.{FinishesFrame, EntersBeside, session_text, display_text}
+use Rattle.flat_play.proofs.lemmas.Beside.{LeavesFrames, leaves_frames}
+use Rattle.flat_play.proofs.lemmas.Growing.{Grows, grows, stays}
+use Rattle.flat_play.proofs.lemmas.Storing.{frames_begin, frames_done, frames_line, frames_stay, stays_stored}
+use Rattle.flat_play.proofs.lemmas.DisplaySteps.{QuietStep, begin_time_ok, quiet_end, display_session, display_probe, display_begin, display_done}
+use Rattle.flat_play.proofs.lemmas.DisplaySteps.{display_beside, finished-beside, finished-session, frames_session}
 use Rattle.flat_play.proofs.lemmas.DisplaySteps as quiet
 use Rattle.flat_rules.proofs.lemmas.ShownList.{length-listed}
 use Rattle.flat_play.proofs.lemmas.Steps.{At, Step, same, more, order_more, spent_more, reader_other}
 use Rattle.flat_base.proofs.lemmas.Tests.{and-left, and-right}
-
--- the same is kept of the same frames
-pub keeps_same : (script : Script) (old new : Kept) (was now : List FrameOut) → new ≡ old → now ≡ was → Keeps script old was → Keeps script new now
-keeps_same script old new was now kept_is frames_are keeps = let P : List FrameOut → Type 0 = Keeps script old in let Q : Kept → Type 0 =
-    λ k. Keeps script k now in subst Q (sym kept_is) (subst P (sym frames_are) keeps)
 
 shut : (is_open : Bool) → not is_open ≡ true → is_open ≡ false
 shut true is = absurd (let wrong : false ≡ true = is in cc)
@@ -211,26 +197,19 @@ module _ (script : Script) (place : ℕ) (x : ScriptLine) (at : At script place 
         display = display_probe script place x at asked is h stands.display;
         order = order_more script place x at h h (same refl) stands.order;
         spent = spent_more script place x at h h (same refl) stands.spent;
-        views = stands.views;
-        shows = stands.shows;
-        keeps = stands.keeps;
-        same = stands.same;
-        answers = stands.answers;
+        frames = stands.frames;
       }
 
   -- a line of a session, which its reader has played
   pub session_more : (old new : Play) (s : SessionNo) (text : Line) (reader : Reader) → x.actor ≡ Session s → x.body ≡ body.Session text
       → is_declared script.setup s ≡ true → PlayStands script place old
       → new.readers.items ≡ set old.readers.items (s.0 - 1) reader → ReaderStands script s (place + 1) new.board.history reader
-      → Grows old.board new.board (Session s) x.number
-      → new.shown ≡ old.shown → new.ratio ≡ old.ratio → new.with_view ≡ old.with_view → new.kept ≡ old.kept → new.last ≡ old.last → new.answers ≡ old.answers
-      → new.changed ≡ old.changed → PlayStands script (place + 1) new
-  session_more old new s text reader actor is declared stands readers_is mine grown shown_is ratio_is views_is kept_is last_is answers_are changed_is =
+      → Grows old.board new.board (Session s) x.number → new.start ≡ old.start → new.store ≡ old.store → PlayStands script (place + 1) new
+  session_more old new s text reader actor is declared stands readers_is mine grown start_is store_is =
       let g : Grown x old.board new.board = grown_is x s old.board new.board actor grown in
       let within = below_declared script.setup s declared in
       let inside : s.0 ≤ length old.readers.items = let count = stands.readers.count in let below = within.1 in omega arith in
       let P : List Reader → Type 0 = ReadersStand script (place + 1) new.board.history in
-      let V : SessionSet → Type 0 = HasViews script.setup in
       record {
         setup = g.setup ∙ stands.setup;
         shares = g.shares ∙ stands.shares;
@@ -239,13 +218,7 @@ module _ (script : Script) (place : ℕ) (x : ScriptLine) (at : At script place 
         display = display_session script place x at text is old.board.history new.board.history g.calm stands.display;
         order = order_more script place x at old.board.history new.board.history g.step stands.order;
         spent = spent_more script place x at old.board.history new.board.history g.step stands.spent;
-        views = subst V (sym views_is) stands.views;
-        shows = rw (shown_is, ratio_is, views_is) (frames_session script.setup old.board.history old.shown old.ratio old.with_view stands.shows
-            new.board.history g.calm);
-        keeps = keeps_same script old.kept new.kept (finished script.setup old.board.history) (finished script.setup new.board.history) kept_is
-            (finished-session script.setup old.board.history new.board.history g.calm) stands.keeps;
-        same = rw (changed_is, last_is, shown_is) stands.same;
-        answers = rw (last_is, answers_are) (answers_session script.setup old.board.history old.last old.answers stands.answers new.board.history g.calm);
+        frames = rw (start_is, store_is) (frames_session script old.board.history new.board.history old.start old.store g.calm stands.frames);
       }
 
   -- a line that begins a frame
@@ -258,17 +231,11 @@ module _ (script : Script) (place : ℕ) (x : ScriptLine) (at : At script place 
       let setup : new.board.setup ≡ script.setup = ap (λ (m : Machine). m.setup) begins.board ∙ stands.setup in
       let step : Step x h new.board.history = more e (sym actor) refl refl grown in
       let D : List Entry → Type 0 = DisplayStands script (place + 1) in
-      let shown : new.shown ≡ shown_states script.setup (h ▹ e) =
-      begins.shown ∙ ap (λ st. shown_states st new.board.history) setup ∙ ap (shown_states script.setup) grown in
-      let scaled : new.ratio ≡ ratio script.setup (h ▹ e) = begins.scaling ∙ ap (λ st. ratio st new.board.history) setup ∙ ap (ratio script.setup) grown in
-      let W : Setup → Type 0 = λ st. HasViews st new.with_view in
-      let V : Setup → List Entry → Type 0 = λ st es. (s : SessionNo) → is_declared st s ≡ true → is_member new.with_view s.0 ≡ has_view st es s in
-      let V1 : Setup → Type 0 = λ st. V st new.board.history in
-      let V2 : List Entry → Type 0 = V script.setup in
-      let F : List Entry → Type 0 = λ es. FramesStand script.setup es new.shown new.ratio new.with_view in
-      let S : Shown → Type 0 = λ was. AreSame new.changed was new.shown in
-      let ended : to_finished h ≡ to_begin h = all-finished h
-      (shut (is_frame_open h) (and-left (not (is_frame_open h)) _ (begin_time_ok script place x at time is h stands.display))) in
+      let S : Setup → Type 0 = λ st. StartsFrame st new.board.history old.start new.start in
+      let G : List Entry → Type 0 = λ es. StartsFrame script.setup es old.start new.start in
+      let F : List Entry → Type 0 = λ es. FramesStand script es new.start new.store in
+      let closed : is_frame_open h ≡ false = shut (is_frame_open h)
+      (and-left (not (is_frame_open h)) _ (begin_time_ok script place x at time is h stands.display)) in
       record {
         setup = setup;
         shares = ap (λ (m : Machine). m.shares) begins.board ∙ stands.shares;
@@ -276,14 +243,8 @@ module _ (script : Script) (place : ℕ) (x : ScriptLine) (at : At script place 
         display = subst D (sym grown) (display_begin script place x at time is h stands.display);
         order = order_more script place x at h new.board.history step stands.order;
         spent = spent_more script place x at h new.board.history step stands.spent;
-        views = subst W setup begins.views;
-        shows = subst F (sym grown)
-            (frames_begin script.setup h old.shown old.ratio old.with_view stands.shows x.number time new.shown new.ratio new.with_view shown scaled
-            (subst V2 grown (subst V1 setup begins.viewing)));
-        keeps = keeps_same script old.kept new.kept (finished script.setup h) (finished script.setup new.board.history) begins.kept
-            (ap (finished script.setup) grown ∙ append-nil (finished script.setup h)) stands.keeps;
-        same = rw begins.last (subst S (sym (stands.answers.showing ∙ ap (shown_states script.setup) ended ∙ sym stands.shows.showing)) begins.changed);
-        answers = rw (grown, begins.last, begins.answers) (answers_beside script.setup h old.last old.answers stands.answers e refl refl);
+        frames = subst F (sym grown) (rw begins.store
+            (frames_begin script h old.start old.store stands.frames x.number time new.start closed (subst G grown (subst S setup begins.start))));
       }
 
   -- a line that ends one
@@ -295,12 +256,7 @@ module _ (script : Script) (place : ℕ) (x : ScriptLine) (at : At script place 
       let grown : new.board.history ≡ (h ▹ e) = ap (λ (m : Machine). m.history) finishes.board in
       let step : Step x h new.board.history = more e (sym actor) refl refl grown in
       let D : List Entry → Type 0 = DisplayStands script (place + 1) in
-      let V : SessionSet → Type 0 = HasViews script.setup in
-      let F : List Entry → Type 0 = λ es. FramesStand script.setup es new.shown new.ratio new.with_view in
-      let L : Setup → Type 0 = λ st. IsLast st new.last in
-      let number : frames new.board.history ≡ suc (frames h) = ap frames grown in
-      let all : finished script.setup new.board.history ≡ finished script.setup h ++ frame_at script.setup (frames new.board.history) (to_begin h) ∷ [] =
-      ap (finished script.setup) grown ∙ ap (λ n. finished script.setup h ++ frame_at script.setup n (to_begin h) ∷ []) (sym number) in
+      let F : List Entry → Type 0 = λ es. FramesStand script es new.start new.store in
       record {
         setup = ap (λ (m : Machine). m.setup) finishes.board ∙ stands.setup;
         shares = ap (λ (m : Machine). m.shares) finishes.board ∙ stands.shares;
@@ -308,80 +264,38 @@ module _ (script : Script) (place : ℕ) (x : ScriptLine) (at : At script place 
         display = subst D (sym grown) (display_done script place x at is h stands.display);
         order = order_more script place x at h new.board.history step stands.order;
         spent = spent_more script place x at h new.board.history step stands.spent;
-        views = subst V (sym finishes.with_view) stands.views;
-        shows = subst F (sym grown) (rw (finishes.shown, finishes.ratio, finishes.with_view)
-            (frames_done script.setup h old.shown old.ratio old.with_view stands.shows x.number));
-        keeps = keeps_same script new.kept new.kept (finished script.setup h ++ frame_at script.setup (frames new.board.history) (to_begin h) ∷ [])
-            (finished script.setup new.board.history) refl all (finishes.kept.more (finished script.setup h) stands.keeps);
-        same = λ s within none. ap (λ (states : Shown). state_of states s) (finishes.showing ∙ sym finishes.shown);
-        answers = rw (grown, finishes.answers) (answers_done script.setup h old.last old.answers stands.answers x.number new.last (finishes.shows ∙ number)
-            (subst L stands.setup finishes.is_last) (finishes.showing ∙ stands.shows.showing) (finishes.scaling ∙ stands.shows.scaling));
-      }
-
-  -- any of these, by what becomes of the answers
-  entered_more : (old new : Play) (text : DisplayLine) (kind : Kind) (reply : Reply) → x.actor ≡ Display → x.body ≡ body.Display text
-      → entry_of_display text ≡ kind → is_begin kind ≡ false → is_finish kind ≡ false → is_end kind ≡ false
-      → ((o : Bool) (t : ℕ) (follows : Bool → ℕ → Bool) → keeps_frames o t (body.Display text) follows ≡ follows o t)
-      → PlayStands script place old → new.board ≡ entered old.board Display x.number [] kind reply → new.shown ≡ old.shown → new.ratio ≡ old.ratio
-      → new.changed ≡ old.changed → new.with_view ≡ old.with_view → new.readers ≡ old.readers → new.kept ≡ old.kept → new.last.reuse ≡ old.last.reuse
-      → AnswersStand script.setup (old.board.history ▹ entry_of Display x.number [] kind reply) new.last new.answers → PlayStands script (place + 1) new
-  entered_more old new text kind reply actor is makes no_begin no_finish no_end keeps stands board shown_is ratio_is changed_is views_is readers_are kept_is
-      reuse_is answers =
-      let e : Entry = entry_of Display x.number [] kind reply in
-      let h : List Entry = old.board.history in
-      let grown : new.board.history ≡ (h ▹ e) = ap (λ (m : Machine). m.history) board in
-      let step : Step x h new.board.history = more e (sym actor) refl no_end grown in
-      let D : List Entry → Type 0 = DisplayStands script (place + 1) in
-      let V : SessionSet → Type 0 = HasViews script.setup in
-      let F : List Entry → Type 0 = λ es. FramesStand script.setup es new.shown new.ratio new.with_view in
-      record {
-        setup = ap (λ (m : Machine). m.setup) board ∙ stands.setup;
-        shares = ap (λ (m : Machine). m.shares) board ∙ stands.shares;
-        readers = display_readers old.readers.items new.readers.items h new.board.history actor step (ap (λ v. v.items) readers_are) stands.readers;
-        display = subst D (sym grown) (display_beside script place x at text kind reply is makes no_begin no_finish keeps h stands.display);
-        order = order_more script place x at h new.board.history step stands.order;
-        spent = spent_more script place x at h new.board.history step stands.spent;
-        views = subst V (sym views_is) stands.views;
-        shows = subst F (sym grown) (rw (shown_is, ratio_is, views_is)
-            (frames_beside script.setup h old.shown old.ratio old.with_view stands.shows e no_begin));
-        keeps = keeps_same script old.kept new.kept (finished script.setup h) (finished script.setup new.board.history) kept_is
-            (ap (finished script.setup) grown ∙ finished-beside script.setup h e no_finish) stands.keeps;
-        same = rw (changed_is, reuse_is, shown_is) stands.same;
-        answers = rw grown answers;
+        frames = subst F (sym grown) (rw finishes.start (frames_done script h old.start old.store stands.frames x.number new.store finishes.store));
       }
 
   -- a line of the display that begins no frame and ends none
-  pub beside_more : (old new : Play) (text : DisplayLine) (kind : Kind) (reply : Reply) → x.actor ≡ Display → x.body ≡ body.Display text
-      → entry_of_display text ≡ kind → is_quiet kind ≡ true
-      → ((o : Bool) (t : ℕ) (follows : Bool → ℕ → Bool) → keeps_frames o t (body.Display text) follows ≡ follows o t)
-      → PlayStands script place old → EntersBeside old new x.number kind reply → PlayStands script (place + 1) new
-  beside_more old new text kind reply actor is makes calm keeps stands enters =
+  pub beside_more : (old new : Play) (text : DisplayLine) → x.actor ≡ Display → x.body ≡ body.Display text → is_beside text ≡ true
+      → PlayStands script place old → EntersBeside old new x.number text → PlayStands script (place + 1) new
+  beside_more old new text actor is beside stands enters =
+      let kind : Kind = entry_of_display text in
+      let reply : Reply = reply_to old.board.setup old.board.history Display [] kind in
       let e : Entry = entry_of Display x.number [] kind reply in
       let h : List Entry = old.board.history in
-      entered_more old new text kind reply actor is makes (quiet_begin kind calm) (quiet_finish kind calm) (quiet_end kind calm) keeps stands enters.board
-      enters.shown enters.ratio enters.changed enters.with_view enters.readers enters.kept (ap (λ (l : LastFrame). l.reuse) enters.last)
-      (rw (enters.last, enters.answers) (answers_beside script.setup h old.last old.answers stands.answers e (quiet_finish kind calm)
-      (quiet_answers e (frames h) (hits_at script.setup (to_finished h)) kind calm)))
-
-  -- a line that asks for a point
-  pub point_more : (old new : Play) (px py : ℤ) → x.actor ≡ Display → x.body ≡ body.Display (display.Hit px py) → PlayStands script place old
-      → AsksPoint old new x.number px py → PlayStands script (place + 1) new
-  point_more old new px py actor is stands asks =
-      let L : Setup → Type 0 = λ st. StaysLast st old.last new.last in
-      let given : Setup → List HitAnswer = λ st. (record {
-        actor = Display;
-        line = x.number;
-        frame = old.last.frame;
-        hits = hit_list (at_ratio old.last.ratio st) old.last.reuse px py;
-      }) ∷ [] in
-      entered_more old new (display.Hit px py) (Hit px py) Done actor is refl refl refl refl (λ o t follows. refl) stands asks.board asks.shown asks.ratio
-      asks.changed asks.with_view asks.readers asks.kept asks.last.reuse
-      (answers_point script.setup old.board.history old.last old.answers stands.answers x.number px py new.last new.answers
-      (subst L stands.setup asks.last) (asks.answers ∙ ap (λ st. old.answers ++ given st) stands.setup))
+      let leaves : LeavesFrames text = leaves_frames text beside in
+      let grown : new.board.history ≡ (h ▹ e) = ap (λ (m : Machine). m.history) enters.board in
+      let step : Step x h new.board.history = more e (sym actor) refl leaves.no_end grown in
+      let D : List Entry → Type 0 = DisplayStands script (place + 1) in
+      let A : Setup → Type 0 = λ st. AnswersLine st x.number text old.store new.store in
+      let F : List Entry → Type 0 = λ es. FramesStand script es new.start new.store in
+      record {
+        setup = ap (λ (m : Machine). m.setup) enters.board ∙ stands.setup;
+        shares = ap (λ (m : Machine). m.shares) enters.board ∙ stands.shares;
+        readers = display_readers old.readers.items new.readers.items h new.board.history actor step (ap (λ v. v.items) enters.readers) stands.readers;
+        display = subst D (sym grown)
+            (display_beside script place x at text kind reply is refl leaves.no_begin leaves.no_finish leaves.keeps h stands.display);
+        order = order_more script place x at h new.board.history step stands.order;
+        spent = spent_more script place x at h new.board.history step stands.spent;
+        frames = subst F (sym grown) (rw enters.start
+            (frames_line script h old.start old.store stands.frames x.number text reply new.store beside (subst A stands.setup enters.store)));
+      }
 
 -- what is joined of the last frame plays no part
-pub play_stays : (script : Script) (place : ℕ) (play : Play) (last : LastFrame) → StaysLast script.setup play.last last → PlayStands script place play
-    → PlayStands script place (record play { last = last })
+pub play_stays : (script : Script) (place : ℕ) (play : Play) (last : LastFrame) → StaysLast script.setup play.store.last last → PlayStands script place play
+    → PlayStands script place (record play { store = record play.store { last = last } })
 play_stays script place play last kept stands = record {
   setup = stands.setup;
   shares = stands.shares;
@@ -389,11 +303,8 @@ play_stays script place play last kept stands = record {
   display = stands.display;
   order = stands.order;
   spent = stands.spent;
-  views = stands.views;
-  shows = stands.shows;
-  keeps = stands.keeps;
-  same = subst (λ (was : Shown). AreSame play.changed was play.shown) (sym kept.reuse) stands.same;
-  answers = answers_stay script.setup play.board.history play.last play.answers stands.answers last kept;
+  frames = frames_stay script play.board.history play.start play.store stands.frames (record play.store { last = last })
+      (stays_stored script.setup play.store last kept);
 }
 
 -- the reader of a session

@@ -1,7 +1,7 @@
 -- The run before its first line.
-use Rattle.std.proofs.Common.{◌≡◌, ℕ, zero, suc, ◌+◌, ◌*◌, ◌<◌, ◌≤◌, Bool, true, false, cond, ◌==◌, not, nat_lt, nat_le, List, [], ◌∷◌, ◌++◌, length, map, sum}
+use Rattle.std.proofs.Common.{◌≡◌, ℕ, zero, suc, ◌+◌, ◌*◌, ◌<◌, ◌≤◌, Bool, true, false, cond, ◌==◌, nat_lt, nat_le, List, [], ◌∷◌, ◌++◌, length, map, sum}
 use Rattle.std.proofs.Common.{get_or, length-append, All, refl, sym, ap, ◌∙◌, subst, arith, add-one, None}
-use Rattle.std.specs.List.{list_all, list_any}
+use Rattle.std.specs.List.{list_all}
 use Rattle.std.specs.Prelude.{slice_index_or}
 use Rattle.std.proofs.lemmas.Bool.Decides.{nat_tests}
 use Rattle.std.proofs.lemmas.Grind.{common_steps}
@@ -10,7 +10,6 @@ use Rattle.std.proofs.Math.Seq.{get_or-append_seam}
 use Rattle.std.proofs.lemmas.List.Sums.{sum_by-append}
 use Rattle.flat_base.specs.declared.ids.SessionNo.{SessionNo}
 use Rattle.flat_base.specs.declared.limits.TheConstants.{SCRIPT_BYTES_MAX, SESSIONS_MAX}
-use Rattle.flat_scene.specs.declared.frames.SessionSet.{SessionSet}
 use Rattle.flat_scene.specs.declared.journal.Entry.{Entry}
 use Rattle.flat_scene.specs.declared.script.ScriptLine.{ScriptLine}
 use Rattle.flat_scene.specs.declared.setup.Setup.{Setup}
@@ -22,10 +21,10 @@ use Rattle.flat_scene.specs.Heads.{is_setup, is_within_limits}
 use Rattle.flat_rules.proofs.lemmas.ShownList.{length-listed}
 use Rattle.flat_rules.specs.Laws.{BegunStatesFit, NothingIsShownAtFirst}
 use Rattle.flat_core.specs.Machines.{Machine}
-use Rattle.flat_rules.specs.Ends.{has_view, views_of}
-use Rattle.flat_report.specs.declared.report.HitAnswer.{HitAnswer}
-use Rattle.flat_topology.specs.Shown.{Shown, state_of}
-use Rattle.flat_topology.specs.Members.{is_member}
+use Rattle.flat_core.specs.Starts.{IsStart}
+use Rattle.flat_play.specs.Storing.{FramesStand, StoreStands}
+use Rattle.flat_play.proofs.lemmas.Storing.{frames_none}
+use Rattle.flat_topology.specs.Shown.{Shown}
 use Rattle.flat_session.specs.declared.reader.Reader.{Reader}
 use Rattle.flat_session.specs.Readings.{NoneIsRead}
 use Rattle.flat_session.specs.Reads.{IsNew}
@@ -33,12 +32,7 @@ use Rattle.flat_places.specs.declared.script.Script.{Script}
 use Rattle.flat_playable.specs.Playable.{rise_from, is_playable}
 use Rattle.flat_play.specs.declared.play.Play.{Play}
 use Rattle.flat_topology.specs.Fit.{FitsSetup}
-use Rattle.flat_play.specs.declared.frame.LastFrame.{LastFrame}
-use Rattle.flat_play.specs.Last.{IsLast}
-use Rattle.flat_rules.specs.Shown.{shown_states}
-use Rattle.flat_report.specs.Report.{finished}
-use Rattle.flat_play.specs.Keeping.{Keeps}
-use Rattle.flat_play.specs.Playing.{AnswersStand, lines_by, rest_shares, shares_of, AreNew, ReadersStand, DisplayStands, IsInOrder, IsSpent, FramesStand}
+use Rattle.flat_play.specs.Playing.{lines_by, rest_shares, shares_of, AreNew, ReadersStand, DisplayStands, IsInOrder, IsSpent}
 use Rattle.flat_play.specs.Playing.{PlayStands}
 use Rattle.flat_play.proofs.lemmas.Places.{few_lines, rises, counted, frames_are, setup_is}
 use Rattle.flat_play.proofs.lemmas.DisplaySteps.{display_numbered}
@@ -189,60 +183,21 @@ first_readers none script readers new = record {
   each = λ k d within. new_stands none script (record { 0 = k + 1 }) (slice_index_or readers k d) (new.each k d within);
 }
 
-none_of : {A : Type 0} (xs : List A) → list_any (λ x. false) xs ≡ false
-none_of [] = refl
-none_of (x ∷ xs) = none_of xs
-
-no_view : (setup : Setup) (s : SessionNo) → has_view setup [] s ≡ false
-no_view setup s = none_of (views_of setup s)
-
-all_false : (xs : List Bool) → list_all not xs ≡ true → (i : ℕ) → slice_index_or xs i false ≡ false
-all_false [] all zero = refl
-all_false [] all (suc i) = refl
-all_false (x ∷ xs) all zero = by_value x (and-left _ _ all)
-  where
-    by_value : (b : Bool) → not b ≡ true → b ≡ false
-    by_value true is = absurd (cc)
-    by_value false is = refl
-all_false (x ∷ xs) all (suc i) = all_false xs (and-right _ _ all) i
-
-pub no_members : (set : SessionSet) → list_all not set.has ≡ true → (s : ℕ) → is_member set s ≡ false
-no_members set all zero = refl
-no_members set all (suc before) = all_false set.has all before
-
-pub first_shown : NothingIsShownAtFirst → (setup : Setup) (shown : Shown) (views : SessionSet) → length shown ≡ setup.sessions
-    → All (λ state. state ≡ None) shown
-    → list_all not views.has ≡ true → FramesStand setup [] shown setup.ratio views
-first_shown at_first setup shown views count none all = record {
-  showing = at_first setup shown count none;
-  scaling = refl;
-  viewing = λ s declared. no_members views all s.0 ∙ sym (no_view setup s);
-}
-
 -- what shows nothing fits
 pub nothing_fits : BegunStatesFit → NothingIsShownAtFirst → (setup : Setup) (shown : Shown) → length shown ≡ setup.sessions → All (λ state. state ≡ None) shown
     → FitsSetup setup shown
 nothing_fits begun at_first setup shown count none = subst (FitsSetup setup) (sym (at_first setup shown count none)) (begun setup [] tt)
 
--- nothing is shown, and no frame is finished
-pub first_answers : (setup : Setup) (last : LastFrame) (answers : List HitAnswer) → last.frame.0 ≡ 0 → IsLast setup last → last.reuse ≡ shown_states setup []
-    → last.ratio ≡ setup.ratio → answers ≡ [] → AnswersStand setup [] last answers
-first_answers setup last answers number is showing scaling nothing =
-    record { number = number; is_last = is; showing = showing; scaling = scaling; answering = nothing }
-
 pub starts : (script : Script) (play : Play) → is_playable script ≡ true → NoneIsRead
     → play.board ≡ record { setup = script.setup; shares = shares_of script; history = [] } → AreNew script.setup script.setup.sessions play.readers.items
-    → FramesStand script.setup [] play.shown play.ratio play.with_view → Keeps script play.kept [] → list_all not play.with_view.has ≡ true
-    → AnswersStand script.setup [] play.last play.answers → PlayStands script 0 play
-starts script play playable none_is_read board new shows keeps none answers =
+    → IsStart script.setup [] play.start → StoreStands script [] play.store → PlayStands script 0 play
+starts script play playable none_is_read board new start stored =
     let history : [] ≡ play.board.history = sym (ap (λ (m : Machine). m.history) board) in
     let P : List Entry → Type 0 = λ es. ReadersStand script 0 es play.readers.items in
     let D : List Entry → Type 0 = DisplayStands script 0 in
     let O : List Entry → Type 0 = IsInOrder script 0 in
     let S : List Entry → Type 0 = IsSpent script 0 in
-    let F : List Entry → Type 0 = λ es. FramesStand script.setup es play.shown play.ratio play.with_view in
-    let K : List Entry → Type 0 = λ es. Keeps script play.kept (finished script.setup es) in
-    let A : List Entry → Type 0 = λ es. AnswersStand script.setup es play.last play.answers in
+    let F : List Entry → Type 0 = λ es. FramesStand script es play.start play.store in
     record {
       setup = ap (λ (m : Machine). m.setup) board;
       shares = ap (λ (m : Machine). m.shares) board;
@@ -250,9 +205,5 @@ starts script play playable none_is_read board new shows keeps none answers =
       display = subst D history (first_display script playable);
       order = subst O history (first_order script playable);
       spent = subst S history (first_spent script playable);
-      views = λ s beyond. no_members play.with_view none s;
-      shows = subst F history shows;
-      keeps = subst K history keeps;
-      same = λ s within none. ap (λ (states : Shown). state_of states s) (answers.showing ∙ sym shows.showing);
-      answers = subst A history answers;
+      frames = subst F history (frames_none script play.start play.store start stored);
     }

@@ -44,19 +44,20 @@ pub answer_upto-requires-clause-setup : goal.answer_upto-requires-clause-setup
 answer_upto-requires-clause-setup g c = setup_is c.args.script.now c.requires.playable
 
 pub answer_upto-requires-clause-is : goal.answer_upto-requires-clause-is
-answer_upto-requires-clause-is g c = c.loop-place.invariant.stands.answers.is_last
+answer_upto-requires-clause-is g c = c.loop-place.invariant.stands.frames.stored.ends.is
 
 pub answer_all-requires-clause-setup : goal.answer_all-requires-clause-setup
 answer_all-requires-clause-setup g c = setup_is c.args.script.now c.requires.playable
 
 pub answer_all-requires-clause-is : goal.answer_all-requires-clause-is
-answer_all-requires-clause-is g c = c.loop-place.invariant.stands.answers.is_last
+answer_all-requires-clause-is g c = c.loop-place.invariant.stands.frames.stored.ends.is
 
 pub play_line-requires-clause-stands : goal.play_line-requires-clause-stands
 play_line-requires-clause-stands g c =
     let script = c.args.script.now in
     let place = c.loop-place.place in
-    play_stays script place (record c.loop-place.play { last = c.answer_upto.new.last }) c.answer_line.new.last c.in_ok-answer_line.ensures.stays
+    play_stays script place (record c.loop-place.play { store = record c.loop-place.play.store { last = c.answer_upto.new.last } }) c.answer_line.new.last
+    c.in_ok-answer_line.ensures.stays
     (play_stays script place c.loop-place.play c.answer_upto.new.last c.in_ok-left.ensures.stays c.loop-place.invariant.stands)
 
 pub answer_line-requires-clause-setup : goal.answer_line-requires-clause-setup
@@ -83,8 +84,8 @@ loop-place-preserved g c =
     let new = c.play_line.new.self.board.history in
     let last = c.answer_upto.new.last in
     let stays = c.in_ok-left.ensures.stays in
-    let number : last.frame.0 ≡ frames old = ap (λ (n : FrameNo). n.0) stays.frame ∙ was.stands.answers.number in
-    let showing = stays.reuse ∙ was.stands.answers.showing in
+    let number : last.frame.0 ≡ frames old = ap (λ (n : FrameNo). n.0) stays.frame ∙ was.stands.frames.stored.ends.number in
+    let showing = stays.reuse ∙ was.stands.frames.stored.ends.shows in
     let on = now.goes_on x c.at-line.ensures in
     let asks = c.in_ok-answer_line.ensures.answers in
     record {
@@ -97,13 +98,13 @@ loop-place-preserved g c =
       answered =
           let A : ℕ → Type 0 = λ n. AreAnswered script.setup new n c.args.lines.now c.in_ok-left.left.now c.answer_upto.new.found.items in
           subst A (sym at.last)
-          (answered-more script.setup _ _ _ _ _ (at_ratio c.loop-place.play.last.ratio script.setup) _ was.answered
-          (scaled script.setup (to_finished old) c.loop-place.play.last.ratio was.stands.answers.scaling) was.stands.answers.showing x.number _ _ _ at.above
+          (answered-more script.setup _ _ _ _ _ (at_ratio c.loop-place.play.store.last.ratio script.setup) _ was.answered
+          (scaled script.setup (to_finished old) c.loop-place.play.store.last.ratio was.stands.frames.stored.ends.scales) was.stands.frames.stored.ends.shows x.number _ _ _ at.above
           c.in_ok-left.ensures.answers on);
       asked =
           probes-on script (place + 1) x.number old new c.answer_line.new.answers.items on
           (probes-more script place x at old (at_ratio last.ratio script.setup) last.reuse last.frame.0 number
-          (scaled script.setup (to_finished old) last.ratio (stays.ratio ∙ was.stands.answers.scaling)) showing c.loop-place.answers.items
+          (scaled script.setup (to_finished old) last.ratio (stays.ratio ∙ was.stands.frames.stored.ends.scales)) showing c.loop-place.answers.items
           c.answer_line.new.answers.items asks was.asked);
       explained = c.in_ok-note.ensures.stands;
       on = c.in_ok-note.ensures.on ∙ was.on;
@@ -124,9 +125,9 @@ pub returns-clause-touches : goal.returns-clause-touches
 returns-clause-touches g c =
     let setup = c.args.script.now.setup in
     let play = c.loop-place.play in
-    answered-all setup _ _ _ _ _ (at_ratio play.last.ratio setup) _ c.loop-place.invariant.answered
-    (scaled setup (to_finished play.board.history) play.last.ratio c.loop-place.invariant.stands.answers.scaling)
-    c.loop-place.invariant.stands.answers.showing _ c.in_ok-answer_all.ensures.answers
+    answered-all setup _ _ _ _ _ (at_ratio play.store.last.ratio setup) _ c.loop-place.invariant.answered
+    (scaled setup (to_finished play.board.history) play.store.last.ratio c.loop-place.invariant.stands.frames.stored.ends.scales)
+    c.loop-place.invariant.stands.frames.stored.ends.shows _ c.in_ok-answer_all.ensures.answers
 
 pub returns-clause-probes : goal.returns-clause-probes
 returns-clause-probes g c =
@@ -177,11 +178,8 @@ note-requires-clause-setup g c = setup_is c.args.script.now c.requires.playable
 pub note-requires-clause-of : goal.note-requires-clause-of
 note-requires-clause-of g c = c.in_ok-play_line.ensures.stands.setup
 
-pub note-requires-clause-shows : goal.note-requires-clause-shows
-note-requires-clause-shows g c = c.in_ok-play_line.ensures.stands.shows
-
-pub note-requires-clause-keeps : goal.note-requires-clause-keeps
-note-requires-clause-keeps g c = c.in_ok-play_line.ensures.stands.keeps
+pub note-requires-clause-frames : goal.note-requires-clause-frames
+note-requires-clause-frames g c = c.in_ok-play_line.ensures.stands.frames
 
 pub note-requires-clause-before : goal.note-requires-clause-before
 note-requires-clause-before g c =
@@ -193,7 +191,7 @@ note-requires-clause-before g c =
     let many = c.len-entries.ensures in
     let number : frames old ≡ c.answer_line.new.last.frame.0 =
     sym (ap (λ (n : FrameNo). n.0) (c.in_ok-answer_line.ensures.stays.frame ∙ c.in_ok-left.ensures.stays.frame)
-    ∙ c.loop-place.invariant.stands.answers.number) in (
+    ∙ c.loop-place.invariant.stands.frames.stored.ends.number) in (
       old,
       x.number,
       (let all : length old ≡ c.len-entries.result = omega (arith, long, whole, many) in all),
@@ -201,9 +199,6 @@ note-requires-clause-before g c =
       c.loop-place.invariant.explained,
       number,
     )
-
-pub note-requires-clause-number : goal.note-requires-clause-number
-note-requires-clause-number g c = c.in_ok-play_line.ensures.stands.answers.number
 
 pub returns-in_err-note-clause-kept : goal.returns-in_err-note-clause-kept
 returns-in_err-note-clause-kept g c =

@@ -15,7 +15,7 @@ invariant-loop-place g l = record {
       (finished l.script.setup l.play.board.history) l.play.board.history l.set.lost l.initial.displays.items l.displays.items;
   number : length l.displays.items ≡ l.set.displays;
   kinds : map (λ b. b.vtable) l.displays.items ≡ map (λ b. b.vtable) l.initial.displays.items;
-  keeping : keeping_of l.play.kept ≡ keeping_of l.initial.play.kept;
+  keeping : keeping_of l.play.store.kept ≡ keeping_of l.initial.play.store.kept;
   same : l.set.displays ≡ l.initial.set.displays;
   answered : AreAnswered l.script.setup l.play.board.history (last_number 0 (take l.place l.script.lines)) l.lines l.left l.found.items;
   asked : ProbesStand l.script l.place l.play.board.history l.answers.items;

@@ -46,8 +46,8 @@ push-requires-clause-items c =
     let history : List Entry = c.args.play.now.board.history in
     let old : List Entry = c.requires.before.0 in
     let one = one-more c.items_are_drawable.ensures script c.requires.before.1 old history
-    (λ same. c.if-play-frame.false (c.requires.number ∙ same ∙ c.requires.before.5)) c.requires.before.3 in
-    let found = last-one script old history one _ (c.last.ensures script (finished script.setup history) c.requires.keeps) in
+    (λ same. c.if-play-frame.false (c.requires.frames.stored.ends.number ∙ same ∙ c.requires.before.5)) c.requires.before.3 in
+    let found = last-one script old history one _ (c.last.ensures script (finished script.setup history) c.requires.frames.stored.keeps) in
     let some : Some c.in-Some.frame.now ≡ Some one.frame = sym (ap option_copied c.in-Some.is) ∙ found in
     let same : c.in-Some.frame.now ≡ one.frame = cc in
     let P : FrameOut → Type 0 = λ f. All IsDrawable f.items in
@@ -59,8 +59,8 @@ unreachable-requires c =
     let history : List Entry = c.args.play.now.board.history in
     let old : List Entry = c.requires.before.0 in
     let one = one-more c.items_are_drawable.ensures script c.requires.before.1 old history
-    (λ same. c.if-play-frame.false (c.requires.number ∙ same ∙ c.requires.before.5)) c.requires.before.3 in
-    let found = last-one script old history one _ (c.last.ensures script (finished script.setup history) c.requires.keeps) in
+    (λ same. c.if-play-frame.false (c.requires.frames.stored.ends.number ∙ same ∙ c.requires.before.5)) c.requires.before.3 in
+    let found = last-one script old history one _ (c.last.ensures script (finished script.setup history) c.requires.frames.stored.keeps) in
     let none : ◌≡◌ {A = Option FrameOut} None (Some one.frame) = sym (ap option_copied c.in-None.is) ∙ found in
     cc
 
@@ -70,8 +70,8 @@ returns-in-Some-clause-stands c =
     let history : List Entry = c.args.play.now.board.history in
     let old : List Entry = c.requires.before.0 in
     let one = one-more c.items_are_drawable.ensures script c.requires.before.1 old history
-    (λ same. c.if-play-frame.false (c.requires.number ∙ same ∙ c.requires.before.5)) c.requires.before.3 in
-    let found = last-one script old history one _ (c.last.ensures script (finished script.setup history) c.requires.keeps) in
+    (λ same. c.if-play-frame.false (c.requires.frames.stored.ends.number ∙ same ∙ c.requires.before.5)) c.requires.before.3 in
+    let found = last-one script old history one _ (c.last.ensures script (finished script.setup history) c.requires.frames.stored.keeps) in
     let some : Some c.in-Some.frame.now ≡ Some one.frame = sym (ap option_copied c.in-Some.is) ∙ found in
     let same : c.in-Some.frame.now ≡ one.frame = cc in
     let S : Explaining → Type 0 = λ e. StandsExplained script old e in

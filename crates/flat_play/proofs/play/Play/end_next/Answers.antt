@@ -39,7 +39,7 @@ returns-clause-stands c =
     let reader = c.index_mut-reader.result.now in
     let mine = waiting_is script c.args.before old reader c.requires.within c.requires.stands c.index_mut-reader.ensures.value in
     ends_more c.lines_are_read.ensures.ends script c.requires.playable c.args.before c.requires.within old c.requires.stands reader mine _ c.end-reply.new.self
-    c.end-reply.ensures.entry refl refl refl
+    c.end-reply.ensures.entry refl refl
 
 pub returns-clause-ends : goal.returns-clause-ends
 returns-clause-ends c =

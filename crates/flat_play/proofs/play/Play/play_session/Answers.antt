@@ -79,7 +79,7 @@ returns-clause-stands c =
     let grown = reader_grows script c.args.s c.args.place c.args.number c.args.text.now h c.in_ok-_reply._reply old.board c.call.new.board reader
     c.call.new.self c.requires.stands.setup mine reads in
     session_more script c.args.place x (at_place script c.args.place x c.requires.playable c.requires.line) old
-    _ c.args.s c.args.text.now c.call.new.self refl refl h.declared c.requires.stands refl after grown refl refl refl refl refl refl refl
+    _ c.args.s c.args.text.now c.call.new.self refl refl h.declared c.requires.stands refl after grown refl refl
 
 pub returns-clause-goes_on : goal.returns-clause-goes_on
 returns-clause-goes_on c =

@@ -4,7 +4,7 @@ use Rattle.flat_scene.specs.declared.frames.ViewTree.{ViewTree}
 use Rattle.flat_report.specs.FrameTexts.{unchanged}
 use Rattle.flat_play.specs.Keeping.{KeepsMore}
 use Rattle.flat_play.proofs.Unchanged.{kept-unchanged}
-use Rattle.flat_play.proofs.play.Play.keep_unchanged.Goals as goal
+use Rattle.flat_play.proofs.store.FrameStore.keep_unchanged.Goals as goal
 
 pub returns-clause-keeps : goal.returns-clause-keeps
 returns-clause-keeps c = λ frames last keeps is.
