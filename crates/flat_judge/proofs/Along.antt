@@ -1,14 +1,12 @@
 -- A run whose report a text is, and the text of its first entries.
-use Rattle.std.proofs.Common.{◌≡◌, ℕ, zero, suc, ◌+◌, ◌<◌, ◌≤◌, ◌^◌, ◌==◌, ◌&&◌, nat_lt, nat_le, Bool, true, false, cond, List, [], ◌∷◌, ◌++◌, length, drop}
-use Rattle.std.proofs.Common.{map, filter, codes, Option, Some, None, refl, sym, ap, ◌∙◌, subst, arith, append_assoc, append-nil, true≢false}
-use Rattle.std.specs.List.{list_all, zip}
+use Rattle.std.proofs.Common.{◌≡◌, ℕ, suc, ◌≤◌, ◌^◌, ◌==◌, nat_lt, Bool, true, false, cond, List, [], ◌∷◌, ◌++◌, length, drop}
+use Rattle.std.proofs.Common.{map, filter, codes, Some, None, refl, sym, ap, ◌∙◌, subst, arith, append_assoc, append-nil, true≢false}
+use Rattle.std.specs.List.{zip}
 use Rattle.std.proofs.lemmas.Bool.{and_parts}
 use Rattle.std.proofs.lemmas.Bool.Decides.{nat_tests}
 use Rattle.std.proofs.lemmas.List.{append_cancel_left}
-use Rattle.flat_base.specs.declared.ids.Actor.{Actor}
 use Rattle.flat_scene.specs.declared.frames.Lost.{Lost}
 use Rattle.flat_scene.specs.declared.journal.Entry.{Entry}
-use Rattle.flat_scene.specs.declared.script.ScriptLine.{ScriptLine}
 use Rattle.flat_scene.specs.History.{◌▹◌, is_finish}
 use Rattle.flat_rules.specs.Ends.{to_begin, to_finished}
 use Rattle.flat_rules.specs.Legal.{frames}
@@ -19,7 +17,7 @@ use Rattle.flat_places.specs.Forms.{Word}
 use Rattle.flat_lines.specs.Ends.{end_line, title_line}
 use Rattle.flat_lines.specs.EntryLines.{entry_line, event_line}
 use Rattle.flat_lines.specs.FrameLines.{frame_lines, lost_at, lost_line}
-use Rattle.flat_report.specs.Report.{entry_lines, frame_at, history_lines, hits_at, probe_lines, report_lines, seen_line, shown_lines}
+use Rattle.flat_report.specs.Report.{entry_lines, frame_at, history_lines, hits_at, probe_lines, seen_line, shown_lines}
 use Rattle.flat_report.proofs.lemmas.Losses.{AgreeTo}
 use Rattle.flat_report.proofs.lemmas.Named.{Acts, acts}
 use Rattle.flat_report.proofs.lemmas.Reading.{Kept, read-kept}
@@ -27,8 +25,8 @@ use Rattle.flat_report.proofs.lemmas.SeenTold.{probe-lines-are}
 use Rattle.flat_report.proofs.lemmas.Sheets.{line_on, sheet, sheet-append, text-sheet}
 use Rattle.flat_report.proofs.lemmas.Tails.{grows, onto, tail, text-append}
 use Rattle.flat_report.proofs.lemmas.Turns.{Stands, one-more, stands, stood}
-use Rattle.flat_judge.specs.Following.{AllGoOn, Begins, GoesOnTo, IsOnly, and_then, are_behind, next_actor, told}
-use Rattle.flat_judge.specs.Verdicts.{IsRead, NoRun, Run, report_of}
+use Rattle.flat_judge.specs.Following.{Begins, GoesOnTo, and_then, are_behind, next_actor, told}
+use Rattle.flat_judge.specs.Verdicts.{IsRead, Run, report_of}
 use Rattle.flat_judge.proofs.NextWords.{end-next, entry-next}
 
 -- ---- lists of lost displays that agree

@@ -1,9 +1,9 @@
 -- Before the first entry, and behind the last one.
-use Rattle.std.proofs.Common.{◌≡◌, ℕ, ◌+◌, ◌<◌, ◌≤◌, ◌&&◌, nat_lt, nat_le, Bool, true, false, List, [], ◌∷◌, ◌++◌, length, reverse, drop, Option, Some, None}
-use Rattle.std.proofs.Common.{refl, sym, ap, ◌∙◌, subst, arith, append-nil}
+use Rattle.std.proofs.Common.{◌≡◌, ℕ, ◌&&◌, nat_lt, nat_le, true, List, [], ◌∷◌, reverse, Some, None}
+use Rattle.std.proofs.Common.{refl, sym, ◌∙◌, subst, append-nil}
 use Rattle.std.specs.List.{list_all}
 use Rattle.std.proofs.lemmas.List.{reverse-reverse}
-use Rattle.flat_base.proofs.lemmas.Tests.{and-left, and-right, and-true}
+use Rattle.flat_base.proofs.lemmas.Tests.{and-left, and-true}
 use Rattle.flat_scene.specs.declared.frames.Lost.{Lost}
 use Rattle.flat_scene.specs.declared.journal.Entry.{Entry}
 use Rattle.flat_rules.specs.Legal.{frames}
@@ -11,10 +11,9 @@ use Rattle.flat_places.specs.declared.script.Script.{Script}
 use Rattle.flat_page.specs.Words.{text_of}
 use Rattle.flat_lines.specs.Ends.{title_line}
 use Rattle.flat_report.specs.Report.{is_loss}
-use Rattle.flat_report.proofs.lemmas.Tails.{onto, onto-reverse}
+use Rattle.flat_report.proofs.lemmas.Tails.{onto-reverse}
 use Rattle.flat_judge.specs.declared.following.Along.{Along}
-use Rattle.flat_judge.specs.Following.{AllGoOn, AreLosses, Begins, GoesOnTo, HasStopped, IsAlong, Passes, and_then, are_behind, told}
-use Rattle.flat_judge.specs.Verdicts.{IsRead, NoRun, Run, report_of}
+use Rattle.flat_judge.specs.Following.{AllGoOn, AreLosses, Begins, HasStopped, IsAlong, Passes, and_then, are_behind, told}
 use Rattle.flat_judge.proofs.Along.{later_text, run-text, then-onto}
 use Rattle.flat_judge.proofs.Fitting.{goes_before}
 use Rattle.flat_judge.proofs.LossesTold.{loss-parts}

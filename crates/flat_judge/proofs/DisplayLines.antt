@@ -1,30 +1,26 @@
 -- The display's next line: that it may be entered, and what it leaves.
-use Rattle.std.proofs.Common.{◌≡◌, ℕ, suc, ◌+◌, ◌<◌, ◌≤◌, ◌^◌, Bool, true, false, cond, ◌==◌, List, [], ◌∷◌, length, drop, refl, sym, ap, ◌∙◌, subst, arith}
-use Rattle.std.proofs.Common.{Option, Some, None}
-use Rattle.std.proofs.lemmas.Grind.{common_steps}
+use Rattle.std.proofs.Common.{◌≡◌, ℕ, ◌+◌, ◌<◌, ◌≤◌, ◌^◌, true, false, cond, ◌==◌, List, [], length, drop, refl, sym, ap, ◌∙◌, subst, arith}
+use Rattle.std.proofs.Common.{Some, None}
 use Rattle.flat_base.specs.declared.ids.Actor.{Actor}
 use Rattle.flat_base.specs.declared.ids.Actor.TheVariants.{Display, Session, Probe}
 use Rattle.flat_scene.specs.declared.journal.Entry.{Entry}
-use Rattle.flat_scene.specs.declared.journal.Kind.{Kind}
-use Rattle.flat_scene.specs.declared.journal.Kind.TheVariants as kind
 use Rattle.flat_scene.specs.declared.script.Body.{Body}
 use Rattle.flat_scene.specs.declared.script.Body.TheVariants as body
 use Rattle.flat_scene.specs.declared.script.DisplayLine.{DisplayLine}
 use Rattle.flat_scene.specs.declared.script.DisplayLine.TheVariants as display
 use Rattle.flat_scene.specs.declared.script.ScriptLine.{ScriptLine}
 use Rattle.flat_scene.specs.declared.setup.Setup.{Setup}
-use Rattle.flat_scene.specs.History.{◌▹◌}
 use Rattle.flat_scene.specs.Journals.{seat_number}
 use Rattle.flat_scene.specs.Interleave.{entry_of_display}
-use Rattle.flat_core.specs.Machines.{Machine, HasShare, MayCall, entered, entry_of, made}
+use Rattle.flat_core.specs.Machines.{Machine, HasShare, MayCall, entry_of, made}
 use Rattle.flat_rules.specs.Legal.{Legal, frames, reply_to}
 use Rattle.flat_rules.specs.Owned.{is_played_display}
 use Rattle.flat_places.specs.declared.script.Script.{Script}
 use Rattle.flat_playable.specs.Playable.{is_playable, is_played}
 use Rattle.flat_play.specs.Playing.{DisplayStands, display_text, lines_by, shares_of}
-use Rattle.flat_play.proofs.lemmas.Alone.{may_alone}
+use Rattle.flat_play.proofs.lemmas.Beside.{LeavesFrames, leaves_frames, may_beside}
 use Rattle.flat_play.proofs.lemmas.DisplaySteps.{QuietStep, begin_time_ok, display_begin, display_beside, display_done, display_probe, display_session, done_ok}
-use Rattle.flat_play.proofs.lemmas.DisplaySteps.{may_begin, may_finish, may_hit}
+use Rattle.flat_play.proofs.lemmas.DisplaySteps.{may_begin, may_finish}
 use Rattle.flat_play.proofs.lemmas.FramesShown.{few_frames}
 use Rattle.flat_play.proofs.lemmas.Starting.{by_at_most, few}
 use Rattle.flat_play.proofs.lemmas.Steps.{At}
@@ -80,36 +76,31 @@ module _ (script : Script) (place : ℕ) (x : ScriptLine) (at : At script place 
         by : (said : DisplayLine) → x.body ≡ body.Display said → is_played_display m.setup said ≡ true → MayCall m Display [] (entry_of_display said)
         by (display.Begin time) what played = may_begin m time share (begin_time_ok script place x at time what m.history stands)
         by display.Done what played = may_finish m share (done_ok script place x at what m.history stands)
-        by (display.Hit px py) what played = may_hit m px py share
-        by (display.Signal f) what played = may_alone m (display.Signal f) refl share played
-        by (display.Wait c) what played = may_alone m (display.Wait c) refl share played
-        by (display.Dpr q) what played = may_alone m (display.Dpr q) refl share played
+        by (display.Hit px py) what played = may_beside m (display.Hit px py) refl share played
+        by (display.Signal f) what played = may_beside m (display.Signal f) refl share played
+        by (display.Wait c) what played = may_beside m (display.Wait c) refl share played
+        by (display.Dpr q) what played = may_beside m (display.Dpr q) refl share played
 
     -- and the display stands behind it
     pub display_goes : (old new : Machine) → HasEntered x.number (entry_of_display text) old new → DisplayStands script place old.history
         → DisplayStands script (place + 1) new.history
     display_goes old new entered_is stands = by text is.what entered_is
       where
-        by : (said : DisplayLine) → x.body ≡ body.Display said → HasEntered x.number (entry_of_display said) old new
-            → DisplayStands script (place + 1) new.history
-        by (display.Begin time) what grown = let D : Machine → Type 0 =
-            λ m. DisplayStands script (place + 1) m.history in subst D (sym grown) (display_begin script place x at time what old.history stands)
-        by display.Done what grown = let D : Machine → Type 0 =
-            λ m. DisplayStands script (place + 1) m.history in subst D (sym grown) (display_done script place x at what old.history stands)
-        by (display.Hit px py) what grown =
-            let D : Machine → Type 0 = λ m. DisplayStands script (place + 1) m.history in
-            subst D (sym grown) (display_beside script place x at (display.Hit px py) (kind.Hit px py) _ what refl refl refl (λ o t follows. refl) old.history
-            stands)
-        by (display.Signal f) what grown =
-            let D : Machine → Type 0 = λ m. DisplayStands script (place + 1) m.history in
-            subst D (sym grown) (display_beside script place x at (display.Signal f) (kind.Signal f) _ what refl refl refl (λ o t follows. refl) old.history
-            stands)
-        by (display.Wait c) what grown =
-            let D : Machine → Type 0 = λ m. DisplayStands script (place + 1) m.history in
-            subst D (sym grown) (display_beside script place x at (display.Wait c) (kind.Wait c) _ what refl refl refl (λ o t follows. refl) old.history stands)
-        by (display.Dpr q) what grown =
-            let D : Machine → Type 0 = λ m. DisplayStands script (place + 1) m.history in
-            subst D (sym grown) (display_beside script place x at (display.Dpr q) (kind.Dpr q) _ what refl refl refl (λ o t follows. refl) old.history stands)
+        D : Machine → Type 0
+        D m = DisplayStands script (place + 1) m.history
+
+        beside : (said : DisplayLine) → x.body ≡ body.Display said → HasEntered x.number (entry_of_display said) old new → LeavesFrames said → D new
+        beside said what grown leaves =
+            subst D (sym grown) (display_beside script place x at said (entry_of_display said) _ what refl leaves.no_begin leaves.no_finish leaves.keeps
+            old.history stands)
+
+        by : (said : DisplayLine) → x.body ≡ body.Display said → HasEntered x.number (entry_of_display said) old new → D new
+        by (display.Begin time) what grown = subst D (sym grown) (display_begin script place x at time what old.history stands)
+        by display.Done what grown = subst D (sym grown) (display_done script place x at what old.history stands)
+        by (display.Hit px py) what grown = beside (display.Hit px py) what grown (leaves_frames (display.Hit px py) refl)
+        by (display.Signal f) what grown = beside (display.Signal f) what grown (leaves_frames (display.Signal f) refl)
+        by (display.Wait c) what grown = beside (display.Wait c) what grown (leaves_frames (display.Wait c) refl)
+        by (display.Dpr q) what grown = beside (display.Dpr q) what grown (leaves_frames (display.Dpr q) refl)
 
     pub goes_spent : (old new : Machine) → HasEntered x.number (entry_of_display text) old new
         → made 0 old.history + lines_by 0 (drop place script.lines) ≤ lines_by 0 script.lines

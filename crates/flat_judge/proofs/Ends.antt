@@ -1,10 +1,10 @@
 -- Where a run that follows a text stops, each run with this report has stopped.
-use Rattle.std.proofs.Common.{◌≡◌, ℕ, zero, suc, ◌+◌, ◌<◌, ◌≤◌, ◌^◌, ◌==◌, ◌&&◌, ◌||◌, not, nat_lt, nat_le, Bool, true, false, cond, List, [], ◌∷◌, ◌++◌}
-use Rattle.std.proofs.Common.{length, drop, map, filter, Option, Some, None, refl, sym, ap, ◌∙◌, subst, arith, append_assoc, append-nil, true≢false}
-use Rattle.std.specs.List.{list_all, list_any, AllByRecursion}
-use Rattle.std.proofs.lemmas.Bool.{and_parts, eq-eqb}
+use Rattle.std.proofs.Common.{◌≡◌, ℕ, ◌<◌, ◌≤◌, ◌&&◌, ◌||◌, not, nat_lt, nat_le, Bool, true, false, cond, List, [], ◌∷◌, ◌++◌}
+use Rattle.std.proofs.Common.{drop, Some, None, refl, sym, ap, ◌∙◌, subst, arith, append-nil, true≢false}
+use Rattle.std.specs.List.{list_all, list_any}
+use Rattle.std.proofs.lemmas.Bool.{eq-eqb}
 use Rattle.std.proofs.lemmas.Bool.Decides.{nat_tests}
-use Rattle.flat_base.proofs.lemmas.Tests.{and-left, and-right, and-true}
+use Rattle.flat_base.proofs.lemmas.Tests.{and-left, and-right}
 use Rattle.flat_base.specs.declared.ids.Actor.{Actor}
 use Rattle.flat_base.specs.declared.ids.Actor.TheVariants.{Display, Session, Probe}
 use Rattle.flat_base.specs.declared.ids.SessionNo.{SessionNo}
@@ -23,8 +23,8 @@ use Rattle.flat_report.proofs.lemmas.Turns.{Stands, display-next, session-at}
 use Rattle.flat_judge.specs.declared.following.Along.{Along}
 use Rattle.flat_judge.specs.Following.{Begins, GoesOnTo, IsAlong, IsOnly, IsPart, StoppedBefore, and_then, are_behind, next_actor, told}
 use Rattle.flat_judge.specs.GuidedRuns.{Grown}
-use Rattle.flat_judge.specs.Verdicts.{IsRead, NoRun, Run, report_of}
-use Rattle.flat_judge.proofs.Along.{next-entry, none-next, run-next}
+use Rattle.flat_judge.specs.Verdicts.{IsRead, Run, report_of}
+use Rattle.flat_judge.proofs.Along.{next-entry, run-next}
 use Rattle.flat_judge.proofs.LossesTold.{loss-parts}
 use Rattle.flat_judge.proofs.Fitting.{goes_before}
 

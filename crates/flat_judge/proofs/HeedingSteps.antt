@@ -1,9 +1,9 @@
 -- A run that heeds what a text says of its probes, after a step more.
-use Rattle.std.proofs.Common.{◌≡◌, ◌≢◌, ◌⊎◌, inl, inr, ℕ, zero, suc, ◌+◌, ◌<◌, ◌≤◌, ◌^◌, ◌||◌, ◌==◌, nat_le, nat_lt, Bool, true, false, cond, List, [], ◌∷◌}
-use Rattle.std.proofs.Common.{◌++◌, length, map, filter, take, drop, replicate, append_assoc, append-nil, length-append, refl, sym, ap, ◌∙◌, subst, arith}
-use Rattle.std.proofs.Common.{Option, Some, None, Result, Ok, Err, slice_get, slice_index_or, slice_set, true≢false}
-use Rattle.std.specs.List.{flat_map, list_all, zip, range_with_len}
-use Rattle.std.proofs.lemmas.Bool.{and_parts, eq-eqb, eqb-true}
+use Rattle.std.proofs.Common.{◌≡◌, ◌≢◌, inl, inr, ℕ, zero, suc, ◌+◌, ◌<◌, ◌≤◌, ◌^◌, ◌||◌, ◌==◌, nat_le, nat_lt, Bool, true, false, cond, List, [], ◌∷◌}
+use Rattle.std.proofs.Common.{◌++◌, length, map, filter, take, drop, replicate, length-append, refl, sym, ap, ◌∙◌, subst, arith}
+use Rattle.std.proofs.Common.{Some, slice_get, slice_index_or, true≢false}
+use Rattle.std.specs.List.{flat_map, list_all, range_with_len}
+use Rattle.std.proofs.lemmas.Bool.{eq-eqb, eqb-true}
 use Rattle.std.proofs.lemmas.Bool.Decides.{nat_tests}
 use Rattle.std.proofs.lemmas.List.{length-map, map-append, take-append-drop}
 use Rattle.std.proofs.lemmas.List.Elements.{filter-append}
@@ -16,22 +16,21 @@ use Rattle.flat_scene.specs.History.{◌▹◌, is_finish}
 use Rattle.flat_rules.specs.Legal.{frames}
 use Rattle.flat_topology.specs.Shown.{Shown}
 use Rattle.flat_places.specs.declared.script.Script.{Script}
-use Rattle.flat_playable.specs.Playable.{is_playable}
 use Rattle.flat_report.specs.declared.probes.ProbeAnswer.{ProbeAnswer}
 use Rattle.flat_report.specs.Probes.{frame_seen, frames_seen}
-use Rattle.flat_report.specs.Report.{is_probe, probe_lines, probe_lines_of}
+use Rattle.flat_report.specs.Report.{is_probe, probe_lines_of}
 use Rattle.flat_report.proofs.lemmas.Reading.{Kept, read-kept}
 use Rattle.flat_report.proofs.lemmas.SeenTold.{probe-lines-are}
 use Rattle.flat_play.specs.Probing.{answer_of, with_answer}
-use Rattle.flat_play.proofs.lemmas.Slots.{got-other, got-same}
+use Rattle.flat_play.proofs.lemmas.Slots.{got-same}
 use Rattle.flat_play.proofs.lemmas.Steps.{At}
 use Rattle.flat_judge.specs.declared.following.Along.{Along}
 use Rattle.flat_judge.specs.declared.guided_run.GuidedRun.{GuidedRun}
 use Rattle.flat_judge.specs.Following.{IsPart, MakesNext, Stays}
 use Rattle.flat_judge.specs.GuidedRuns.{RunStands, asked_here}
-use Rattle.flat_judge.specs.Heeding.{AllHeed, CouldSee, HasSeen, Heeds, HeedsSo, SeenBehind, SeesAsTold, is_reached}
+use Rattle.flat_judge.specs.Heeding.{AllHeed, CouldSee, HasSeen, Heeds, HeedsSo, SeenBehind, is_reached}
 use Rattle.flat_judge.specs.Hints.{AreAsMany, AreHints, hints_of}
-use Rattle.flat_judge.specs.Verdicts.{IsRead, NoRun, Run, report_of}
+use Rattle.flat_judge.specs.Verdicts.{IsRead, Run, report_of}
 use Rattle.flat_judge.proofs.ProbePlaces.{is-here}
 use Rattle.flat_judge.proofs.HintsTold.{hints-are, share, share-seen, shares-all}
 use Rattle.flat_judge.proofs.Seen.{reached-last, seen-answer, seen-before, seen-end, seen-first, seen-waits, seen-whole}
@@ -102,20 +101,20 @@ with-got answers probe one answer below at =
 pub line-answered : (script : Script) (guided : GuidedRun) (probe place : ℕ) → RunStands script guided → slice_get guided.places probe ≡ Some place
     → probe < length guided.answers.items → (x : ScriptLine) → At script place x → (asked : ProbeLine) → asked_here probe x.actor x.body ≡ Some asked
     → (there : Setup) (shown : Shown) (answers : List (List ProbeAnswer))
-    → answers ≡ with_answer probe (answer_of there shown guided.play.last.frame.0 x.actor x.number asked) guided.answers.items → (is_due : Bool)
+    → answers ≡ with_answer probe (answer_of there shown guided.screen.store.last.frame.0 x.actor x.number asked) guided.answers.items → (is_due : Bool)
     → is_due ≡ true
     → (last : ℕ) (named : List ℕ) (one : List ProbeAnswer) → CouldSee script last probe named → slice_get guided.answers.items probe ≡ Some one
-    → is_due ≡ is_reached (slice_get named (length one)) (frames guided.play.board.history)
-    → HasSeen (frames guided.play.board.history) named (map frame_seen one) → SeenBehind probe (frames guided.play.board.history) named answers true
+    → is_due ≡ is_reached (slice_get named (length one)) (frames guided.screen.board.history)
+    → HasSeen (frames guided.screen.board.history) named (map frame_seen one) → SeenBehind probe (frames guided.screen.board.history) named answers true
 line-answered script guided probe place stands at_place below x at asked asks there shown answers answers_are is_due due last named one could got reached has =
-    let answer : ProbeAnswer = answer_of there shown guided.play.last.frame.0 x.actor x.number asked in
+    let answer : ProbeAnswer = answer_of there shown guided.screen.store.last.frame.0 x.actor x.number asked in
     let here = is-here probe x.actor x.body asked asks in
     let mine : is_probe probe x.actor ≡ true = ap (is_probe probe) here.who_is ∙ eq-eqb probe probe refl in
     let was = (stands.probes.each probe place one at_place got).1.as_many in
     let left = line-left script place probe x at.taken mine in
-    behind-answer script last probe (frames guided.play.board.history) named one answer answers could
+    behind-answer script last probe (frames guided.screen.board.history) named one answer answers could
     (ap (λ (os : List (List ProbeAnswer)). slice_get os probe) answers_are ∙ with-got guided.answers.items probe one answer below got)
-    stands.show.answers.number (omega (arith, was, left)) (sym reached ∙ due) has
+    stands.screen.frames.stored.ends.number (omega (arith, was, left)) (sym reached ∙ due) has
 
 -- ---- all lines of a probe that are due
 
@@ -147,20 +146,20 @@ heeds-goes script hints last probe frame old new is_due is_last on below end due
     (heeds named was.one at could was.at) two got
 
 pub step-heeds : (script : Script) (hints : List (List ℕ)) (guided : GuidedRun) (new : List (List ProbeAnswer)) (frame probe : ℕ) (is_last is_due on : Bool)
-    → RunStands script guided → probe < length guided.answers.items → frames guided.play.board.history ≡ frame
+    → RunStands script guided → probe < length guided.answers.items → frames guided.screen.board.history ≡ frame
     → ((named : List ℕ) (one : List ProbeAnswer) → slice_get hints probe ≡ Some named → slice_get guided.answers.items probe ≡ Some one
-    → is_due ≡ (is_last || is_reached (slice_get named (length one)) guided.play.last.frame.0))
+    → is_due ≡ (is_last || is_reached (slice_get named (length one)) guided.screen.store.last.frame.0))
     → ((last : ℕ) (named : List ℕ) (one : List ProbeAnswer) → CouldSee script last probe named → slice_get guided.answers.items probe ≡ Some one
-    → is_due ≡ is_reached (slice_get named (length one)) (frames guided.play.board.history)
-    → HasSeen (frames guided.play.board.history) named (map frame_seen one) → SeenBehind probe (frames guided.play.board.history) named new on)
+    → is_due ≡ is_reached (slice_get named (length one)) (frames guided.screen.board.history)
+    → HasSeen (frames guided.screen.board.history) named (map frame_seen one) → SeenBehind probe (frames guided.screen.board.history) named new on)
     → (last : ℕ) → (is_last ≡ true → last ≡ frame) → Heeds script hints last frame probe guided.answers.items
     → Heeds script hints last (cond on frame (suc frame)) probe new
 step-heeds script hints guided new frame probe is_last is_due on stands below same due goes last end heeds =
     let F : ℕ → Type 0 = λ f. Heeds script hints last f probe guided.answers.items in
     let G : ℕ → Type 0 = λ f. Heeds script hints last (cond on f (suc f)) probe new in
     subst G same
-    (heeds-goes script hints last probe (frames guided.play.board.history) guided.answers.items new is_due is_last on below (λ is. end is ∙ sym same)
-    (λ named one at got. due named one at got ∙ ap (λ (n : ℕ). is_last || is_reached (slice_get named (length one)) n) stands.show.answers.number) goes
+    (heeds-goes script hints last probe (frames guided.screen.board.history) guided.answers.items new is_due is_last on below (λ is. end is ∙ sym same)
+    (λ named one at got. due named one at got ∙ ap (λ (n : ℕ). is_last || is_reached (slice_get named (length one)) n) stands.screen.frames.stored.ends.number) goes
     (subst F (sym same) heeds))
 
 -- behind all lines
@@ -275,10 +274,10 @@ frames-one history entry = by (is_finish entry.kind)
 module _ (script : Script) (text : List ℕ) (hints : List (List ℕ)) (last : ℕ) where
   -- no entry comes next
   pub turn-none : (old new : GuidedRun) (along : Along) (made : Bool) → made ≡ false
-      → MakesNext script text old.play.board.history new.play.board.history along made → new.answers.items ≡ old.answers.items
-      → AllHeed script hints last (suc (frames old.play.board.history)) old.answers.items → HeedsSo script text hints last new
+      → MakesNext script text old.screen.board.history new.screen.board.history along made → new.answers.items ≡ old.answers.items
+      → AllHeed script hints last (suc (frames old.screen.board.history)) old.answers.items → HeedsSo script text hints last new
   turn-none old new along false is (MakesNext.stops same only) answers heeds =
-      let A : List (List ProbeAnswer) → Type 0 = AllHeed script hints last (suc (frames old.play.board.history)) in
+      let A : List (List ProbeAnswer) → Type 0 = AllHeed script hints last (suc (frames old.screen.board.history)) in
       let F : List Entry → Type 0 = λ h. AllHeed script hints last (suc (frames h)) new.answers.items in
       inr (subst F (sym same) (subst A (sym answers) heeds))
   turn-none old new along true is (MakesNext.makes entry grown part) answers heeds = absurd (true≢false is)
@@ -306,7 +305,7 @@ module _ (script : Script) (text : List ℕ) (hints : List (List ℕ)) (last : �
 
   -- turn after turn
   pub heeds-on : (old new : GuidedRun) → HeedsSo script text hints last old
-      → (AllHeed script hints last (suc (frames old.play.board.history)) old.answers.items → HeedsSo script text hints last new)
+      → (AllHeed script hints last (suc (frames old.screen.board.history)) old.answers.items → HeedsSo script text hints last new)
       → HeedsSo script text hints last new
   heeds-on old new (inl none) goes = inl none
   heeds-on old new (inr heeds) goes = goes heeds

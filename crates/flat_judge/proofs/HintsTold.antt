@@ -1,15 +1,13 @@
 -- What the end of a run's report says of probes is what they saw.
-use Rattle.std.proofs.Common.{◌≡◌, ◌≢◌, ℕ, zero, suc, ◌+◌, ◌-◌, ◌<◌, ◌≤◌, ◌^◌, ◌||◌, ◌&&◌, ◌==◌, not, ℤ, pos, negsuc, nat_le, nat_lt, Bool, true, false, cond}
-use Rattle.std.proofs.Common.{List, [], ◌∷◌, ◌++◌, length, map, filter, drop, codes, unwrap_or, append_assoc, length-append, refl, sym, ap, ◌∙◌, subst, arith}
+use Rattle.std.proofs.Common.{◌≡◌, ℕ, zero, suc, ◌+◌, ◌-◌, ◌<◌, ◌≤◌, ◌^◌, ◌||◌, ◌&&◌, ◌==◌, not, ℤ, pos, negsuc, nat_le, nat_lt, Bool, true, false, cond}
+use Rattle.std.proofs.Common.{List, [], ◌∷◌, ◌++◌, length, map, drop, codes, unwrap_or, append_assoc, length-append, refl, sym, ap, ◌∙◌, arith}
 use Rattle.std.proofs.Common.{Option, Some, None, slice_get}
 use Rattle.std.specs.Char.{is_ascii_digit}
 use Rattle.std.specs.Fmt.{signed_decimal}
 use Rattle.std.specs.List.{flat_map, list_all, zip, range_with_len}
 use Rattle.std.proofs.lemmas.Bool.{and_parts, and_from, eq-eqb, eqb-true}
 use Rattle.std.proofs.lemmas.Bool.Decides.{nat_tests}
-use Rattle.std.proofs.lemmas.List.{length-map, map-append}
-use Rattle.std.proofs.lemmas.List.Concat.{flat_map-append}
-use Rattle.std.proofs.lemmas.List.Folds.{list_all-append}
+use Rattle.std.proofs.lemmas.List.{length-map}
 use Rattle.flat_base.specs.declared.ids.Actor.{Actor}
 use Rattle.flat_base.specs.declared.ids.Actor.TheVariants.{Display, Session, Probe}
 use Rattle.flat_scene.specs.declared.calls.Interaction.{Interaction}
@@ -23,7 +21,7 @@ use Rattle.flat_scene.specs.declared.script.ProbeLine.TheVariants as probe
 use Rattle.flat_scene.specs.declared.script.ScriptLine.{ScriptLine}
 use Rattle.flat_rules.specs.Legal.{frames}
 use Rattle.flat_text.specs.Number.{natural}
-use Rattle.flat_text.specs.Pieces.{lines_of, words_of}
+use Rattle.flat_text.specs.Pieces.{lines_of}
 use Rattle.flat_text.proofs.lemmas.NumberLemmas.{natural-decimal}
 use Rattle.flat_places.specs.declared.script.Script.{Script}
 use Rattle.flat_places.specs.Names.{place_of}
@@ -32,16 +30,15 @@ use Rattle.flat_places.specs.Forms.{Word}
 use Rattle.flat_lines.specs.Ends.{end_line, title_line}
 use Rattle.flat_lines.specs.EntryLines.{hit_words}
 use Rattle.flat_report.specs.Probes.{is_asking, never_fall_from}
-use Rattle.flat_report.specs.Report.{begin_of, history_lines, hits_at, is_probe, is_seeing, never_falls, probe_lines, probe_lines_of, report, same_probe}
+use Rattle.flat_report.specs.Report.{begin_of, history_lines, hits_at, is_probe, is_seeing, never_falls, probe_lines, report, same_probe}
 use Rattle.flat_report.specs.Report.{seen_line, seen_words}
 use Rattle.flat_report.proofs.lemmas.Named.{AreNames, IsNamed, name-word}
 use Rattle.flat_report.proofs.lemmas.SeenTold.{is_of_probe}
 use Rattle.flat_report.proofs.lemmas.Sheets.{is_digit, is_word, number-digits, number-word}
 use Rattle.flat_report.proofs.lemmas.Tails.{text-append}
 use Rattle.flat_judge.specs.Heeding.{CouldSee}
-use Rattle.flat_judge.specs.Hints.{answer_lines, frame_told, hint_in, hints_of, is_this, low_number, probe_answered, probe_by}
+use Rattle.flat_judge.specs.Hints.{answer_lines, frame_told, hint_in, hints_of, is_this, low_number, probe_answered}
 use Rattle.flat_judge.proofs.Breaks.{lines-back, text-ends, words-back}
-use Rattle.flat_judge.proofs.Seen.{ahead-less}
 use Rattle.flat_judge.proofs.Shares.{as-many, select, selected}
 
 -- ---- words

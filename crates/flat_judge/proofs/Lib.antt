@@ -6,7 +6,7 @@ pub mod NoTitles
 pub mod Partings
 pub mod RunSteps
 pub mod Seats
-pub mod Shows
+pub mod Screens
 pub mod ProbePlaces
 pub mod WholeRuns
 mod Along

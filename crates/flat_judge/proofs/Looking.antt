@@ -1,17 +1,16 @@
 -- Looking through the lines that may answer probes.
-use Rattle.std.proofs.Common.{◌≡◌, ℕ, zero, suc, ◌+◌, ◌-◌, ◌<◌, ◌≤◌, ◌==◌, Bool, true, false, cond, List, [], ◌∷◌, ◌++◌, length, drop, replicate, append_assoc}
-use Rattle.std.proofs.Common.{append-nil, length-append, refl, sym, ap, ◌∙◌, subst, arith, Option, Some, None, Result, Ok, Err, slice_get, slice_index_or}
+use Rattle.std.proofs.Common.{◌≡◌, ℕ, zero, suc, ◌+◌, ◌<◌, ◌≤◌, ◌==◌, Bool, true, false, cond, List, [], ◌∷◌, ◌++◌, length, drop, replicate, append_assoc}
+use Rattle.std.proofs.Common.{append-nil, length-append, refl, sym, ap, ◌∙◌, arith, Option, Some, Result, Ok, Err, slice_get}
 use Rattle.std.proofs.Common.{slice_set}
 use Rattle.std.specs.Prelude.{IfOk, OnOk}
 use Rattle.std.specs.List.{flat_map, range_with_len}
 use Rattle.std.proofs.lemmas.Bool.{eq-eqb, eqb-true}
 use Rattle.std.proofs.lemmas.Bool.Decides.{nat_tests}
-use Rattle.std.proofs.lemmas.Option.{slice_get-get_or}
 use Rattle.flat_scene.specs.declared.script.ScriptLine.{ScriptLine}
 use Rattle.flat_places.specs.declared.script.Script.{Script}
 use Rattle.flat_text.specs.Pieces.{lines_of, words_of}
-use Rattle.flat_report.specs.Report.{probe_lines, probe_lines_of}
-use Rattle.flat_judge.specs.Hints.{AreHints, AreNamed, NotesLine, answer_lines, frame_told, hint_in, hints_of, is_this, probe_answered}
+use Rattle.flat_report.specs.Report.{probe_lines_of}
+use Rattle.flat_judge.specs.Hints.{AreHints, AreNamed, NotesLine, answer_lines, frame_told, hint_in, is_this, probe_answered}
 
 -- ---- lines that are passed
 

@@ -1,6 +1,6 @@
 -- Displays that are lost one behind another, as a report tells them.
-use Rattle.std.proofs.Common.{◌≡◌, ℕ, zero, suc, ◌+◌, ◌<◌, ◌≤◌, ◌^◌, ◌==◌, ◌&&◌, ◌||◌, not, nat_lt, nat_le, Bool, true, false, cond, List, [], ◌∷◌, ◌++◌}
-use Rattle.std.proofs.Common.{length, map, take, drop, codes, Some, None, refl, sym, ap, ◌∙◌, subst, arith, append_assoc, append-nil, length-append, true≢false}
+use Rattle.std.proofs.Common.{◌≡◌, ℕ, suc, ◌+◌, ◌<◌, ◌≤◌, ◌^◌, ◌==◌, ◌&&◌, ◌||◌, not, nat_lt, nat_le, Bool, true, false, List, [], ◌∷◌, ◌++◌}
+use Rattle.std.proofs.Common.{length, map, take, drop, codes, Some, None, refl, sym, ap, ◌∙◌, subst, arith, append_assoc, append-nil, length-append}
 use Rattle.std.proofs.lemmas.List.{map-append, take-append-drop}
 use Rattle.std.proofs.lemmas.Grind.{common_steps}
 use Rattle.flat_report.proofs.lemmas.Tails.{text-append}
@@ -20,7 +20,6 @@ use Rattle.flat_report.specs.Runs.{is_display_number}
 use Rattle.std.proofs.lemmas.Fmt.{decimal_injective}
 use Rattle.std.proofs.lemmas.List.{append_cancel_left}
 use Rattle.flat_page.specs.Words.{number, text_of}
-use Rattle.flat_places.specs.Forms.{Word}
 use Rattle.flat_text.proofs.lemmas.NumberLemmas.{natural-decimal}
 use Rattle.flat_judge.proofs.NextWords.{loss-next}
 use Rattle.flat_judge.specs.Following.{AreLosses, Begins, NoMoreLost, Passes, ReadsLoss, ReadsLosses, are_behind, fits_behind, next_display}

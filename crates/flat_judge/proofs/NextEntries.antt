@@ -1,15 +1,10 @@
 -- The next entry of an actor, in a run that follows a text.
-use Rattle.std.proofs.Common.{◌≡◌, ℕ, suc, ◌+◌, ◌-◌, ◌<◌, ◌≤◌, Bool, true, false, List, [], ◌∷◌, ◌++◌, length, drop, get_or, Option, Some, None, slice_get}
+use Rattle.std.proofs.Common.{◌≡◌, ℕ, ◌+◌, ◌-◌, ◌<◌, ◌≤◌, Bool, true, false, List, [], ◌∷◌, length, drop, get_or, Some, None}
 use Rattle.std.proofs.Common.{slice_index_or, refl, sym, ap, ◌∙◌, subst, arith}
 use Rattle.std.proofs.lemmas.Bool.Decides.{nat_tests}
-use Rattle.std.proofs.lemmas.Option.{slice_get-get_or}
-use Rattle.flat_base.specs.declared.ids.Actor.{Actor}
-use Rattle.flat_base.specs.declared.ids.Actor.TheVariants.{Display, Session, Probe}
+use Rattle.flat_base.specs.declared.ids.Actor.TheVariants.{Display, Session}
 use Rattle.flat_base.specs.declared.ids.SessionNo.{SessionNo}
-use Rattle.flat_scene.specs.declared.calls.Call.{Call}
 use Rattle.flat_scene.specs.declared.journal.Entry.{Entry}
-use Rattle.flat_scene.specs.declared.journal.Kind.{Kind}
-use Rattle.flat_scene.specs.declared.journal.Reply.{Reply}
 use Rattle.flat_scene.specs.declared.setup.Setup.{Setup}
 use Rattle.flat_scene.specs.History.{◌▹◌, own}
 use Rattle.flat_scene.specs.Interleave.{Follows, by_display, display_lines, session_lines, unread_lines}
@@ -25,7 +20,7 @@ use Rattle.flat_judge.specs.declared.following.Along.{Along}
 use Rattle.flat_judge.specs.declared.guided_run.GuidedRun.{GuidedRun}
 use Rattle.flat_judge.specs.declared.seat.Seat.{Seat}
 use Rattle.flat_judge.specs.Following.{IsAlong, MakesNext, next_actor}
-use Rattle.flat_judge.specs.GuidedRuns.{DisplayGoes, Goes, HasEntered, RunStands, SitsBy}
+use Rattle.flat_judge.specs.GuidedRuns.{DisplayGoes, Goes, RunStands, SitsBy}
 use Rattle.flat_judge.proofs.Growth.{display-stays}
 use Rattle.flat_judge.proofs.RunSteps.{seat_sits}
 use Rattle.flat_judge.proofs.Ends.{display-done, makes-next, session-done, stops-other, stops-silent}
@@ -38,15 +33,15 @@ sits-follows script playable s history seat true sits = sits.follows
 sits-follows script playable s history seat false sits = follows-so-far script playable s seat.place (own s history) sits.stands.reads.follows
 
 pub run-stands : (script : Script) → is_playable script ≡ true → (guided : GuidedRun) → RunStands script guided
-    → Legal guided.play.board.setup guided.play.board.history → Stands script.setup script.count script.lines guided.play.board.history
+    → Legal guided.screen.board.setup guided.screen.board.history → Stands script.setup script.count script.lines guided.screen.board.history
 run-stands script playable guided stands legal = record {
-  legal = (let L : Setup → Type 0 = λ st. Legal st guided.play.board.history in subst L stands.show.setup legal);
+  legal = (let L : Setup → Type 0 = λ st. Legal st guided.screen.board.history in subst L stands.screen.setup legal);
   sessions = λ s declared. mine s declared;
   display = stands.display.follows;
 }
   where
     mine : (s : SessionNo) → is_declared script.setup s ≡ true
-        → Follows script.setup script.count (session_lines s script.lines) (own s guided.play.board.history)
+        → Follows script.setup script.count (session_lines s script.lines) (own s guided.screen.board.history)
     mine s declared =
         let least : 1 ≤ s.0 = grind (arith, nat_tests) in
         let most : s.0 ≤ script.setup.sessions = grind (arith, nat_tests) in
@@ -54,9 +49,9 @@ run-stands script playable guided stands legal = record {
         let within : s.0 - 1 < length guided.seats.items = omega (arith, least, most, many) in
         let same : s.0 - 1 + 1 ≡ s.0 = omega (arith, least) in
         let F : ℕ → Type 0 = λ n. Follows script.setup script.count (session_lines (record { 0 = n }) script.lines)
-        (own (record { 0 = n }) guided.play.board.history) in
+        (own (record { 0 = n }) guided.screen.board.history) in
         let seat = slice_index_or guided.seats.items (s.0 - 1) (some guided.seats.items within) in
-        subst F same (sits-follows script playable (record { 0 = s.0 - 1 + 1 }) guided.play.board.history seat seat.has_ended
+        subst F same (sits-follows script playable (record { 0 = s.0 - 1 + 1 }) guided.screen.board.history seat seat.has_ended
         (stands.seats.each (s.0 - 1) (some guided.seats.items within) within))
       where
         some : (seats : List Seat) → s.0 - 1 < length seats → Seat
@@ -115,34 +110,34 @@ pub seat-number : (script : Script) (s : SessionNo) → is_declared script.setup
 seat-number script s declared = let least : 1 ≤ s.0 = grind (arith, nat_tests) in omega (arith, least)
 
 -- the seat of a session that has ended
-pub ended-makes : (script : Script) (text : List ℕ) (guided : GuidedRun) (along : Along) (is : IsAlong script text guided.play.board.history along)
+pub ended-makes : (script : Script) (text : List ℕ) (guided : GuidedRun) (along : Along) (is : IsAlong script text guided.screen.board.history along)
     (s : SessionNo) → RunStands script guided → is_declared script.setup s ≡ true
     → next_actor script (drop along.at text) ≡ Some (Session s) → (seat : Seat) → seat ≡ get_or guided.seats.items (s.0 - 1) seat → seat.has_ended ≡ true
-    → MakesNext script text guided.play.board.history guided.play.board.history along false
+    → MakesNext script text guided.screen.board.history guided.screen.board.history along false
 ended-makes script text guided along is s stands declared turn seat found ended =
-    let history = guided.play.board.history in
+    let history = guided.screen.board.history in
     let sits = seat_sits script guided (s.0 - 1) seat stands (seat-within script guided s stands declared) found in
     let P : ℕ → Type 0 = λ n. SitsBy script (record { 0 = n }) history seat seat.has_ended in
     let B : Bool → Type 0 = SitsBy script s history seat in
-    session-ended script text guided.play.board guided.play.board along is s declared turn refl seat
+    session-ended script text guided.screen.board guided.screen.board along is s declared turn refl seat
     (subst B ended (subst P (seat-number script s declared) sits))
 
 -- and of one that goes on
-pub session-enters : (script : Script) (text : List ℕ) (old new : GuidedRun) (along : Along) (is : IsAlong script text old.play.board.history along)
+pub session-enters : (script : Script) (text : List ℕ) (old new : GuidedRun) (along : Along) (is : IsAlong script text old.screen.board.history along)
     → is_playable script ≡ true → (s : SessionNo) → is_declared script.setup s ≡ true
-    → next_actor script (drop along.at text) ≡ Some (Session s) → Goes (Session (record { 0 = s.0 - 1 + 1 })) old.play.board new.play.board true
-    → RunStands script new → Legal new.play.board.setup new.play.board.history
-    → MakesNext script text old.play.board.history new.play.board.history along true
+    → next_actor script (drop along.at text) ≡ Some (Session s) → Goes (Session (record { 0 = s.0 - 1 + 1 })) old.screen.board new.screen.board true
+    → RunStands script new → Legal new.screen.board.setup new.screen.board.history
+    → MakesNext script text old.screen.board.history new.screen.board.history along true
 session-enters script text old new along is playable s declared turn goes stands legal =
-    let G : ℕ → Type 0 = λ n. Goes (Session (record { 0 = n })) old.play.board new.play.board true in
-    session-makes script text old.play.board new.play.board along is s turn (subst G (seat-number script s declared) goes)
+    let G : ℕ → Type 0 = λ n. Goes (Session (record { 0 = n })) old.screen.board new.screen.board true in
+    session-makes script text old.screen.board new.screen.board along is s turn (subst G (seat-number script s declared) goes)
     (run-stands script playable new stands legal)
 
 -- where the display has no line left, it has read all
 pub none-unread : (script : Script) (old new : GuidedRun) → RunStands script new → new.place ≡ length script.lines → (made : Bool) → made ≡ false
-    → DisplayGoes old.play.board new.play.board made
-    → unread_lines (by_display old.play.board.history) (display_lines script.lines) ≡ []
+    → DisplayGoes old.screen.board new.screen.board made
+    → unread_lines (by_display old.screen.board.history) (display_lines script.lines) ≡ []
 none-unread script old new stands end made none goes =
-    let same : new.play.board.history ≡ old.play.board.history = ap (λ (m : Machine). m.history) (display-stays old.play.board new.play.board made none goes) in
+    let same : new.screen.board.history ≡ old.screen.board.history = ap (λ (m : Machine). m.history) (display-stays old.screen.board new.screen.board made none goes) in
     ap (λ (h : List Entry). unread_lines (by_display h) (display_lines script.lines)) (sym same)
     ∙ stands.display.left ∙ ap (λ (n : ℕ). display_lines (drop n script.lines)) end ∙ ap display_lines (drop_all script.lines)

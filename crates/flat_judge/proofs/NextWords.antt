@@ -1,6 +1,6 @@
 -- The first words of a report's lines tell whose entry is next, or which display was lost.
-use Rattle.std.proofs.Common.{◌≡◌, ℕ, zero, suc, ◌+◌, ◌-◌, ◌<◌, ◌≤◌, ◌^◌, ◌&&◌, ℤ, nat_lt, nat_le, Bool, true, false, cond, if◌then◌else◌, List, [], ◌∷◌, ◌++◌}
-use Rattle.std.proofs.Common.{length, drop, take_while, map, codes, Option, Some, None, refl, sym, ap, ◌∙◌, subst, arith, Decides, true≢false}
+use Rattle.std.proofs.Common.{◌≡◌, ℕ, suc, ◌+◌, ◌-◌, ◌<◌, ◌≤◌, ◌&&◌, ℤ, nat_lt, Bool, true, false, if◌then◌else◌, List, [], ◌∷◌, ◌++◌}
+use Rattle.std.proofs.Common.{length, drop, map, codes, Option, Some, None, refl, sym, ap, ◌∙◌, subst, arith, Decides, true≢false}
 use Rattle.std.specs.List.{list_all, zip}
 use Rattle.std.specs.Str.{bytes_eq}
 use Rattle.std.proofs.lemmas.Bool.{and_parts}
@@ -20,7 +20,7 @@ use Rattle.flat_scene.specs.declared.script.ScriptLine.{ScriptLine}
 use Rattle.flat_scene.specs.Setups.{is_declared}
 use Rattle.flat_text.specs.Number.{natural}
 use Rattle.flat_places.specs.declared.script.Script.{Script}
-use Rattle.flat_places.specs.Names.{is_name, place_of}
+use Rattle.flat_places.specs.Names.{place_of}
 use Rattle.flat_page.specs.Words.{number, name_at, session_name, actor_name}
 use Rattle.flat_places.specs.Forms.{Word}
 use Rattle.flat_lines.specs.EntryLines.{answer_words, entry_line, said_words}

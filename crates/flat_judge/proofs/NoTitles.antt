@@ -1,6 +1,6 @@
 -- No line of a script begins a report.
-use Rattle.std.proofs.Common.{◌≡◌, ℕ, ◌+◌, ◌||◌, nat_lt, Bool, true, false, cond, List, [], ◌∷◌, length, codes, Option, Some, None, Result, Ok, Err, refl}
-use Rattle.std.proofs.Common.{subst, sym, ap, ◌∙◌}
+use Rattle.std.proofs.Common.{◌≡◌, ℕ, ◌+◌, nat_lt, Bool, true, false, cond, List, [], ◌∷◌, length, codes, Option, Some, None, Result, Ok, Err, refl}
+use Rattle.std.proofs.Common.{sym, ap, ◌∙◌}
 use Rattle.std.specs.List.{list_any}
 use Rattle.std.specs.Option.{option_map_or}
 use Rattle.std.specs.Str.{bytes_eq}
@@ -9,7 +9,6 @@ use Rattle.flat_base.specs.declared.ids.Actor.{Actor}
 use Rattle.flat_base.specs.declared.ids.Actor.TheVariants.{Display, Session, Probe}
 use Rattle.flat_scene.specs.declared.script.Body.{Body}
 use Rattle.flat_scene.specs.declared.script.Body.TheVariants as body
-use Rattle.flat_places.specs.declared.kinds.FaultKind.{FaultKind}
 use Rattle.flat_places.specs.declared.kinds.FaultKind.TheVariants.{BadHead, Limit, TooLong, UnknownActor, UnknownCall}
 use Rattle.flat_places.specs.declared.script.Script.{Script}
 use Rattle.flat_places.specs.Forms.{Reading, Word, at_word, mapped, unless_kind, whole}

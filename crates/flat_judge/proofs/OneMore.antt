@@ -1,7 +1,7 @@
 -- What the lines of one entry more tell of a text, and of the runs that have it as their report.
-use Rattle.std.proofs.Common.{◌≡◌, ℕ, zero, suc, ◌+◌, ◌<◌, ◌≤◌, ◌^◌, ◌==◌, ◌&&◌, nat_lt, nat_le, Bool, true, false, cond, List, [], ◌∷◌, ◌++◌, length, drop}
-use Rattle.std.proofs.Common.{map, codes, Option, Some, None, refl, sym, ap, ◌∙◌, subst, arith, append_assoc, append-nil, length-append, true≢false}
-use Rattle.std.specs.List.{list_all, zip}
+use Rattle.std.proofs.Common.{◌≡◌, ℕ, suc, ◌+◌, ◌<◌, ◌≤◌, ◌^◌, ◌==◌, ◌&&◌, nat_lt, nat_le, Bool, true, false, cond, List, [], ◌∷◌, ◌++◌, length, drop}
+use Rattle.std.proofs.Common.{map, codes, Some, None, refl, sym, ap, ◌∙◌, subst, arith, append_assoc, append-nil, length-append}
+use Rattle.std.specs.List.{list_all}
 use Rattle.std.proofs.lemmas.Bool.Decides.{nat_tests}
 use Rattle.std.proofs.lemmas.List.{append_cancel_left}
 use Rattle.flat_base.proofs.lemmas.Tests.{and-left, and-right, and-true}
@@ -28,12 +28,12 @@ use Rattle.flat_report.proofs.lemmas.Sheets.{line_on, sheet, text-sheet}
 use Rattle.flat_report.proofs.lemmas.Tails.{onto, tail, text-append}
 use Rattle.flat_report.proofs.lemmas.Turns.{Stands, stands, stood}
 use Rattle.flat_judge.specs.declared.following.Along.{Along}
-use Rattle.flat_judge.specs.Following.{AllGoOn, AreLosses, Begins, GoesOnTo, IsAlong, IsLineTold, IsPart, IsShownTold, NoMoreLost, Passes, ReadsLosses, Stays}
-use Rattle.flat_judge.specs.Following.{and_then, are_behind, events_text, own_text, shown_text, told}
-use Rattle.flat_judge.specs.Verdicts.{IsRead, NoRun, Run, report_of}
-use Rattle.flat_judge.proofs.Along.{ending, events_here, frames-one, later_text, lost-append, own_line, prefix-agrees, shown-agree, shown_here, tail-parts}
+use Rattle.flat_judge.specs.Following.{AllGoOn, AreLosses, Begins, GoesOnTo, IsAlong, IsLineTold, IsPart, IsShownTold, NoMoreLost, Passes, ReadsLosses}
+use Rattle.flat_judge.specs.Following.{are_behind, events_text, own_text, shown_text, told}
+use Rattle.flat_judge.specs.Verdicts.{NoRun, Run, report_of}
+use Rattle.flat_judge.proofs.Along.{ending, events_here, frames-one, lost-append, own_line, prefix-agrees, shown-agree, shown_here, tail-parts}
 use Rattle.flat_judge.proofs.Along.{text-here, then-onto, told-agrees, told-more}
-use Rattle.flat_judge.proofs.LossesTold.{Parted, are_at, at-here, loss-parts, part, same-losses}
+use Rattle.flat_judge.proofs.LossesTold.{are_at, at-here, loss-parts, part, same-losses}
 use Rattle.flat_judge.proofs.Fitting.{goes_before}
 use Rattle.flat_report.proofs.lemmas.Losses.{is_at, is_small}
 use Rattle.flat_report.specs.Runs.{is_display_number}

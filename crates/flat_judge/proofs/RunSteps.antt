@@ -1,13 +1,11 @@
 -- A run that is made by a guide, after one step more.
-use Rattle.std.proofs.Common.{◌≡◌, ◌≢◌, ℕ, zero, suc, ◌+◌, ◌<◌, ◌≤◌, Bool, true, false, cond, ◌==◌, List, [], ◌∷◌, length, drop, get_or, set, replicate, refl}
+use Rattle.std.proofs.Common.{◌≡◌, ◌≢◌, ℕ, ◌+◌, ◌<◌, ◌≤◌, Bool, true, false, cond, ◌==◌, List, [], length, drop, get_or, set, replicate, refl}
 use Rattle.std.proofs.Common.{sym, ap, ◌∙◌, subst, arith, Some, None, slice_get, slice_set, slice_index_or}
 use Rattle.std.proofs.lemmas.Bool.{eq-eqb, eqb-true}
 use Rattle.std.proofs.lemmas.Bool.Decides.{nat_tests}
 use Rattle.std.proofs.lemmas.Option.{slice_get-get_or}
-use Rattle.flat_base.specs.declared.ids.Actor.{Actor}
 use Rattle.flat_base.specs.declared.ids.Actor.TheVariants.{Display, Session}
 use Rattle.flat_base.specs.declared.ids.SessionNo.{SessionNo}
-use Rattle.flat_scene.specs.declared.calls.Call.{Call}
 use Rattle.flat_scene.specs.declared.journal.Entry.{Entry}
 use Rattle.flat_scene.specs.declared.journal.Kind.{Kind}
 use Rattle.flat_scene.specs.declared.journal.Reply.{Reply}
@@ -15,15 +13,15 @@ use Rattle.flat_scene.specs.declared.script.DisplayLine.{DisplayLine}
 use Rattle.flat_scene.specs.declared.script.ProbeLine.{ProbeLine}
 use Rattle.flat_scene.specs.declared.script.ScriptLine.{ScriptLine}
 use Rattle.flat_scene.specs.History.{◌▹◌, is_display}
-use Rattle.flat_scene.specs.Journals.{seat_number}
 use Rattle.flat_scene.specs.Interleave.{FollowsDisplay, by_display, display_line, display_lines, entry_of_display, unread_lines}
 use Rattle.flat_scene.specs.Setups.{at_ratio}
-use Rattle.flat_core.specs.Machines.{Machine, entered, entry_of, made}
+use Rattle.flat_core.specs.Machines.{Machine, entry_of, made}
 use Rattle.flat_rules.specs.Legal.{begin_time, is_frame_open, reply_to}
 use Rattle.flat_places.specs.declared.script.Script.{Script}
 use Rattle.flat_playable.specs.Playable.{frames_close, is_playable}
 use Rattle.flat_report.specs.declared.probes.ProbeAnswer.{ProbeAnswer}
-use Rattle.flat_play.specs.declared.play.Play.{Play}
+use Rattle.flat_judge.specs.declared.screen.Screen.{Screen}
+use Rattle.flat_play.specs.declared.frame.LastFrame.{LastFrame}
 use Rattle.flat_play.specs.Last.{StaysLast}
 use Rattle.flat_play.specs.Probing.{answer_of, with_answer}
 use Rattle.flat_play.specs.Playing.{DisplayStands, display_text, lines_by}
@@ -34,28 +32,28 @@ use Rattle.flat_play.proofs.lemmas.Steps.{At}
 use Rattle.flat_play.proofs.lemmas.Unread.{later_all}
 use Rattle.flat_judge.specs.declared.guided_run.GuidedRun.{GuidedRun}
 use Rattle.flat_judge.specs.declared.seat.Seat.{Seat}
-use Rattle.flat_judge.specs.GuidedRuns.{AreBehind, ProbeGoesOn, Goes, GoesOn, HasEntered, HaveEnded, IsAt, RunStands, SeatsStand, ShowStands, Sits, SitsBy}
+use Rattle.flat_judge.specs.GuidedRuns.{AreBehind, ProbeGoesOn, Goes, GoesOn, HasEntered, HaveEnded, IsAt, RunStands, SeatsStand, ScreenStands, Sits, SitsBy}
 use Rattle.flat_judge.specs.GuidedRuns.{ProbesStandAt, asked_here, is_aside}
 use Rattle.flat_judge.proofs.DisplayLines.{IsDisplays, display_goes, display_passes, goes_spent, passes_spent}
 use Rattle.flat_judge.proofs.Seats.{made_one, seats_display, seats_set}
-use Rattle.flat_judge.proofs.Shows.{aside_begin, aside_finish, show_stays, shows_aside}
+use Rattle.flat_judge.proofs.Screens.{aside_begin, aside_finish, screen_aside, screen_stays}
 use Rattle.flat_judge.proofs.ProbePlaces.{probes-answer, probes-first, probes-on, probes-pass}
 
 -- ---- before any line
 
-pub run_first : (script : Script) → is_playable script ≡ true → (guided : GuidedRun) → ShowStands script guided.play → guided.play.board.history ≡ []
+pub run_first : (script : Script) → is_playable script ≡ true → (guided : GuidedRun) → ScreenStands script guided.screen → guided.screen.board.history ≡ []
     → SeatsStand script [] guided.seats.items → guided.place ≡ 0 → guided.places ≡ replicate script.setup.probes 0
     → guided.answers.items ≡ replicate script.setup.probes [] → RunStands script guided
 run_first script playable guided show none seats place places answers =
     let S : List Entry → Type 0 = λ h. SeatsStand script h guided.seats.items in
     let D : ℕ → List Entry → Type 0 = λ n h. DisplayStands script n h in
     let D1 : List Entry → Type 0 = D 0 in
-    let D2 : ℕ → Type 0 = λ n. D n guided.play.board.history in
+    let D2 : ℕ → Type 0 = λ n. D n guided.screen.board.history in
     let R : List Entry → Type 0 = λ h. ProbesStandAt script h guided.places guided.answers.items in
-    let no_entry : made 0 guided.play.board.history ≡ 0 = ap (made 0) none in
+    let no_entry : made 0 guided.screen.board.history ≡ 0 = ap (made 0) none in
     let from_start : lines_by 0 (drop guided.place script.lines) ≡ lines_by 0 script.lines = ap (λ (n : ℕ). lines_by 0 (drop n script.lines)) place in
     record {
-      show = show;
+      screen = show;
       seats = subst S (sym none) seats;
       within = omega (arith, place);
       display = subst D2 (sym place) (subst D1 (sym none) (record {
@@ -71,9 +69,9 @@ run_first script playable guided show none seats place places answers =
 
 -- the seat at a place
 pub seat_sits : (script : Script) (guided : GuidedRun) (k : ℕ) (seat : Seat) → RunStands script guided → k < length guided.seats.items
-    → seat ≡ get_or guided.seats.items k seat → Sits script (record { 0 = k + 1 }) guided.play.board.history seat
+    → seat ≡ get_or guided.seats.items k seat → Sits script (record { 0 = k + 1 }) guided.screen.board.history seat
 seat_sits script guided k seat stands below is =
-    let P : Seat → Type 0 = λ p. Sits script (record { 0 = k + 1 }) guided.play.board.history p in
+    let P : Seat → Type 0 = λ p. Sits script (record { 0 = k + 1 }) guided.screen.board.history p in
     subst P (sym is) (stands.seats.each k seat below)
 
 pub seat_open : (script : Script) (s : SessionNo) (history : List Entry) (seat : Seat) → seat.has_ended ≡ false → Sits script s history seat
@@ -95,17 +93,17 @@ display_beside_entry script place old e other aside stands =
     }
 
 pub session_goes : (script : Script) (guided next : GuidedRun) (k : ℕ) (seat : Seat) (board : Machine) → k < length guided.seats.items → RunStands script guided
-    → Goes (Session (record { 0 = k + 1 })) guided.play.board board true
-    → Sits script (record { 0 = k + 1 }) board.history seat → next.play ≡ record guided.play { board = board }
+    → Goes (Session (record { 0 = k + 1 })) guided.screen.board board true
+    → Sits script (record { 0 = k + 1 }) board.history seat → next.screen ≡ record guided.screen { board = board }
     → next.seats.items ≡ set guided.seats.items k seat → next.place ≡ guided.place → next.places ≡ guided.places → next.answers.items ≡ guided.answers.items
     → RunStands script next
-session_goes script guided next k seat board below stands (Goes.enters number carries kind reply aside is) sits play_is seats_are place_is places_are
+session_goes script guided next k seat board below stands (Goes.enters number carries kind reply aside is) sits screen_is seats_are place_is places_are
     answers_are =
-    let h : List Entry = guided.play.board.history in
+    let h : List Entry = guided.screen.board.history in
     let e : Entry = entry_of (Session (record { 0 = k + 1 })) number carries kind reply in
     let grown : board.history ≡ (h ▹ e) = ap (λ (m : Machine). m.history) is in
-    let history : next.play.board.history ≡ (h ▹ e) = ap (λ (p : Play). p.board.history) play_is ∙ grown in
-    let H : Play → Type 0 = ShowStands script in
+    let history : next.screen.board.history ≡ (h ▹ e) = ap (λ (p : Screen). p.board.history) screen_is ∙ grown in
+    let H : Screen → Type 0 = ScreenStands script in
     let S : List Seat → Type 0 = SeatsStand script board.history in
     let S1 : Machine → Type 0 = λ m. SeatsStand script m.history next.seats.items in
     let D : ℕ → Type 0 = λ n. DisplayStands script n (h ▹ e) in
@@ -116,16 +114,16 @@ session_goes script guided next k seat board below stands (Goes.enters number ca
     let R3 : List Entry → Type 0 = λ es. ProbesStandAt script es next.places next.answers.items in
     let other : (k + 1 == 0) ≡ false = grind (arith, nat_tests) in
     let none : ◌≡◌ {A = ℕ} (cond (k + 1 == 0) 1 0) 0 = ap (λ b. cond b 1 0) other in
-    let more : made 0 next.play.board.history ≡ made 0 h + cond (k + 1 == 0) 1 0 = ap (made 0) history ∙ made_one 0 h e in
+    let more : made 0 next.screen.board.history ≡ made 0 h + cond (k + 1 == 0) 1 0 = ap (made 0) history ∙ made_one 0 h e in
     let left : lines_by 0 (drop next.place script.lines) ≡ lines_by 0 (drop guided.place script.lines) =
     ap (λ (n : ℕ). lines_by 0 (drop n script.lines)) place_is in
     let within = stands.within in
     let spent = stands.spent in
-    let goes : Goes (Session (record { 0 = k + 1 })) guided.play.board board true = Goes.enters number carries kind reply aside is in
+    let goes : Goes (Session (record { 0 = k + 1 })) guided.screen.board board true = Goes.enters number carries kind reply aside is in
     record {
-      show = subst H (sym play_is) (shows_aside script guided.play board (Session (record { 0 = k + 1 })) number carries kind reply aside is stands.show);
-      seats = subst S1 (sym (ap (λ (p : Play). p.board) play_is))
-          (subst S (sym seats_are) (seats_set script k guided.play.board board guided.seats.items seat below goes sits stands.seats));
+      screen = subst H (sym screen_is) (screen_aside script guided.screen board (Session (record { 0 = k + 1 })) number carries kind reply aside is stands.screen);
+      seats = subst S1 (sym (ap (λ (p : Screen). p.board) screen_is))
+          (subst S (sym seats_are) (seats_set script k guided.screen.board board guided.seats.items seat below goes sits stands.seats));
       within = omega (arith, place_is, within);
       display = subst D1 (sym history) (subst D (sym place_is) (display_beside_entry script guided.place h e refl aside stands.display));
       spent = omega (arith, more, none, left, spent);
@@ -154,48 +152,48 @@ goes_on seats k was is below found later = record {
 module _ (script : Script) (guided next : GuidedRun) (x : ScriptLine) (at : At script guided.place x) (below : guided.place < length script.lines)
     (stands : RunStands script guided) (place_is : next.place ≡ guided.place + 1) where
   -- one of another actor
-  pub line_passes : display_text x.body ≡ None → next.play ≡ guided.play → next.seats ≡ guided.seats → next.places ≡ guided.places
+  pub line_passes : display_text x.body ≡ None → next.screen ≡ guided.screen → next.seats ≡ guided.seats → next.places ≡ guided.places
       → next.answers ≡ guided.answers → RunStands script next
-  line_passes none play_is seats_are places_are answers_are =
-      let h : List Entry = guided.play.board.history in
-      let P : Play → Type 0 = ShowStands script in
-      let S : GuidedRun → Type 0 = λ r. SeatsStand script r.play.board.history r.seats.items in
+  line_passes none screen_is seats_are places_are answers_are =
+      let h : List Entry = guided.screen.board.history in
+      let P : Screen → Type 0 = ScreenStands script in
+      let S : GuidedRun → Type 0 = λ r. SeatsStand script r.screen.board.history r.seats.items in
       let D : ℕ → Type 0 = λ n. DisplayStands script n h in
       let then : GuidedRun = record guided { place = guided.place + 1 } in
       let spent = passes_spent script guided.place x at h stands.spent in
       let made_so : RunStands script then = record {
-        show = stands.show;
+        screen = stands.screen;
         seats = stands.seats;
         within = omega (arith, below);
         display = display_passes script guided.place x at none h stands.display;
         spent = spent;
         probes = stands.probes;
       } in
-      let same : next ≡ then = λ i. record { play = play_is i; seats = seats_are i; place = place_is i; places = places_are i; answers = answers_are i } in
+      let same : next ≡ then = λ i. record { screen = screen_is i; seats = seats_are i; place = place_is i; places = places_are i; answers = answers_are i } in
       subst (RunStands script) (sym same) made_so
 
   -- one of the display
-  pub line_enters : (text : DisplayLine) → IsDisplays x text → ShowStands script next.play
-      → HasEntered x.number (entry_of_display text) guided.play.board next.play.board → next.seats ≡ guided.seats → next.places ≡ guided.places
+  pub line_enters : (text : DisplayLine) → IsDisplays x text → ScreenStands script next.screen
+      → HasEntered x.number (entry_of_display text) guided.screen.board next.screen.board → next.seats ≡ guided.seats → next.places ≡ guided.places
       → next.answers ≡ guided.answers
       → RunStands script next
   line_enters text is show entered_is seats_are places_are answers_are =
-      let h : List Entry = guided.play.board.history in
+      let h : List Entry = guided.screen.board.history in
       let kind : Kind = entry_of_display text in
-      let reply : Reply = reply_to guided.play.board.setup h Display [] kind in
+      let reply : Reply = reply_to guided.screen.board.setup h Display [] kind in
       let e : Entry = entry_of Display x.number [] kind reply in
-      let grown : next.play.board.history ≡ (h ▹ e) = ap (λ (m : Machine). m.history) entered_is in
+      let grown : next.screen.board.history ≡ (h ▹ e) = ap (λ (m : Machine). m.history) entered_is in
       let R : List Entry → Type 0 = λ es. ProbesStandAt script es guided.places guided.answers.items in
-      let then : GuidedRun = record guided { play = next.play; place = guided.place + 1 } in
+      let then : GuidedRun = record guided { screen = next.screen; place = guided.place + 1 } in
       let made_so : RunStands script then = record {
-        show = show;
-        seats = seats_display script guided.play.board next.play.board x.number [] kind reply guided.seats.items entered_is stands.seats;
+        screen = show;
+        seats = seats_display script guided.screen.board next.screen.board x.number [] kind reply guided.seats.items entered_is stands.seats;
         within = omega (arith, below);
-        display = display_goes script guided.place x at text is guided.play.board next.play.board entered_is stands.display;
-        spent = goes_spent script guided.place x at text is guided.play.board next.play.board entered_is stands.spent;
+        display = display_goes script guided.place x at text is guided.screen.board next.screen.board entered_is stands.display;
+        spent = goes_spent script guided.place x at text is guided.screen.board next.screen.board entered_is stands.spent;
         probes = subst R (sym grown) (probes-on script h e guided.places guided.answers.items stands.probes);
       } in
-      let same : next ≡ then = λ i. record { play = next.play; seats = seats_are i; place = place_is i; places = places_are i; answers = answers_are i } in
+      let same : next ≡ then = λ i. record { screen = next.screen; seats = seats_are i; place = place_is i; places = places_are i; answers = answers_are i } in
       subst (RunStands script) (sym same) made_so
 
 -- ---- probes
@@ -204,55 +202,58 @@ module _ (script : Script) (guided : GuidedRun) (probe place : ℕ) (below : pro
     (short : place < length script.lines) (x : ScriptLine) (at : At script place x)
     (stands : RunStands script guided) where
   -- a probe passes a line that isn't its own
-  pub probe_passes : (next : GuidedRun) → asked_here probe x.actor x.body ≡ None → next.play ≡ guided.play → next.seats ≡ guided.seats
+  pub probe_passes : (next : GuidedRun) → asked_here probe x.actor x.body ≡ None → next.screen ≡ guided.screen → next.seats ≡ guided.seats
       → next.place ≡ guided.place → next.places ≡ slice_set guided.places probe (place + 1) → next.answers ≡ guided.answers
       → RunStands script next
-  probe_passes next none play_is seats_are place_is places_are answers_are =
+  probe_passes next none screen_is seats_are place_is places_are answers_are =
       let then : GuidedRun = record guided { places = slice_set guided.places probe (place + 1) } in
       let stands_then : RunStands script then = record {
-        show = stands.show;
+        screen = stands.screen;
         seats = stands.seats;
         within = stands.within;
         display = stands.display;
         spent = stands.spent;
-        probes = probes-pass script guided.play.board.history guided.places guided.answers.items stands.probes probe place below at_place x at short none;
+        probes = probes-pass script guided.screen.board.history guided.places guided.answers.items stands.probes probe place below at_place x at short none;
       } in
-      let same : next ≡ then = λ i. record { play = play_is i; seats = seats_are i; place = place_is i; places = places_are i; answers = answers_are i } in
+      let same : next ≡ then = λ i. record { screen = screen_is i; seats = seats_are i; place = place_is i; places = places_are i; answers = answers_are i } in
       subst (RunStands script) (sym same) stands_then
+
+  abbrev with_last : LastFrame → Screen
+  with_last last = record guided.screen { store = record guided.screen.store { last = last } }
 
   -- or one that is, which the last frame answers
   pub probe_answers : (mid next : GuidedRun) (asked : ProbeLine) → asked_here probe x.actor x.body ≡ Some asked
-      → mid ≡ record guided { play = record guided.play { last = mid.play.last }; answers = mid.answers }
-      → StaysLast script.setup guided.play.last mid.play.last
-      → mid.answers.items ≡ with_answer probe (answer_of (at_ratio guided.play.last.ratio script.setup) guided.play.last.reuse guided.play.last.frame.0 x.actor
-      x.number asked) guided.answers.items
-      → next.play ≡ mid.play → next.seats ≡ mid.seats → next.place ≡ mid.place → next.places ≡ slice_set mid.places probe (place + 1)
+      → mid ≡ record guided { screen = with_last mid.screen.store.last; answers = mid.answers }
+      → StaysLast script.setup guided.screen.store.last mid.screen.store.last
+      → mid.answers.items ≡ with_answer probe (answer_of (at_ratio guided.screen.store.last.ratio script.setup) guided.screen.store.last.reuse
+      guided.screen.store.last.frame.0 x.actor x.number asked) guided.answers.items
+      → next.screen ≡ mid.screen → next.seats ≡ mid.seats → next.place ≡ mid.place → next.places ≡ slice_set mid.places probe (place + 1)
       → next.answers ≡ mid.answers → RunStands script next
-  probe_answers mid next asked asks others stays answered play_is seats_are place_is places_are answers_are =
-      let last = stands.show.answers in
-      let P : List (List ProbeAnswer) → Type 0 = ProbesStandAt script guided.play.board.history (slice_set guided.places probe (place + 1)) in
+  probe_answers mid next asked asks others stays answered screen_is seats_are place_is places_are answers_are =
+      let last = stands.screen.frames.stored.ends in
+      let P : List (List ProbeAnswer) → Type 0 = ProbesStandAt script guided.screen.board.history (slice_set guided.places probe (place + 1)) in
       let then : GuidedRun = record guided {
-        play = record guided.play { last = mid.play.last };
+        screen = with_last mid.screen.store.last;
         places = slice_set guided.places probe (place + 1);
         answers = mid.answers;
       } in
       let stands_then : RunStands script then = record {
-        show = show_stays script guided.play mid.play.last stays stands.show;
+        screen = screen_stays script guided.screen mid.screen.store.last stays stands.screen;
         seats = stands.seats;
         within = stands.within;
         display = stands.display;
         spent = stands.spent;
         probes = subst P (sym answered)
-            (probes-answer script guided.play.board.history guided.places guided.answers.items stands.probes probe place below at_place x at short asked asks
-            (at_ratio guided.play.last.ratio script.setup) guided.play.last.reuse guided.play.last.frame.0 last.number
-            (ap (λ (n : ℕ). at_ratio n script.setup) last.scaling) last.showing);
+            (probes-answer script guided.screen.board.history guided.places guided.answers.items stands.probes probe place below at_place x at short asked asks
+            (at_ratio guided.screen.store.last.ratio script.setup) guided.screen.store.last.reuse guided.screen.store.last.frame.0 last.number
+            (ap (λ (n : ℕ). at_ratio n script.setup) last.scales) last.shows);
       } in
-      let plays : next.play ≡ record guided.play { last = mid.play.last } = play_is ∙ ap (λ (r : GuidedRun). r.play) others in
+      let screens : next.screen ≡ with_last mid.screen.store.last = screen_is ∙ ap (λ (r : GuidedRun). r.screen) others in
       let seats : next.seats ≡ guided.seats = seats_are ∙ ap (λ (r : GuidedRun). r.seats) others in
       let its_place : next.place ≡ guided.place = place_is ∙ ap (λ (r : GuidedRun). r.place) others in
       let its_places : next.places ≡ slice_set guided.places probe (place + 1) =
       places_are ∙ ap (λ (r : GuidedRun). slice_set r.places probe (place + 1)) others in
-      let same : next ≡ then = λ i. record { play = plays i; seats = seats i; place = its_place i; places = its_places i; answers = answers_are i } in
+      let same : next ≡ then = λ i. record { screen = screens i; seats = seats i; place = its_place i; places = its_places i; answers = answers_are i } in
       subst (RunStands script) (sym same) stands_then
 
 -- each probe has its answers
@@ -318,7 +319,7 @@ must_end script guided k count below stands over late seat at = by seat.has_ende
     by false is =
         let found : Some (get_or guided.seats.items k seat) ≡ Some seat = sym (slice_get-get_or guided.seats.items k seat below) ∙ at in
         let same : get_or guided.seats.items k seat ≡ seat = cc in
-        let sits = seat_open script (record { 0 = k + 1 }) guided.play.board.history seat is (seat_sits script guided k seat stands below (sym same)) in
+        let sits = seat_open script (record { 0 = k + 1 }) guided.screen.board.history seat is (seat_sits script guided k seat stands below (sym same)) in
         let low = late seat at is in
         let within = sits.within in
         absurd (omega (arith, over, low, within))

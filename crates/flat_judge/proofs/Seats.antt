@@ -1,5 +1,5 @@
 -- A session after one more line of the script, and all sessions after an entry.
-use Rattle.std.proofs.Common.{◌≡◌, ◌≢◌, ℕ, zero, suc, ◌+◌, ◌-◌, ◌<◌, ◌≤◌, Bool, true, false, cond, ◌==◌, nat_lt, nat_le, List, [], ◌∷◌, ◌++◌, length}
+use Rattle.std.proofs.Common.{◌≡◌, ◌≢◌, ℕ, suc, ◌+◌, ◌<◌, ◌≤◌, Bool, true, false, cond, ◌==◌, nat_lt, nat_le, List, [], ◌∷◌, ◌++◌, length}
 use Rattle.std.proofs.Common.{length-append, take, drop, get_or, set, refl, sym, ap, ◌∙◌, subst, arith, Some, None, slice_get, get_or-set_other}
 use Rattle.std.proofs.Common.{get_or-set_same}
 use Rattle.std.specs.List.{list_all}
@@ -36,7 +36,7 @@ use Rattle.flat_play.specs.Playing.{ReaderStands, lines_by, session_text, shares
 use Rattle.flat_play.proofs.lemmas.Growing.{Grows, is_quiet}
 use Rattle.flat_play.proofs.lemmas.Places.{Here, counted, few_lines, rises}
 use Rattle.flat_base.proofs.lemmas.Tests.{all-at}
-use Rattle.flat_play.proofs.lemmas.PlaySteps.{below_declared, has_room, not_same}
+use Rattle.flat_play.proofs.lemmas.PlaySteps.{below_declared, has_room}
 use Rattle.flat_play.proofs.lemmas.Readers.{new_stands, on_board, reader_grows, reader_more, session_rise}
 use Rattle.flat_play.proofs.lemmas.Steps.{At, Step, reader_other}
 use Rattle.flat_judge.specs.declared.seat.Seat.{Seat}

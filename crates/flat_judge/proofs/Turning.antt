@@ -1,14 +1,13 @@
 -- One turn of a run that follows a text, from the parts of an entry's lines.
-use Rattle.std.proofs.Common.{◌≡◌, ℕ, ◌+◌, ◌<◌, ◌≤◌, Bool, true, false, List, [], Result, Ok, Err, IfOk, refl, sym, ap, ◌∙◌, subst, arith, true≢false}
+use Rattle.std.proofs.Common.{◌≡◌, ℕ, ◌+◌, ◌<◌, ◌≤◌, Bool, true, false, List, [], Result, Ok, Err, IfOk, sym, ap, ◌∙◌, subst, arith, true≢false}
 use Rattle.flat_scene.specs.declared.journal.Entry.{Entry}
 use Rattle.flat_scene.specs.History.{◌▹◌}
 use Rattle.flat_rules.specs.Legal.{frames}
 use Rattle.flat_places.specs.declared.script.Script.{Script}
 use Rattle.flat_judge.specs.declared.following.Along.{Along}
 use Rattle.flat_judge.specs.declared.following.Followed.{Followed}
-use Rattle.flat_judge.specs.Following.{AreLosses, HasStopped, IsAlong, IsOnly, IsPart, MakesNext, Stays}
+use Rattle.flat_judge.specs.Following.{AreLosses, HasStopped, IsAlong, IsPart, MakesNext, Stays}
 use Rattle.flat_judge.specs.FollowedRuns.{Follows}
-use Rattle.flat_judge.specs.Verdicts.{NoRun}
 
 module _ (script : Script) (text : List ℕ) where
   -- the text has the lines
@@ -37,12 +36,12 @@ module _ (script : Script) (text : List ℕ) where
 
 module _ (script : Script) (text : List ℕ) (old new : Followed) where
   -- no entry comes next
-  pub turn-stops : (b : Bool) → b ≡ false → IsAlong script text old.run.play.board.history old.along
-      → MakesNext script text old.run.play.board.history new.run.play.board.history old.along b → new.along ≡ old.along → Follows script text old new false
+  pub turn-stops : (b : Bool) → b ≡ false → IsAlong script text old.run.screen.board.history old.along
+      → MakesNext script text old.run.screen.board.history new.run.screen.board.history old.along b → new.along ≡ old.along → Follows script text old new false
   turn-stops false is along (MakesNext.stops same only) along_is =
       let H : List Entry → Along → Type 0 = HasStopped script text in
       let H1 : List Entry → Type 0 = λ h. H h old.along in
-      let H2 : Along → Type 0 = H new.run.play.board.history in
+      let H2 : Along → Type 0 = H new.run.screen.board.history in
       Follows.stops (subst H2 (sym along_is) (subst H1 (sym same) (record { only = only; losses = along.losses })))
   turn-stops true is along (MakesNext.makes entry grown part) along_is = absurd (true≢false is)
 
@@ -56,13 +55,13 @@ module _ (script : Script) (text : List ℕ) (old new : Followed) where
   tells-from was history b same tells = let T : Along → Type 0 = λ a. Tells a new.along history b in subst T same tells
 
   -- an entry whose lines the text hasn't
-  pub turn-parts : (made b : Bool) → made ≡ true → b ≡ false → (after : List Entry) → MakesNext script text old.run.play.board.history after old.along made
-      → Tells old.along new.along after b → new.run.play.board.history ≡ after → Follows script text old new false
+  pub turn-parts : (made b : Bool) → made ≡ true → b ≡ false → (after : List Entry) → MakesNext script text old.run.screen.board.history after old.along made
+      → Tells old.along new.along after b → new.run.screen.board.history ≡ after → Follows script text old new false
   turn-parts true false made is after (MakesNext.makes entry grown part) tells same =
-      by (tells old.run.play.board.history entry grown part) (ap frames (grown))
+      by (tells old.run.screen.board.history entry grown part) (ap frames (grown))
     where
-      by : Stays script text (frames (old.run.play.board.history ▹ entry)) (old.along.at + 1) (IsAlong script text (old.run.play.board.history ▹ entry))
-          new.along false → frames after ≡ frames (old.run.play.board.history ▹ entry) → Follows script text old new false
+      by : Stays script text (frames (old.run.screen.board.history ▹ entry)) (old.along.at + 1) (IsAlong script text (old.run.screen.board.history ▹ entry))
+          new.along false → frames after ≡ frames (old.run.screen.board.history ▹ entry) → Follows script text old new false
       by (Stays.parts none losses) many =
           let A : ℕ → Type 0 = λ n. AreLosses n new.along.lost in
           Follows.stops (record { only = λ read run report. absurd (none read run report); losses = subst A (sym (ap frames same ∙ many)) losses })
@@ -70,11 +69,11 @@ module _ (script : Script) (text : List ℕ) (old new : Followed) where
   turn-parts false b made is after made_it tells same = absurd (true≢false (sym made))
 
   -- an entry whose lines it has
-  pub turn-goes : (made b : Bool) → made ≡ true → b ≡ true → (after : List Entry) → MakesNext script text old.run.play.board.history after old.along made
-      → Tells old.along new.along after b → new.run.play.board.history ≡ after → Follows script text old new true
-  turn-goes true true made is after (MakesNext.makes entry grown part) tells same = by (tells old.run.play.board.history entry grown part)
+  pub turn-goes : (made b : Bool) → made ≡ true → b ≡ true → (after : List Entry) → MakesNext script text old.run.screen.board.history after old.along made
+      → Tells old.along new.along after b → new.run.screen.board.history ≡ after → Follows script text old new true
+  turn-goes true true made is after (MakesNext.makes entry grown part) tells same = by (tells old.run.screen.board.history entry grown part)
     where
-      by : Stays script text (frames (old.run.play.board.history ▹ entry)) (old.along.at + 1) (IsAlong script text (old.run.play.board.history ▹ entry))
+      by : Stays script text (frames (old.run.screen.board.history ▹ entry)) (old.along.at + 1) (IsAlong script text (old.run.screen.board.history ▹ entry))
           new.along true → Follows script text old new true
       by (Stays.stays along upto) =
           let A : List Entry → Type 0 = λ h. IsAlong script text h new.along in
@@ -85,11 +84,11 @@ module _ (script : Script) (text : List ℕ) (old new : Followed) where
 -- ---- turn after turn
 
 pub follows-true : (script : Script) (text : List ℕ) (old new : Followed) (b : Bool) → b ≡ true → Follows script text old new b
-    → IsAlong script text new.run.play.board.history new.along × (old.along.at < new.along.at)
+    → IsAlong script text new.run.screen.board.history new.along × (old.along.at < new.along.at)
 follows-true script text old new true is (Follows.goes along less) = (along, less)
 follows-true script text old new false is (Follows.stops stopped) = absurd (true≢false (sym is))
 
 pub follows-false : (script : Script) (text : List ℕ) (old new : Followed) (b : Bool) → b ≡ false → Follows script text old new b
-    → HasStopped script text new.run.play.board.history new.along
+    → HasStopped script text new.run.screen.board.history new.along
 follows-false script text old new false is (Follows.stops stopped) = stopped
 follows-false script text old new true is (Follows.goes along less) = absurd (true≢false is)

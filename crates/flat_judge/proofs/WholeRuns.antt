@@ -1,12 +1,11 @@
 -- A run that was made by a guide to its end, and its report.
-use Rattle.std.proofs.Common.{◌≡◌, ℕ, zero, suc, ◌+◌, ◌<◌, ◌≤◌, ◌^◌, nat_lt, true, false, List, [], ◌∷◌, length, map, reverse, drop, get_or, refl, sym, ap, ◌∙◌}
+use Rattle.std.proofs.Common.{◌≡◌, ℕ, zero, suc, ◌+◌, ◌<◌, true, false, List, [], ◌∷◌, length, map, reverse, drop, get_or, refl, sym, ap, ◌∙◌}
 use Rattle.std.proofs.Common.{subst, arith, Some, slice_get}
 use Rattle.std.specs.List.{list_all}
 use Rattle.std.proofs.lemmas.Option.{slice_get-get_or}
 use Rattle.std.proofs.lemmas.Grind.{common_steps}
 use Rattle.flat_base.specs.declared.ids.Actor.{Actor}
 use Rattle.flat_base.specs.declared.ids.Actor.TheVariants.{Display, Session, Probe}
-use Rattle.flat_base.specs.declared.ids.SessionNo.{SessionNo}
 use Rattle.flat_scene.specs.declared.frames.Lost.{Lost}
 use Rattle.flat_scene.specs.declared.journal.Entry.{Entry}
 use Rattle.flat_scene.specs.declared.journal.Post.{Post}
@@ -17,18 +16,15 @@ use Rattle.flat_scene.specs.declared.setup.Setup.{Setup}
 use Rattle.flat_scene.specs.History.{own}
 use Rattle.flat_scene.specs.Journals.{history_of}
 use Rattle.flat_scene.specs.Interleave.{Interleaves, IsReading, display_lines, session_lines}
-use Rattle.flat_core.specs.Machines.{Machine}
-use Rattle.flat_rules.specs.Legal.{Legal, frames}
+use Rattle.flat_rules.specs.Legal.{Legal}
 use Rattle.flat_rules.specs.AllPosts.{posts}
 use Rattle.flat_places.specs.declared.script.Script.{Script}
 use Rattle.flat_playable.specs.Playable.{is_playable, is_played}
 use Rattle.flat_report.specs.declared.frame_texts.FrameTexts.{FrameTexts}
 use Rattle.flat_report.specs.declared.probes.ProbeAnswer.{ProbeAnswer}
-use Rattle.flat_report.specs.declared.report.HitAnswer.{HitAnswer}
 use Rattle.flat_report.specs.FrameTexts.{AreTexts, frame_text}
 use Rattle.flat_report.specs.Handed.{answers_of, handed_report}
 use Rattle.flat_report.specs.Laws.{FramesAreSeen, HandedIsReport}
-use Rattle.flat_report.specs.Runs.{IsRun}
 use Rattle.flat_report.specs.Probes.{ProbesAnswered, frames_seen, is_asking}
 use Rattle.flat_report.specs.Report.{finished, is_loss, report}
 use Rattle.flat_report.specs.Runs.{is_display_number}
@@ -39,7 +35,7 @@ use Rattle.flat_play.proofs.lemmas.Places.{all_to, drop_all, played_all, within}
 use Rattle.flat_base.proofs.lemmas.Tests.{and-left, and-right}
 use Rattle.flat_judge.specs.declared.guided_run.GuidedRun.{GuidedRun}
 use Rattle.flat_judge.specs.declared.seat.Seat.{Seat}
-use Rattle.flat_judge.specs.GuidedRuns.{IsWhole, SeatsStand, Sits, SitsBy}
+use Rattle.flat_judge.specs.GuidedRuns.{IsWhole, Sits, SitsBy}
 use Rattle.flat_judge.specs.Verdicts.{Run}
 use Rattle.flat_judge.proofs.ProbePlaces.{probes-whole}
 
@@ -74,7 +70,7 @@ lines_ask setup (line ∷ lines) played =
 
 module _ (script : Script) (playable : is_playable script ≡ true) (guided : GuidedRun) (whole : IsWhole script guided) where
   abbrev history : List Entry
-  history = guided.play.board.history
+  history = guided.screen.board.history
 
   -- each session has read all its lines
   has_read : (k : ℕ) → k < script.setup.sessions → IsReading script.setup script.count (session_lines (record { 0 = k + 1 }) script.lines)
@@ -104,14 +100,14 @@ module _ (script : Script) (playable : is_playable script ≡ true) (guided : Gu
       (λ n one got. let below = within guided.answers.items n one got in let a = probes.count in let b = probes.as_many in omega (arith, below, a, b))
 
   -- the run, with losses that fit it
-  abbrev pub run : FramesAreSeen → Legal guided.play.board.setup history → (lost : List Lost) → is_loss history lost ≡ true
+  abbrev pub run : FramesAreSeen → Legal guided.screen.board.setup history → (lost : List Lost) → is_loss history lost ≡ true
       → list_all (λ (one : Lost). is_display_number one.display) lost ≡ true → Run script
   run seen legal lost loss numbered = record {
     history = history;
     lost = lost;
     seen = frames_seen guided.answers.items;
     is = record {
-      legal = (let L : Setup → Type 0 = λ st. Legal st history in subst L whole.stands.show.setup legal);
+      legal = (let L : Setup → Type 0 = λ st. Legal st history in subst L whole.stands.screen.setup legal);
       interleaves = interleaves;
       loss = loss;
       numbered = numbered;
@@ -120,22 +116,22 @@ module _ (script : Script) (playable : is_playable script ≡ true) (guided : Gu
   }
 
   -- what it hands to the report is written as its report
-  pub handed : HandedIsReport → (texts : FrameTexts) → kept.Texts texts ≡ guided.play.kept
+  pub handed : HandedIsReport → (texts : FrameTexts) → kept.Texts texts ≡ guided.screen.store.kept
       → (lost : List Lost) (entries : List Entry) (sent : List Post) (probes : List (List ProbeAnswer)) → probes ≡ guided.answers.items
       → history_of entries ≡ history
-      → sent ≡ posts guided.play.board.setup history → handed_report script entries sent texts.texts.items lost guided.play.answers probes
+      → sent ≡ posts guided.screen.board.setup history → handed_report script entries sent texts.texts.items lost guided.screen.store.answers probes
       ≡ report script history lost (frames_seen guided.answers.items)
   handed law texts texts_are lost entries sent probes probes_are entries_are sent_are =
-      let show = whole.stands.show in
+      let show = whole.stands.screen in
       let K : Kept → Type 0 = λ k. Keeps script k (finished script.setup history) in
       let A : List Entry → Type 0 = λ h. ProbesAnswered script h guided.answers.items in
-      let written : AreTexts script (finished script.setup history) texts = subst K (sym texts_are) show.keeps in
-      ap (λ (ps : List (List ProbeAnswer)). handed_report script entries sent texts.texts.items lost guided.play.answers ps) probes_are
-      ∙ law script entries sent texts.texts.items lost guided.play.answers guided.answers.items (subst A (sym entries_are) answered)
+      let written : AreTexts script (finished script.setup history) texts = subst K (sym texts_are) show.frames.stored.keeps in
+      ap (λ (ps : List (List ProbeAnswer)). handed_report script entries sent texts.texts.items lost guided.screen.store.answers ps) probes_are
+      ∙ law script entries sent texts.texts.items lost guided.screen.store.answers guided.answers.items (subst A (sym entries_are) answered)
       (lines_ask script.setup script.lines (played_all script playable))
       (sent_are ∙ ap (λ (st : Setup). posts st history) show.setup ∙ ap (posts script.setup) (sym entries_are))
       (written.texts ∙ ap (λ (h : List Entry). map (frame_text script) (finished script.setup h)) (sym entries_are))
-      (show.answers.answering ∙ ap (answers_of script.setup) (sym entries_are))
+      (show.frames.stored.points ∙ ap (answers_of script.setup) (sym entries_are))
       ∙ ap (λ (h : List Entry). report script h lost (frames_seen guided.answers.items)) entries_are
 
 -- as many entries as the history has

@@ -17,31 +17,27 @@ use Rattle.flat_scene.specs.History.{own, is_session}
 use Rattle.flat_scene.specs.Interleave.{IsReading, session_lines}
 use Rattle.flat_core.specs.Machines.{Machine, entered, made}
 use Rattle.flat_rules.specs.Legal.{frames, reply_to}
-use Rattle.flat_topology.specs.Changes.{AreSame}
 use Rattle.flat_places.specs.declared.script.Script.{Script}
 use Rattle.flat_report.specs.declared.probes.ProbeAnswer.{ProbeAnswer}
 use Rattle.flat_report.specs.Probes.{AreAnsweredBy, hits_in_frame}
-use Rattle.flat_report.specs.Report.{finished, probe_lines_of}
+use Rattle.flat_report.specs.Report.{probe_lines_of}
 use Rattle.flat_play.specs.declared.kept.Keeping.TheVariants as keeping
-use Rattle.flat_play.specs.declared.play.Play.{Play}
-use Rattle.flat_play.specs.Keeping.{Keeps, keeping_of}
-use Rattle.flat_play.specs.Playing.{AnswersStand, DisplayStands, FramesStand, HasViews, ReaderStands, lines_by}
+use Rattle.flat_judge.specs.declared.screen.Screen.{Screen}
+use Rattle.flat_play.specs.Keeping.{keeping_of}
+use Rattle.flat_play.specs.Playing.{DisplayStands, ReaderStands, lines_by}
 use Rattle.flat_play.specs.Playing.{session_text, shares_of}
+use Rattle.flat_play.specs.Storing.{FramesStand}
 use Rattle.flat_judge.specs.declared.guided_run.GuidedRun.{GuidedRun}
 use Rattle.flat_judge.specs.declared.seat.Seat.{Seat}
 
 -- ---- what is shown
 
 -- What a run shows and keeps hangs on its history alone, and not on how far each actor has read.
-pub record ShowStands (script : Script) (play : Play) : Type 0 where
-  pub setup : play.board.setup ≡ script.setup
-  pub shares : play.board.shares ≡ shares_of script
-  pub views : HasViews script.setup play.with_view
-  pub shows : FramesStand script.setup play.board.history play.shown play.ratio play.with_view
-  pub keeps : Keeps script play.kept (finished script.setup play.board.history)
-  pub texts : keeping_of play.kept ≡ keeping.Texts
-  pub same : AreSame play.changed play.last.reuse play.shown
-  pub answers : AnswersStand script.setup play.board.history play.last play.answers
+pub record ScreenStands (script : Script) (screen : Screen) : Type 0 where
+  pub setup : screen.board.setup ≡ script.setup
+  pub shares : screen.board.shares ≡ shares_of script
+  pub frames : FramesStand script screen.board.history screen.start screen.store
+  pub texts : keeping_of screen.store.kept ≡ keeping.Texts
 
 -- an entry that leaves frames and points alone
 abbrev pub is_aside : Kind → Bool
@@ -111,12 +107,12 @@ pub record ProbesStandAt (script : Script) (history : List Entry) (places : List
 
 -- A run stands: what it shows, and each actor at its place.
 pub record RunStands (script : Script) (guided : GuidedRun) : Type 0 where
-  pub show : ShowStands script guided.play
-  pub seats : SeatsStand script guided.play.board.history guided.seats.items
+  pub screen : ScreenStands script guided.screen
+  pub seats : SeatsStand script guided.screen.board.history guided.seats.items
   pub within : guided.place ≤ length script.lines
-  pub display : DisplayStands script guided.place guided.play.board.history
-  pub spent : made 0 guided.play.board.history + lines_by 0 (drop guided.place script.lines) ≤ lines_by 0 script.lines
-  pub probes : ProbesStandAt script guided.play.board.history guided.places guided.answers.items
+  pub display : DisplayStands script guided.place guided.screen.board.history
+  pub spent : made 0 guided.screen.board.history + lines_by 0 (drop guided.place script.lines) ≤ lines_by 0 script.lines
+  pub probes : ProbesStandAt script guided.screen.board.history guided.places guided.answers.items
 
 -- the sessions before one have ended
 abbrev pub HaveEnded : ℕ → List Seat → Type 0

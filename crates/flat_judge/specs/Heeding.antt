@@ -42,7 +42,7 @@ AllHeed script hints frames from answers = (probe : ℕ) → Heeds script hints 
 -- is no run's report.
 abbrev pub HeedsSo : Script → List ℕ → List (List ℕ) → ℕ → GuidedRun → Type 0
 HeedsSo script text hints frames_in_all guided =
-    NoRun script text ⊎ AllHeed script hints frames_in_all (suc (frames guided.play.board.history)) guided.answers.items
+    NoRun script text ⊎ AllHeed script hints frames_in_all (suc (frames guided.screen.board.history)) guided.answers.items
 
 -- The answers of a probe after a line that went on or not: one that went on leaves no named frame to the last one.
 abbrev pub SeenBehind : ℕ → ℕ → List ℕ → List (List ProbeAnswer) → Bool → Type 0
@@ -53,5 +53,5 @@ SeenBehind probe frame named answers on =
 -- If a text is the report of a run with the same entries, its probes saw what those of the guided run saw.
 abbrev pub SeesAsTold : Script → List ℕ → GuidedRun → Type 0
 SeesAsTold script text guided =
-    IsRead script → (run : Run script) → text ≡ report_of script run → run.history ≡ guided.play.board.history
+    IsRead script → (run : Run script) → text ≡ report_of script run → run.history ≡ guided.screen.board.history
     → run.seen ≡ frames_seen guided.answers.items

@@ -1,5 +1,5 @@
 //! The parts of a report's text that an entry adds: its own line, those of the displays lost at
-//! its frame, and those of its events. The lines of its frame are kept by the play.
+//! its frame, and those of its events. The lines of its frame are kept with the frame.
 ghost use Rattle.std.specs.Prelude.{◌≡◌, ◌∷◌, ◌<◌, ◌-◌, ◌^◌, [], map, IfOk};
 ghost use Rattle.flat_page.specs.Words.{text_of};
 ghost use Rattle.flat_lines.specs.Ends.{title_line};

@@ -11,7 +11,7 @@ ghost use Rattle.flat_playable.specs.Playable.{is_playable};
 ghost use Rattle.flat_judge.specs.Following.{HasStopped, StoppedBefore, IsAlong, IsLineTold, IsPart};
 ghost use Rattle.flat_judge.specs.Following.{IsShownTold, MakesNext, Stays, next_actor};
 ghost use Rattle.flat_judge.specs.FollowedRuns.{Follows};
-ghost use Rattle.flat_judge.specs.GuidedRuns.{IsWhole, RunStands, ShowStands};
+ghost use Rattle.flat_judge.specs.GuidedRuns.{IsWhole, RunStands, ScreenStands};
 ghost use Rattle.flat_judge.specs.Heeding.{AllHeed, HeedsSo, SeesAsTold};
 ghost use Rattle.flat_judge.specs.Hints.{AreHints};
 
@@ -21,10 +21,10 @@ use crate::guided_run::GuidedRun;
 use crate::losses::read_losses;
 use crate::passing::pass;
 use crate::reading::next_actor;
+use crate::screen::Screen;
 use crate::telling::{pass_events, pass_frame, pass_line};
 use flat_base::{Actor, Items, NoMemory, SessionNo};
 use flat_places::Script;
-use flat_play::Play;
 use flat_scene::{Entry, Kind, Lost};
 use std::alloc::Global;
 
@@ -46,18 +46,18 @@ impl Along {
         alloc: Global,
         script: &Script,
         text: &[u8],
-        play: &Play,
+        screen: &Screen,
         entry: &Entry,
     ) -> Result<bool, NoMemory>
-        requires shows { ShowStands script.now play.now }
+        requires shows { ScreenStands script.now screen.now }
         requires within { self.old.at ≤ length text.now }
         ensures within { OnOk result (self.new.at ≤ length text.now) }
-        ensures tells { (before : List Entry) → play.now.board.history ≡ (before ▹ entry.now) →
+        ensures tells { (before : List Entry) → screen.now.board.history ≡ (before ▹ entry.now) →
             IsPart script.now text.now before entry.now [] (frames before) self.old →
             IfOk result (Stays script.now text.now (frames before) (self.old.at + 1)
             (IsLineTold script.now text.now before entry.now) self.new) }
     {
-        match pass_line(alloc, script, text, self.at, play, entry)? {
+        match pass_line(alloc, script, text, self.at, screen, entry)? {
             Some(at) => {
                 self.at = at;
                 Ok(true)
@@ -73,20 +73,20 @@ impl Along {
         alloc: Global,
         script: &Script,
         text: &[u8],
-        play: &Play,
+        screen: &Screen,
     ) -> Result<bool, NoMemory>
-        requires shows { ShowStands script.now play.now }
+        requires shows { ScreenStands script.now screen.now }
         requires within { self.old.at ≤ length text.now }
         ensures within { OnOk result (self.new.at ≤ length text.now) }
-        ensures tells { (before : List Entry) (entry : Entry) → play.now.board.history
+        ensures tells { (before : List Entry) (entry : Entry) → screen.now.board.history
             ≡ (before ▹ entry) → is_finish entry.kind ≡ true →
             IsLineTold script.now text.now before entry self.old →
             IfOk result (Stays script.now text.now (frames (before ▹ entry)) self.old.at
             (IsShownTold script.now text.now before entry) self.new) }
     {
-        match pass_frame(text, self.at, play) {
+        match pass_frame(text, self.at, screen) {
             Some(at) => {
-                let behind = read_losses(alloc, &mut self.lost, text, at, play.last.frame)?;
+                let behind = read_losses(alloc, &mut self.lost, text, at, screen.store.last.frame)?;
                 self.at = behind;
                 Ok(true)
             }
@@ -100,19 +100,19 @@ impl Along {
         alloc: Global,
         script: &Script,
         text: &[u8],
-        play: &Play,
+        screen: &Screen,
         entry: &Entry,
     ) -> Result<bool, NoMemory>
-        requires shows { ShowStands script.now play.now }
+        requires shows { ScreenStands script.now screen.now }
         requires within { self.old.at ≤ length text.now }
         ensures within { OnOk result (self.new.at ≤ length text.now) }
-        ensures tells { (before : List Entry) → play.now.board.history ≡ (before ▹ entry.now) →
+        ensures tells { (before : List Entry) → screen.now.board.history ≡ (before ▹ entry.now) →
             IsLineTold script.now text.now before entry.now self.old →
             IfOk result (Stays script.now text.now (frames (before ▹ entry.now)) self.old.at
             (IsShownTold script.now text.now before entry.now) self.new) }
     {
         match entry.kind {
-            Kind::Finish => self.tell_frame(alloc, script, text, play),
+            Kind::Finish => self.tell_frame(alloc, script, text, screen),
             _ => Ok(true),
         }
     }
@@ -123,19 +123,19 @@ impl Along {
         alloc: Global,
         script: &Script,
         text: &[u8],
-        play: &Play,
+        screen: &Screen,
     ) -> Result<bool, NoMemory>
-        requires shows { ShowStands script.now play.now }
+        requires shows { ScreenStands script.now screen.now }
         requires within { self.old.at ≤ length text.now }
-        ensures { (before : List Entry) (entry : Entry) → play.now.board.history
+        ensures { (before : List Entry) (entry : Entry) → screen.now.board.history
             ≡ (before ▹ entry) → IsShownTold script.now text.now before entry self.old →
             IfOk result (Stays script.now text.now (frames (before ▹ entry)) self.old.at
             (IsAlong script.now text.now (before ▹ entry)) self.new) }
     {
-        match pass_events(alloc, script, text, self.at, play, self.posted)? {
+        match pass_events(alloc, script, text, self.at, screen, self.posted)? {
             Some(at) => {
                 self.at = at;
-                self.posted = play.board.journal().posts.len();
+                self.posted = screen.board.journal().posts.len();
                 Ok(true)
             }
             None => Ok(false),
@@ -162,11 +162,11 @@ impl Followed {
         requires playable { is_playable script.now ≡ true }
         requires stands { RunStands script.now self.old.run }
         requires declared { is_declared script.now.setup s ≡ true }
-        requires along { IsAlong script.now text.now self.old.run.play.board.history self.old.along }
+        requires along { IsAlong script.now text.now self.old.run.screen.board.history self.old.along }
         requires turn { next_actor script.now (drop self.old.along.at text.now) ≡ Some (Session s) }
         ensures stands { OnOk result (RunStands script.now self.new.run) }
-        ensures makes { IfOk result (MakesNext script.now text.now self.old.run.play.board.history
-            self.new.run.play.board.history self.old.along) }
+        ensures makes { IfOk result (MakesNext script.now text.now self.old.run.screen.board.history
+            self.new.run.screen.board.history self.old.along) }
         ensures along { self.new.along ≡ self.old.along }
         ensures answers { OnOk result (self.new.run.answers ≡ self.old.run.answers) }
     {
@@ -175,7 +175,7 @@ impl Followed {
             return Ok(false);
         }
         self.run.session_turn(alloc, script, k)?;
-        let _journal = self.run.play.board.journal();
+        let _journal = self.run.screen.board.journal();
         Ok(true)
     }
 
@@ -188,16 +188,16 @@ impl Followed {
     ) -> Result<bool, NoMemory>
         requires playable { is_playable script.now ≡ true }
         requires stands { RunStands script.now self.old.run }
-        requires along { IsAlong script.now text.now self.old.run.play.board.history self.old.along }
+        requires along { IsAlong script.now text.now self.old.run.screen.board.history self.old.along }
         requires turn { next_actor script.now (drop self.old.along.at text.now) ≡ Some Display }
         ensures stands { OnOk result (RunStands script.now self.new.run) }
-        ensures makes { IfOk result (MakesNext script.now text.now self.old.run.play.board.history
-            self.new.run.play.board.history self.old.along) }
+        ensures makes { IfOk result (MakesNext script.now text.now self.old.run.screen.board.history
+            self.new.run.screen.board.history self.old.along) }
         ensures along { self.new.along ≡ self.old.along }
         ensures answers { OnOk result (self.new.run.answers ≡ self.old.run.answers) }
     {
         let made = self.run.display_turn(alloc, script)?;
-        let _journal = self.run.play.board.journal();
+        let _journal = self.run.screen.board.journal();
         Ok(made)
     }
 
@@ -205,10 +205,10 @@ impl Followed {
     fn next_entry(&mut self, alloc: Global, script: &Script, text: &[u8]) -> Result<bool, NoMemory>
         requires playable { is_playable script.now ≡ true }
         requires stands { RunStands script.now self.old.run }
-        requires along { IsAlong script.now text.now self.old.run.play.board.history self.old.along }
+        requires along { IsAlong script.now text.now self.old.run.screen.board.history self.old.along }
         ensures stands { OnOk result (RunStands script.now self.new.run) }
-        ensures makes { IfOk result (MakesNext script.now text.now self.old.run.play.board.history
-            self.new.run.play.board.history self.old.along) }
+        ensures makes { IfOk result (MakesNext script.now text.now self.old.run.screen.board.history
+            self.new.run.screen.board.history self.old.along) }
         ensures along { self.new.along ≡ self.old.along }
         ensures answers { OnOk result (self.new.run.answers ≡ self.old.run.answers) }
     {
@@ -224,7 +224,7 @@ impl Followed {
     fn tell(&mut self, alloc: Global, script: &Script, text: &[u8]) -> Result<bool, NoMemory>
         requires stands { RunStands script.now self.old.run }
         requires within { self.old.along.at ≤ length text.now }
-        ensures tells { (before : List Entry) (entry : Entry) → self.old.run.play.board.history
+        ensures tells { (before : List Entry) (entry : Entry) → self.old.run.screen.board.history
             ≡ (before ▹ entry) →
             IsPart script.now text.now before entry [] (frames before) self.old.along →
             IfOk result (Stays script.now text.now (frames (before ▹ entry))
@@ -232,19 +232,19 @@ impl Followed {
             self.new.along) }
         ensures run { OnOk result (self.new.run ≡ self.old.run) }
     {
-        let play = &self.run.play;
-        let entries = play.board.journal().entries.as_slice();
+        let screen = &self.run.screen;
+        let entries = screen.board.journal().entries.as_slice();
         let Some(entry) = entries.last() else {
             return Ok(false);
         };
         let along = &mut self.along;
-        if !along.tell_line(alloc, script, text, play, entry)? {
+        if !along.tell_line(alloc, script, text, screen, entry)? {
             return Ok(false);
         }
-        if !along.tell_shown(alloc, script, text, play, entry)? {
+        if !along.tell_shown(alloc, script, text, screen, entry)? {
             return Ok(false);
         }
-        along.tell_events(alloc, script, text, play)
+        along.tell_events(alloc, script, text, screen)
     }
 
     /// Makes the next entry of whom the text says, and says whether there is one, whose lines
@@ -258,12 +258,12 @@ impl Followed {
     ) -> Result<bool, NoMemory>
         requires playable { is_playable script.now ≡ true }
         requires stands { RunStands script.now self.old.run }
-        requires along { IsAlong script.now text.now self.old.run.play.board.history self.old.along }
+        requires along { IsAlong script.now text.now self.old.run.screen.board.history self.old.along }
         ensures stands { OnOk result (RunStands script.now self.new.run) }
         ensures goes { IfOk result (Follows script.now text.now self.old self.new) }
         ensures heeds { OnOk result ((last : ℕ) →
             AllHeed script.now guide.now.seen.items last
-            (suc (frames self.old.run.play.board.history)) self.old.run.answers.items →
+            (suc (frames self.old.run.screen.board.history)) self.old.run.answers.items →
             HeedsSo script.now text.now guide.now.seen.items last self.new.run) }
     {
         if !self.next_entry(alloc, script, text)? {
@@ -287,13 +287,13 @@ impl Followed {
     ) -> Result<(), NoMemory>
         requires playable { is_playable script.now ≡ true }
         requires stands { RunStands script.now self.old.run }
-        requires along { IsAlong script.now text.now self.old.run.play.board.history self.old.along }
+        requires along { IsAlong script.now text.now self.old.run.screen.board.history self.old.along }
         ensures stands { OnOk result (RunStands script.now self.new.run) }
         ensures stops { OnOk result (HasStopped script.now text.now
-            self.new.run.play.board.history self.new.along) }
+            self.new.run.screen.board.history self.new.along) }
         ensures heeds { OnOk result ((last : ℕ) →
             AllHeed script.now guide.now.seen.items last
-            (suc (frames self.old.run.play.board.history)) self.old.run.answers.items →
+            (suc (frames self.old.run.screen.board.history)) self.old.run.answers.items →
             HeedsSo script.now text.now guide.now.seen.items last self.new.run) }
     {
         for _ in self.along.at..text.len() + 1 {
@@ -308,7 +308,7 @@ impl Followed {
     pub(crate) fn new(alloc: Global, script: &Script) -> Result<Followed, NoMemory>
         requires { is_playable script.now ≡ true }
         ensures stands { IfOk result (λ followed. RunStands script.now followed.run) }
-        ensures no_entry { IfOk result (λ followed. followed.run.play.board.history ≡ []) }
+        ensures no_entry { IfOk result (λ followed. followed.run.screen.board.history ≡ []) }
         ensures no_loss { IfOk result (λ followed. followed.along.lost ≡ []) }
         ensures no_event { IfOk result (λ followed. followed.along.posted ≡ 0) }
         ensures no_answer { IfOk result (λ followed. followed.run.answers.items
@@ -334,13 +334,13 @@ impl Followed {
     ) -> Result<(), NoMemory>
         requires playable { is_playable script.now ≡ true }
         requires stands { RunStands script.now self.old.run }
-        requires no_entry { self.old.run.play.board.history ≡ [] }
+        requires no_entry { self.old.run.screen.board.history ≡ [] }
         requires no_loss { self.old.along.lost ≡ [] }
         requires no_event { self.old.along.posted ≡ 0 }
         requires no_answer { self.old.run.answers.items ≡ replicate script.now.setup.probes [] }
         ensures stands { OnOk result (RunStands script.now self.new.run) }
         ensures stops { OnOk result (HasStopped script.now text.now
-            self.new.run.play.board.history self.new.along) }
+            self.new.run.screen.board.history self.new.along) }
         ensures heeds { OnOk result ((last : ℕ) →
             HeedsSo script.now text.now guide.now.seen.items last self.new.run) }
     {
@@ -365,14 +365,14 @@ impl Followed {
     ) -> Result<(), NoMemory>
         requires playable { is_playable script.now ≡ true }
         requires stands { RunStands script.now self.old.run }
-        requires no_entry { self.old.run.play.board.history ≡ [] }
+        requires no_entry { self.old.run.screen.board.history ≡ [] }
         requires no_loss { self.old.along.lost ≡ [] }
         requires no_event { self.old.along.posted ≡ 0 }
         requires no_answer { self.old.run.answers.items ≡ replicate script.now.setup.probes [] }
         requires hints { AreHints script.now text.now guide.now.seen.items }
         ensures whole { OnOk result (IsWhole script.now self.new.run) }
         ensures stopped { OnOk result (StoppedBefore script.now text.now
-            self.new.run.play.board.history self.new.along) }
+            self.new.run.screen.board.history self.new.along) }
         ensures sees { OnOk result (SeesAsTold script.now text.now self.new.run) }
     {
         self.begin(alloc, script, text, guide)?;

@@ -17,13 +17,12 @@ ghost use Rattle.flat_judge.specs.GuidedRuns.{AreBehind, DisplayGoes, Goes, Goes
 ghost use Rattle.flat_judge.specs.GuidedRuns.{ProbeGoesOn, asked_here};
 ghost use Rattle.flat_judge.specs.Heeding.{AllHeed, CouldSee, HasSeen, Heeds, SeenBehind, is_reached};
 
-use crate::directing::{direct, start};
 use crate::guide::Guide;
 use crate::opening::{first_places, new_seats, no_answers};
+use crate::screen::Screen;
 use crate::seat::Seat;
 use flat_base::{Actor, Items, NoMemory, SessionNo};
 use flat_places::Script;
-use flat_play::Play;
 use flat_report::ProbeAnswers;
 use flat_scene::{Body, DisplayLine, ProbeLine, ScriptLine};
 use std::alloc::Global;
@@ -32,7 +31,7 @@ use std::alloc::Global;
 #[derive(Drop)]
 pub struct GuidedRun {
     /// The board and what is shown. The sessions are in `seats`.
-    pub play: Play,
+    pub screen: Screen,
     /// The sessions, session 1 first.
     pub seats: Vec<Seat>,
     /// How many lines of the script the display has passed.
@@ -72,16 +71,16 @@ impl GuidedRun {
     pub fn new(alloc: Global, script: &Script) -> Result<GuidedRun, NoMemory>
         requires { is_playable script.now ≡ true }
         ensures stands { IfOk result (RunStands script.now) }
-        ensures no_entry { IfOk result (λ run. run.play.board.history ≡ []) }
+        ensures no_entry { IfOk result (λ run. run.screen.board.history ≡ []) }
         ensures no_answer { IfOk result (λ run. run.answers.items
             ≡ replicate script.now.setup.probes []) }
     {
         let seats = new_seats(alloc, script)?;
         let places = first_places(alloc, script.setup.probes)?;
         let answers = no_answers(alloc, script.setup.probes)?;
-        let play = start(alloc, script)?;
+        let screen = Screen::new(alloc, script)?;
         Ok(GuidedRun {
-            play,
+            screen,
             seats,
             place: 0,
             places,
@@ -99,12 +98,17 @@ impl GuidedRun {
         ensures stands { OnOk result (RunStands script.now self.new) }
         ensures on { OnOk result (GoesOn k self.old.seats.items self.new.seats.items) }
         ensures goes { OnOk result (Goes (Session (record { 0 = k + 1 }))
-            self.old.play.board self.new.play.board true) }
+            self.old.screen.board self.new.screen.board true) }
         ensures place { OnOk result (self.new.place ≡ self.old.place) }
         ensures answers { self.new.answers ≡ self.old.answers }
     {
         let seat = &mut self.seats[k];
-        seat.turn(alloc, script, &mut self.play.board, SessionNo(k as u32 + 1))?;
+        seat.turn(
+            alloc,
+            script,
+            &mut self.screen.board,
+            SessionNo(k as u32 + 1),
+        )?;
         Ok(())
     }
 
@@ -117,14 +121,14 @@ impl GuidedRun {
         ensures stands { OnOk result (RunStands script.now self.new) }
         ensures place { OnOk result (self.new.place ≡ self.old.place + 1) }
         ensures seats { OnOk result (self.new.seats ≡ self.old.seats) }
-        ensures goes { IfOk result (DisplayGoes self.old.play.board self.new.play.board) }
+        ensures goes { IfOk result (DisplayGoes self.old.screen.board self.new.screen.board) }
         ensures answers { self.new.answers ≡ self.old.answers }
     {
-        let _journal = self.play.board.journal();
+        let _journal = self.screen.board.journal();
         let line = script.lines.at(self.place);
         match display_text(line) {
             Some(text) => {
-                direct(alloc, script, &mut self.play, line.number, text)?;
+                self.screen.enter(alloc, script, line.number, text)?;
                 self.place += 1;
                 Ok(true)
             }
@@ -145,7 +149,7 @@ impl GuidedRun {
         ensures last { IfOk result (λ made. made ≡ false →
             self.new.place ≡ length script.now.lines) }
         ensures seats { OnOk result (self.new.seats ≡ self.old.seats) }
-        ensures goes { IfOk result (DisplayGoes self.old.play.board self.new.play.board) }
+        ensures goes { IfOk result (DisplayGoes self.old.screen.board self.new.screen.board) }
         ensures answers { OnOk result (self.new.answers ≡ self.old.answers) }
     {
         for _ in self.place..script.lines.len() {
@@ -165,10 +169,10 @@ impl GuidedRun {
             slice_get guide.now.seen.items probe ≡ Some named →
             slice_get self.now.answers.items probe ≡ Some one →
             result ≡ (is_last || is_reached (slice_get named (length one))
-            self.now.play.last.frame.0) }
+            self.now.screen.store.last.frame.0) }
     {
         let before = self.answers[probe].len();
-        is_last || guide.is_due(probe, before, self.play.last.frame.0)
+        is_last || guide.is_due(probe, before, self.screen.store.last.frame.0)
     }
 
     /// Answers a line of a probe by the last frame.
@@ -181,21 +185,23 @@ impl GuidedRun {
         asked: ProbeLine,
     ) -> Result<(), NoMemory>
         requires setup { is_setup script.now.setup ≡ true }
-        requires is { IsLast script.now.setup self.old.play.last }
+        requires is { IsLast script.now.setup self.old.screen.store.last }
         requires probe { probe < length self.old.answers.items }
         ensures answers { OnOk result (self.new.answers.items ≡ with_answer probe
-            (answer_of (at_ratio self.old.play.last.ratio script.now.setup) self.old.play.last.reuse
-            self.old.play.last.frame.0 line.now.actor line.now.number asked)
+            (answer_of (at_ratio self.old.screen.store.last.ratio script.now.setup) self.old.screen.store.last.reuse
+            self.old.screen.store.last.frame.0 line.now.actor line.now.number asked)
             self.old.answers.items) }
         ensures last { OnOk result
-            (StaysLast script.now.setup self.old.play.last self.new.play.last) }
+            (StaysLast script.now.setup self.old.screen.store.last self.new.screen.store.last) }
         ensures others { self.new ≡ record self.old {
-          play = record self.old.play { last = self.new.play.last };
+          screen = record self.old.screen {
+            store = record self.old.screen.store { last = self.new.screen.store.last };
+          };
           answers = self.new.answers;
         } }
     {
         let setup = &script.setup;
-        let last = &mut self.play.last;
+        let last = &mut self.screen.store.last;
         let answer = last.answer(alloc, setup, line.actor, line.number, asked)?;
         self.answers[probe].push(answer)
     }
@@ -219,15 +225,15 @@ impl GuidedRun {
         ensures seats { self.new.seats ≡ self.old.seats }
         ensures goes { IfOk result (λ on. ProbeGoes probe is_due on self.old.places
             self.new.places) }
-        ensures board { self.new.play.board ≡ self.old.play.board }
+        ensures board { self.new.screen.board ≡ self.old.screen.board }
         ensures others { OnOk result ((n : ℕ) → n ≢ probe → slice_get self.new.answers.items n
             ≡ slice_get self.old.answers.items n) }
         ensures heeds { (last : ℕ) (named : List ℕ) (one : List ProbeAnswer) →
             CouldSee script.now last probe named →
             slice_get self.old.answers.items probe ≡ Some one →
-            is_due ≡ is_reached (slice_get named (length one)) (frames self.old.play.board.history) →
-            HasSeen (frames self.old.play.board.history) named (map frame_seen one) →
-            IfOk result (SeenBehind probe (frames self.old.play.board.history) named
+            is_due ≡ is_reached (slice_get named (length one)) (frames self.old.screen.board.history) →
+            HasSeen (frames self.old.screen.board.history) named (map frame_seen one) →
+            IfOk result (SeenBehind probe (frames self.old.screen.board.history) named
             self.new.answers.items) }
     {
         let place = *self.places.at(probe);
@@ -265,14 +271,14 @@ impl GuidedRun {
         ensures seats { self.new.seats ≡ self.old.seats }
         ensures go { OnOk result (ProbeGoesOn script.now probe is_last self.old.places
             self.new.places) }
-        ensures board { OnOk result (self.new.play.board ≡ self.old.play.board) }
+        ensures board { OnOk result (self.new.screen.board ≡ self.old.screen.board) }
         ensures others { OnOk result ((n : ℕ) → n ≢ probe → slice_get self.new.answers.items n
             ≡ slice_get self.old.answers.items n) }
         ensures heeds { OnOk result ((last : ℕ) →
-            (is_last ≡ true → last ≡ frames self.old.play.board.history) →
-            Heeds script.now guide.now.seen.items last (frames self.old.play.board.history) probe
+            (is_last ≡ true → last ≡ frames self.old.screen.board.history) →
+            Heeds script.now guide.now.seen.items last (frames self.old.screen.board.history) probe
             self.old.answers.items →
-            Heeds script.now guide.now.seen.items last (suc (frames self.old.play.board.history)) probe
+            Heeds script.now guide.now.seen.items last (suc (frames self.old.screen.board.history)) probe
             self.new.answers.items) }
     {
         for _ in *self.places.at(probe)..script.lines.len() {
@@ -299,12 +305,12 @@ impl GuidedRun {
         ensures seats { self.new.seats ≡ self.old.seats }
         ensures behind { is_last ≡ true → OnOk result (AreBehind script.now
             script.now.setup.probes self.new.places) }
-        ensures board { OnOk result (self.new.play.board ≡ self.old.play.board) }
+        ensures board { OnOk result (self.new.screen.board ≡ self.old.screen.board) }
         ensures heeds { OnOk result ((last : ℕ) →
-            (is_last ≡ true → last ≡ frames self.old.play.board.history) →
-            AllHeed script.now guide.now.seen.items last (frames self.old.play.board.history)
+            (is_last ≡ true → last ≡ frames self.old.screen.board.history) →
+            AllHeed script.now guide.now.seen.items last (frames self.old.screen.board.history)
             self.old.answers.items →
-            AllHeed script.now guide.now.seen.items last (suc (frames self.old.play.board.history))
+            AllHeed script.now guide.now.seen.items last (suc (frames self.old.screen.board.history))
             self.new.answers.items) }
     {
         for probe in 0..self.places.len() {
@@ -323,7 +329,7 @@ impl GuidedRun {
         ensures ended { OnOk result (HaveEnded (k + 1) self.new.seats.items) }
         ensures place { OnOk result (self.new.place ≡ self.old.place) }
         ensures grown { OnOk result
-            (Grown self.old.play.board.history self.new.play.board.history) }
+            (Grown self.old.screen.board.history self.new.screen.board.history) }
         ensures answers { OnOk result (self.new.answers ≡ self.old.answers) }
     {
         for _ in self.seats[k].place..script.lines.len() + 1 {
@@ -343,7 +349,7 @@ impl GuidedRun {
         ensures ended { OnOk result (HaveEnded script.now.setup.sessions self.new.seats.items) }
         ensures place { OnOk result (self.new.place ≡ self.old.place) }
         ensures grown { OnOk result
-            (Grown self.old.play.board.history self.new.play.board.history) }
+            (Grown self.old.screen.board.history self.new.screen.board.history) }
         ensures answers { OnOk result (self.new.answers ≡ self.old.answers) }
     {
         for k in 0..self.seats.len() {
@@ -359,7 +365,7 @@ impl GuidedRun {
         ensures stands { OnOk result (RunStands script.now self.new) }
         ensures place { OnOk result (self.new.place ≡ length script.now.lines) }
         ensures grown { OnOk result
-            (Grown self.old.play.board.history self.new.play.board.history) }
+            (Grown self.old.screen.board.history self.new.screen.board.history) }
         ensures answers { OnOk result (self.new.answers ≡ self.old.answers) }
     {
         for _ in self.place..script.lines.len() {
@@ -376,12 +382,12 @@ impl GuidedRun {
         requires stands { RunStands script.now self.old }
         ensures whole { OnOk result (IsWhole script.now self.new) }
         ensures grown { OnOk result
-            (Grown self.old.play.board.history self.new.play.board.history) }
-        ensures heeds { OnOk result (self.old.play.board.history ≡ self.new.play.board.history →
-            AllHeed script.now guide.now.seen.items (frames self.old.play.board.history)
-            (suc (frames self.old.play.board.history)) self.old.answers.items →
-            AllHeed script.now guide.now.seen.items (frames self.old.play.board.history)
-            (suc (frames self.old.play.board.history)) self.new.answers.items) }
+            (Grown self.old.screen.board.history self.new.screen.board.history) }
+        ensures heeds { OnOk result (self.old.screen.board.history ≡ self.new.screen.board.history →
+            AllHeed script.now guide.now.seen.items (frames self.old.screen.board.history)
+            (suc (frames self.old.screen.board.history)) self.old.answers.items →
+            AllHeed script.now guide.now.seen.items (frames self.old.screen.board.history)
+            (suc (frames self.old.screen.board.history)) self.new.answers.items) }
     {
         self.end_display(alloc, script)?;
         self.end_sessions(alloc, script)?;

@@ -11,9 +11,10 @@ use crate::following::Followed;
 use crate::guide::Guide;
 use crate::guided_run::GuidedRun;
 use crate::parting::{line_of, parts_at};
+use crate::screen::Screen;
 use flat_base::{Items, NoMemory};
 use flat_places::Script;
-use flat_play::{Play, let_go};
+use flat_play::{FrameStore, let_go};
 use flat_report::{Pieces, RunRecord, frames_are_seen, handed_is_report, print_report};
 use std::alloc::Global;
 
@@ -44,7 +45,7 @@ fn report_of(
 ) -> Result<Written, NoMemory>
     requires playable { is_playable script.now ≡ true }
     requires whole { IsWhole script.now followed.run }
-    requires stopped { StoppedBefore script.now text.now followed.run.play.board.history
+    requires stopped { StoppedBefore script.now text.now followed.run.screen.board.history
         followed.along }
     requires sees { SeesAsTold script.now text.now followed.run }
     ensures { IfOk result (λ written. IsReported script.now text.now written.report
@@ -54,23 +55,22 @@ fn report_of(
     frames_are_seen();
     let Followed { run, along } = followed;
     let GuidedRun {
-        play,
+        screen,
         seats: _,
         place: _,
         places: _,
         answers: probes,
     } = run;
-    let Play {
+    let Screen {
         board,
-        readers: _,
-        shown: _,
-        changed: _,
-        ratio: _,
-        with_view: _,
+        start: _,
+        store,
+    } = screen;
+    let FrameStore {
         kept,
         last,
         answers,
-    } = play;
+    } = store;
     let frames = last.frame.0;
     let entries = board.journal().entries.len();
     let texts = kept.into_texts();
@@ -96,7 +96,7 @@ fn run_followed(alloc: Global, script: &Script, text: &[u8]) -> Result<Followed,
     requires { is_playable script.now ≡ true }
     ensures whole { IfOk result (λ followed. IsWhole script.now followed.run) }
     ensures stopped { IfOk result (λ followed. StoppedBefore script.now text.now
-        followed.run.play.board.history followed.along) }
+        followed.run.screen.board.history followed.along) }
     ensures sees { IfOk result (λ followed. SeesAsTold script.now text.now followed.run) }
 {
     let guide = Guide::read(alloc, script, text)?;

@@ -4,7 +4,7 @@
 //!
 //! The text decides whose entry is next (reading.rt): following.rt lets that actor make its next
 //! entry, holds what the report says of it against the text (telling.rt), and reads on behind
-//! it. guided_run.rt is the run, with each session (seat.rt) and the display (directing.rt) at a
+//! it. guided_run.rt is the run, with each session (seat.rt) and the display (screen.rt) at a
 //! place of its own; a probe's line waits there for the frame that the end of the text names for
 //! it (guide.rt, specs/Hints). Where the text parts from the run's report or says of nobody that
 //! it is next, what is left of the script is run, and judging.rt compares the text with the
@@ -12,7 +12,6 @@
 #![tactic(auto)]
 
 mod cutting;
-mod directing;
 mod entry_texts;
 mod following;
 mod guide;

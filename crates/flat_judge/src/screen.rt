@@ -1,138 +1,94 @@
-//! What the display does to a run: `begin`, `finish`, `hit` and `enter_alone` of flat_play's
-//! `Play`, of which none asks how far anybody has read. They are to be public there, and this
-//! file to go.
-ghost use Rattle.std.specs.Prelude.{◌≡◌, ◌+◌, ◌<◌, ◌^◌, [], true, length, IfOk, OnOk};
+//! The board of a run and what is shown of it. The sessions are each at a place of their own,
+//! and what the display does hangs on the history alone, not on how far anybody has read.
+ghost use Rattle.std.specs.Prelude.{◌≡◌, ◌+◌, ◌<◌, ◌^◌, [], true, IfOk, OnOk};
 ghost use Rattle.flat_base.specs.declared.ids.Actor.TheVariants.{Display};
-ghost use Rattle.flat_scene.specs.declared.journal.Kind.TheVariants.{Begin, Finish, Hit};
-ghost use Rattle.flat_scene.specs.Interleave.{entry_of_display};
-ghost use Rattle.flat_scene.specs.Heads.{is_setup};
 ghost use Rattle.flat_core.specs.Machines.{MayCall};
-ghost use Rattle.flat_rules.specs.Ends.{to_begin};
-ghost use Rattle.flat_rules.specs.Legal.{frames, reply_to};
-ghost use Rattle.flat_rules.specs.Shown.{shown_states};
-ghost use Rattle.flat_topology.specs.Changes.{AreSame};
-ghost use Rattle.flat_report.specs.Report.{frame_at};
-ghost use Rattle.flat_play.specs.Last.{IsLast};
-ghost use Rattle.flat_play.specs.Playing.{AsksPoint, BeginsFrame, EntersBeside, FinishesFrame, FramesStand, HasViews};
-ghost use Rattle.flat_play.specs.Playing.{is_alone};
+ghost use Rattle.flat_playable.specs.Playable.{is_playable};
+ghost use Rattle.flat_rules.specs.Legal.{frames};
+ghost use Rattle.flat_scene.specs.Interleave.{entry_of_display};
+ghost use Rattle.flat_scene.specs.declared.journal.Kind.TheVariants as kind;
 
-use flat_base::{Actor, NoMemory};
-use flat_core::shown_states_fit;
+use flat_base::NoMemory;
+use flat_core::{Board, FrameStart, shown_states_fit};
 use flat_places::Script;
-use flat_play::Play;
-use flat_report::HitAnswer;
-use flat_scene::{CallList, DisplayLine, FrameOut};
+use flat_play::{FrameStore, Keeping, open_board};
+use flat_scene::DisplayLine;
 use std::alloc::Global;
 
-/// The next frame, as it is composed of what the sessions show.
-fn compose_next(play: &mut Play, alloc: Global) -> Result<FrameOut, NoMemory>
-    requires setup { is_setup play.old.board.setup ≡ true }
-    requires stands { FramesStand play.old.board.setup play.old.board.history play.old.shown
-        play.old.ratio play.old.with_view }
-    requires views { HasViews play.old.board.setup play.old.with_view }
-    requires last { play.old.last.frame.0 ≡ frames play.old.board.history }
-    requires same { AreSame play.old.changed play.old.last.reuse play.old.shown }
-    requires few { frames play.old.board.history + 1 < 2 ^ 32 }
-    ensures frame { IfOk result (λ frame. frame
-        ≡ frame_at play.old.board.setup (frames play.old.board.history + 1)
-        (to_begin play.old.board.history)) }
-    ensures is { OnOk result (IsLast play.old.board.setup play.new.last) }
-    ensures shows { OnOk result (play.new.last.reuse ≡ play.old.shown) }
-    ensures ratio { play.new.last.ratio ≡ play.old.ratio }
-    ensures others { play.new ≡ record play.old { last = play.new.last } }
-{
-    let _journal = play.board.journal();
-    shown_states_fit();
-    play.last.compose_next(
-        alloc,
-        play.board.setup(),
-        play.ratio,
-        &play.shown,
-        play.changed,
-        play.with_view,
-    )
+/// A board, and what is shown and kept of its frames.
+#[derive(Drop)]
+pub struct Screen {
+    pub board: Board,
+    /// What the last begin decided of its frame.
+    pub start: FrameStart,
+    /// What is kept of the finished frames.
+    pub store: FrameStore,
 }
 
-/// Begins a frame.
-pub(crate) fn begin(play: &mut Play, number: u32, time: u64)
-    requires may { MayCall play.old.board Display [] (Begin time) }
-    requires shown { play.old.shown
-        ≡ shown_states play.old.board.setup (to_begin play.old.board.history) }
-    ensures { BeginsFrame play.old play.new number time }
-{
-    let begun = play.board.begin(number, time, &mut play.shown);
-    play.changed = begun.changed;
-    play.ratio = begun.ratio;
-    play.with_view = play.board.with_view();
-}
+impl Screen {
+    ghost use Rattle.flat_judge.specs.GuidedRuns.{HasEntered, ScreenStands};
 
-/// Ends the frame that is open: it is composed, kept and entered.
-pub(crate) fn finish(
-    play: &mut Play,
-    alloc: Global,
-    script: &Script,
-    number: u32,
-) -> Result<(), NoMemory>
-    requires may { MayCall play.old.board Display [] Finish }
-    requires setup { is_setup play.old.board.setup ≡ true }
-    requires stands { FramesStand play.old.board.setup play.old.board.history play.old.shown
-        play.old.ratio play.old.with_view }
-    requires views { HasViews play.old.board.setup play.old.with_view }
-    requires last { play.old.last.frame.0 ≡ frames play.old.board.history }
-    requires same { AreSame play.old.changed play.old.last.reuse play.old.shown }
-    requires few { frames play.old.board.history + 1 < 2 ^ 32 }
-    requires of { play.old.board.setup ≡ script.now.setup }
-    ensures { OnOk result (FinishesFrame script.now play.old play.new number) }
-{
-    let frame = compose_next(play, alloc)?;
-    play.kept.keep(script, frame)?;
-    play.last.frame = play.board.done(number);
-    Ok(())
-}
-
-/// Makes the entry of a line that leaves frames and points alone.
-pub(crate) fn enter_alone(play: &mut Play, alloc: Global, number: u32, text: DisplayLine)
-    requires alone { is_alone text ≡ true }
-    requires may { MayCall play.old.board Display [] (entry_of_display text) }
-    ensures { EntersBeside play.old play.new number (entry_of_display text)
-        (reply_to play.old.board.setup play.old.board.history Display []
-        (entry_of_display text)) }
-{
-    let calls = CallList::new(alloc);
-    match text {
-        DisplayLine::Signal(f) => {
-            let _reply = play.board.signal(Actor::Display, number, calls, f);
-        }
-        DisplayLine::Wait(c) => {
-            let _reply = play.board.wait(Actor::Display, number, calls, c);
-        }
-        DisplayLine::Dpr(ratio) => {
-            let _reply = play.board.dpr(number, ratio);
-        }
-        _ => unreachable!(),
+    /// Before the first entry.
+    pub(crate) fn new(alloc: Global, script: &Script) -> Result<Screen, NoMemory>
+        requires { is_playable script.now ≡ true }
+        ensures stands { IfOk result (ScreenStands script.now) }
+        ensures no_entry { IfOk result (λ screen. screen.board.history ≡ []) }
+    {
+        let start = FrameStart::new(alloc, &script.setup)?;
+        let store = FrameStore::new(alloc, script, Keeping::Texts)?;
+        let board = open_board(alloc, script)?;
+        Ok(Screen {
+            board,
+            start,
+            store,
+        })
     }
-}
 
-/// Asks what a point of the last finished frame hits.
-pub(crate) fn hit(
-    play: &mut Play,
-    alloc: Global,
-    number: u32,
-    x: i32,
-    y: i32,
-) -> Result<(), NoMemory>
-    requires may { MayCall play.old.board Display [] (Hit x y) }
-    requires setup { is_setup play.old.board.setup ≡ true }
-    requires is { IsLast play.old.board.setup play.old.last }
-    ensures { OnOk result (AsksPoint play.old play.new number x y) }
-{
-    let hits = play.last.hits(alloc, play.board.setup(), x, y)?;
-    play.answers.push(HitAnswer {
-        actor: Actor::Display,
-        line: number,
-        frame: play.last.frame,
-        hits,
-    })?;
-    let _reply = play.board.hit(number, x, y);
-    Ok(())
+    /// Makes the entry of a line of the display. A frame that it ends is shown to nobody.
+    pub(crate) fn enter(
+        &mut self,
+        alloc: Global,
+        script: &Script,
+        number: u32,
+        text: DisplayLine,
+    ) -> Result<(), NoMemory>
+        requires playable { is_playable script.now ≡ true }
+        requires stands { ScreenStands script.now self.old }
+        requires may { MayCall self.old.board Display [] (entry_of_display text) }
+        requires few { frames self.old.board.history + 1 < 2 ^ 32 }
+        ensures stands { OnOk result (ScreenStands script.now self.new) }
+        ensures enters { OnOk result (HasEntered number (entry_of_display text) self.old.board
+            self.new.board) }
+    {
+        match text {
+            DisplayLine::Begin(time) => {
+                let _frame = self.board.begin(number, time, &mut self.start);
+                Ok(())
+            }
+            DisplayLine::Done => self.end_frame(alloc, script, number),
+            _ => {
+                self.store.answer_line(alloc, &script.setup, number, text)?;
+                let _reply = self.board.enter_display(number, text);
+                Ok(())
+            }
+        }
+    }
+
+    /// Ends the frame that is open.
+    fn end_frame(&mut self, alloc: Global, script: &Script, number: u32) -> Result<(), NoMemory>
+        requires playable { is_playable script.now ≡ true }
+        requires stands { ScreenStands script.now self.old }
+        requires may { MayCall self.old.board Display [] kind.Finish }
+        requires few { frames self.old.board.history + 1 < 2 ^ 32 }
+        ensures stands { OnOk result (ScreenStands script.now self.new) }
+        ensures enters { OnOk result (HasEntered number kind.Finish self.old.board
+            self.new.board) }
+    {
+        // proof: the entries so far are legal, so what the frame shows fits the setup.
+        let _journal = self.board.journal();
+        shown_states_fit();
+        self.store.finish(alloc, script, &self.start)?;
+        let _frame = self.board.done(number);
+        Ok(())
+    }
 }

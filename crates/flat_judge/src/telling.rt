@@ -14,24 +14,24 @@ ghost use Rattle.flat_report.specs.FrameTexts.{frame_text};
 ghost use Rattle.flat_report.specs.Handed.{answer_to};
 ghost use Rattle.flat_report.specs.Report.{frame_at};
 ghost use Rattle.flat_judge.specs.Following.{Passes, events_text, own_text};
-ghost use Rattle.flat_judge.specs.GuidedRuns.{ShowStands};
+ghost use Rattle.flat_judge.specs.GuidedRuns.{ScreenStands};
 
 use crate::entry_texts::{line_text, posts_text};
 use crate::passing::{pass, pass_pieces};
+use crate::screen::Screen;
 use flat_base::NoMemory;
 use flat_places::Script;
-use flat_play::Play;
 use flat_scene::{Entry, Hit, Kind};
 use std::alloc::Global;
 
 /// How many frames were finished before the last entry.
-fn finished_before(play: &Play, entry: &Entry) -> u64
-    requires { play.now.last.frame.0 ≡ frames play.now.board.history }
-    ensures is { (before : List Entry) → play.now.board.history ≡ (before ▹ entry.now) → result
+fn finished_before(screen: &Screen, entry: &Entry) -> u64
+    requires { screen.now.store.last.frame.0 ≡ frames screen.now.board.history }
+    ensures is { (before : List Entry) → screen.now.board.history ≡ (before ▹ entry.now) → result
         ≡ frames before }
     ensures few { result < 2 ^ 32 }
 {
-    let finished = u64::from(play.last.frame.0);
+    let finished = u64::from(screen.store.last.frame.0);
     match entry.kind {
         Kind::Finish => finished.saturating_sub(1),
         _ => finished,
@@ -39,12 +39,12 @@ fn finished_before(play: &Play, entry: &Entry) -> u64
 }
 
 /// Who is hit at the point for which the last entry asked; nobody, where it asked for none.
-fn hits_asked<'a>(play: &'a Play, entry: &Entry) -> &'a [Hit]
-    ensures { (earlier : List HitAnswer) (n : ℕ) (hits : ℤ → ℤ → List Hit) → play.now.answers
+fn hits_asked<'a>(screen: &'a Screen, entry: &Entry) -> &'a [Hit]
+    ensures { (earlier : List HitAnswer) (n : ℕ) (hits : ℤ → ℤ → List Hit) → screen.now.store.answers
         ≡ earlier ++ answer_to entry.now n hits entry.now.kind → (x y : ℤ) → entry.now.kind
         ≡ kind.Hit x y → result.now ≡ hits x y }
 {
-    match (&entry.kind, play.answers.as_slice().last()) {
+    match (&entry.kind, screen.store.answers.as_slice().last()) {
         (Kind::Hit(_, _), Some(answer)) => answer.hits.as_slice(),
         _ => &[],
     }
@@ -56,30 +56,30 @@ pub(crate) fn pass_line(
     script: &Script,
     text: &[u8],
     at: usize,
-    play: &Play,
+    screen: &Screen,
     entry: &Entry,
 ) -> Result<Option<usize>, NoMemory>
     requires within { at ≤ length text.now }
-    requires shows { ShowStands script.now play.now }
+    requires shows { ScreenStands script.now screen.now }
     ensures within { IfOk result (λ found. IfSome found (λ next. next ≤ length text.now)) }
-    ensures passes { (before : List Entry) → play.now.board.history ≡ (before ▹ entry.now) →
+    ensures passes { (before : List Entry) → screen.now.board.history ≡ (before ▹ entry.now) →
         IfOk result (Passes text.now at (own_text script.now before entry.now)) }
 {
-    let finished = finished_before(play, entry);
-    let line = line_text(alloc, script, finished, hits_asked(play, entry), entry)?;
+    let finished = finished_before(screen, entry);
+    let line = line_text(alloc, script, finished, hits_asked(screen, entry), entry)?;
     Ok(pass(text, at, line.as_slice()))
 }
 
 /// The place behind the lines of the frame that the last entry finished, if the text has them.
-pub(crate) fn pass_frame(text: &[u8], at: usize, play: &Play) -> Option<usize>
+pub(crate) fn pass_frame(text: &[u8], at: usize, screen: &Screen) -> Option<usize>
     requires within { at ≤ length text.now }
     ensures within { IfSome result (λ next. next ≤ length text.now) }
     ensures passes { (script : Script) (before : List Entry) (entry : Entry) →
-        ShowStands script play.now → play.now.board.history ≡ (before ▹ entry) →
+        ScreenStands script screen.now → screen.now.board.history ≡ (before ▹ entry) →
         is_finish entry.kind ≡ true → Passes text.now at (frame_text script
         (frame_at script.setup (suc (frames before)) (to_begin before))) result }
 {
-    match play.kept.last_text() {
+    match screen.store.kept.last_text() {
         Some(lines) => pass_pieces(text, at, lines),
         None => Some(at),
     }
@@ -92,17 +92,17 @@ pub(crate) fn pass_events(
     script: &Script,
     text: &[u8],
     at: usize,
-    play: &Play,
+    screen: &Screen,
     before: usize,
 ) -> Result<Option<usize>, NoMemory>
     requires within { at ≤ length text.now }
-    requires shows { ShowStands script.now play.now }
+    requires shows { ScreenStands script.now screen.now }
     ensures within { IfOk result (λ found. IfSome found (λ next. next ≤ length text.now)) }
-    ensures passes { (earlier : List Entry) (entry : Entry) → play.now.board.history
+    ensures passes { (earlier : List Entry) (entry : Entry) → screen.now.board.history
         ≡ (earlier ▹ entry) → before ≡ length (posts script.now.setup earlier) →
         IfOk result (Passes text.now at (events_text script.now earlier entry)) }
 {
-    let posts = play.board.journal().posts.as_slice();
+    let posts = screen.board.journal().posts.as_slice();
     if posts.len() < before {
         return Ok(Some(at));
     }

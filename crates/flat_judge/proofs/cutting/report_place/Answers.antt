@@ -1,4 +1,4 @@
-use Rattle.std.proofs.Common.{◌≡◌, sym, ◌+◌, ◌≤◌, ◌<◌, length, arith}
+use Rattle.std.proofs.Common.{sym, arith}
 use Rattle.flat_judge.proofs.LineCuts.{reached-on}
 use Rattle.flat_judge.proofs.cutting.report_place.Goals as goal
 

@@ -1,4 +1,4 @@
-use Rattle.std.proofs.Common.{◌≡◌, ◌<◌, ◌≤◌, [], sym, ◌∙◌, arith}
+use Rattle.std.proofs.Common.{◌≡◌, [], sym, ◌∙◌, arith}
 use Rattle.flat_text.specs.Pieces.{lines_of}
 use Rattle.flat_judge.proofs.Looking.{drop-end, drop-more}
 use Rattle.flat_judge.proofs.guide.behind_lines.Goals as goal

@@ -1,7 +1,5 @@
-use Rattle.std.proofs.Common.{◌≡◌, ◌+◌, ◌-◌, length, arith}
-use Rattle.flat_text.specs.Pieces.{lines_of}
-use Rattle.flat_report.specs.Report.{probe_lines_of}
-use Rattle.flat_judge.proofs.Looking.{lines-more, lines_to}
+use Rattle.std.proofs.Common.{arith}
+use Rattle.flat_judge.proofs.Looking.{lines-more}
 use Rattle.flat_judge.proofs.guide.lines_before.Goals as goal
 
 pub loop-probe-preserved : goal.loop-probe-preserved

@@ -1,4 +1,4 @@
-use Rattle.std.proofs.Common.{◌≡◌, ◌+◌, ◌≤◌, ◌<◌, ℕ, List, [], length, drop, Option, Some, IfSome, sym, ◌∙◌, subst, arith}
+use Rattle.std.proofs.Common.{◌≡◌, ◌≤◌, ℕ, List, [], length, drop, Option, IfSome, sym, subst, arith}
 use Rattle.flat_scene.specs.declared.frames.Lost.{Lost}
 use Rattle.flat_judge.specs.Following.{ReadsLoss, ReadsLosses}
 use Rattle.flat_judge.proofs.LossesTold.{reading-ends, reading-more, reading-none, stops-at-end}

@@ -1,4 +1,4 @@
-use Rattle.std.proofs.Common.{◌≡◌, ◌+◌, ◌++◌, ◌∷◌, [], ℕ, ap, ◌∙◌, replicate, arith}
+use Rattle.std.proofs.Common.{◌++◌, ◌∷◌, [], ℕ, ap, ◌∙◌, replicate, arith}
 use Rattle.std.proofs.lemmas.List.{replicate-append-replicate}
 use Rattle.flat_judge.proofs.opening.first_places.Goals as goal
 

@@ -1,4 +1,4 @@
-use Rattle.std.proofs.Common.{◌≡◌, ◌+◌, ℕ, List, false, refl, sym, subst, arith}
+use Rattle.std.proofs.Common.{◌+◌, List, false, refl, sym, subst, arith}
 use Rattle.flat_play.proofs.lemmas.Places.{setup_is}
 use Rattle.flat_play.proofs.lemmas.Starting.{is_numbered}
 use Rattle.flat_judge.specs.declared.seat.Seat.{Seat}

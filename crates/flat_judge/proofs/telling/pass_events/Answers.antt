@@ -1,7 +1,5 @@
-use Rattle.std.proofs.Common.{◌≡◌, ◌+◌, ◌-◌, ◌≤◌, ℕ, List, length, take, drop, map, sym, ap, ◌∙◌, subst, arith}
-use Rattle.flat_scene.specs.declared.journal.Entry.{Entry}
+use Rattle.std.proofs.Common.{◌≡◌, ℕ, List, map, ap, ◌∙◌, subst, arith}
 use Rattle.flat_scene.specs.declared.journal.Post.{Post}
-use Rattle.flat_scene.specs.declared.setup.Setup.{Setup}
 use Rattle.flat_scene.specs.History.{◌▹◌}
 use Rattle.flat_rules.specs.AllPosts.{posts}
 use Rattle.flat_page.specs.Words.{text_of}

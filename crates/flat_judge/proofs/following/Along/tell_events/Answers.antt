@@ -1,6 +1,5 @@
-use Rattle.std.proofs.Common.{rules, ◌≡◌, ◌+◌, ◌≤◌, ℕ, List, length, Option, None, Some, ap, ◌∙◌, subst, arith}
+use Rattle.std.proofs.Common.{rules, ◌≡◌, ℕ, length, Option, ap, ◌∙◌, subst, arith}
 use Rattle.flat_judge.proofs.LossesTold.{pass-on}
-use Rattle.flat_scene.specs.declared.journal.Post.{Post}
 use Rattle.flat_scene.specs.History.{◌▹◌}
 use Rattle.flat_rules.specs.AllPosts.{posts}
 use Rattle.flat_judge.specs.Following.{Passes, Stays, events_text}

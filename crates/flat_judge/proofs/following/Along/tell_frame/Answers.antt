@@ -1,4 +1,4 @@
-use Rattle.std.proofs.Common.{◌≡◌, ◌+◌, ◌≤◌, suc, ℕ, List, length, map, Option, None, Some, IfSome, ap, ◌∙◌, subst, arith}
+use Rattle.std.proofs.Common.{◌≡◌, ◌≤◌, suc, ℕ, length, map, Option, IfSome, ap, ◌∙◌, subst, arith}
 use Rattle.flat_scene.specs.History.{◌▹◌}
 use Rattle.flat_rules.specs.Ends.{to_begin}
 use Rattle.flat_rules.specs.Legal.{frames}
@@ -24,8 +24,8 @@ returns-in_ok-behind-in-Some-clause-tells c = λ before entry is finish line.
     let along = c.args.self.now in
     let fb = frame_text script (frame_at script.setup (suc (frames before)) (to_begin before)) in
     let P : Option ℕ → Type 0 = Passes text along.at fb in
-    let number : c.args.play.now.last.frame.0 ≡ suc (frames before) =
-    before-finish before entry finish c.args.play.now.last.frame.0 (c.requires.shows.answers.number ∙ ap frames is) in
+    let number : c.args.screen.now.store.last.frame.0 ≡ suc (frames before) =
+    before-finish before entry finish c.args.screen.now.store.last.frame.0 (c.requires.shows.frames.stored.ends.number ∙ ap frames is) in
     let R : ℕ → Type 0 = λ n. ReadsLosses n along.lost c.read_losses.new.lost text c.in-Some.at c.in_ok-behind-in-Some.behind in
     let passes = subst P c.in-Some.is (c.pass_frame.ensures.passes script before entry c.requires.shows is finish) in
     let reads = subst R number c.in_ok-behind-in-Some.ensures.reads in

@@ -1,4 +1,4 @@
-use Rattle.std.proofs.Common.{◌≡◌, ◌+◌, ◌≤◌, ◌<◌, ℕ, length, Option, None, Some, subst, arith}
+use Rattle.std.proofs.Common.{ℕ, Option, subst, arith}
 use Rattle.flat_judge.proofs.LossesTold.{pass-on}
 use Rattle.flat_judge.specs.Following.{Passes, Stays, own_text}
 use Rattle.flat_judge.proofs.OneMore.{line-parts, line-passes, own-some}

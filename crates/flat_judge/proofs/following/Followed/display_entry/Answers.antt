@@ -1,6 +1,3 @@
-use Rattle.std.proofs.Common.{◌≡◌, ap, ◌∙◌, subst}
-use Rattle.flat_scene.specs.declared.setup.Setup.{Setup}
-use Rattle.flat_scene.specs.Interleave.{by_display, display_lines, unread_lines}
 use Rattle.flat_judge.proofs.NextEntries.{display-makes, none-unread, run-stands}
 use Rattle.flat_judge.proofs.following.Followed.display_entry.Goals as goal
 
@@ -10,6 +7,6 @@ returns-clause-makes c =
     let old = c.args.self.now.run in
     let new = c.display_turn.new.self in
     let made = c.in_ok-made.ensures in
-    display-makes script c.args.text.now old.play.board new.play.board c.args.self.now.along c.requires.along c.in_ok-made.made c.requires.turn made.goes
+    display-makes script c.args.text.now old.screen.board new.screen.board c.args.self.now.along c.requires.along c.in_ok-made.made c.requires.turn made.goes
     (run-stands script c.requires.playable new made.stands c.journal-journal.ensures.legal)
     (λ none. none-unread script old new made.stands (made.last none) c.in_ok-made.made none made.goes)

@@ -1,4 +1,4 @@
-use Rattle.std.proofs.Common.{rules, inr, refl, ◌≡◌, ◌+◌, ◌≤◌, ◌<◌, ℕ, true, false, length, arith}
+use Rattle.std.proofs.Common.{rules, inr, refl, ◌≡◌, true, false, arith}
 use Rattle.flat_judge.proofs.HeedingSteps.{heeds-on}
 use Rattle.flat_judge.proofs.Turning.{follows-false, follows-true}
 use Rattle.flat_judge.proofs.following.Followed.follow.Goals as goal

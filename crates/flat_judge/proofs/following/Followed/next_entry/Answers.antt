@@ -1,6 +1,5 @@
-use Rattle.std.proofs.Common.{◌≡◌, ◌-◌, None, Some, length, take, drop, refl, sym, ap, ◌∙◌, subst}
+use Rattle.std.proofs.Common.{◌-◌, Some, length, take, drop, refl, sym, ap, ◌∙◌, subst}
 use Rattle.flat_base.specs.declared.ids.Actor.{Actor}
-use Rattle.flat_base.specs.declared.ids.Actor.TheVariants.{Session}
 use Rattle.flat_judge.specs.Following.{next_actor}
 use Rattle.flat_judge.proofs.NextEntries.{nobody-makes}
 use Rattle.flat_judge.proofs.NextWords.{IsOfSession, next-acts, next-declared}
@@ -26,6 +25,6 @@ returns-in-Some-Probe-clause-makes c =
 
 pub returns-in-None-clause-makes : goal.returns-in-None-clause-makes
 returns-in-None-clause-makes c =
-    let board = c.args.self.now.run.play.board in
+    let board = c.args.self.now.run.screen.board in
     nobody-makes c.args.script.now c.args.text.now board board c.args.self.now.along c.requires.along refl
     (ap (next_actor c.args.script.now) (sym (rest-all c.args.text.now c.args.self.now.along.at)) ∙ sym c.next_actor.ensures ∙ c.in-None.is)

@@ -1,6 +1,5 @@
-use Rattle.std.proofs.Common.{◌≡◌, ◌⊎◌, inl, inr, ◌<◌, ◌^◌, ℕ, suc, List, sym, ap, ◌∙◌, subst}
+use Rattle.std.proofs.Common.{◌≡◌, inl, inr, ◌<◌, ◌^◌, ℕ, suc, List, sym, ap, ◌∙◌, subst}
 use Rattle.flat_scene.specs.declared.journal.Entry.{Entry}
-use Rattle.flat_core.specs.Machines.{made}
 use Rattle.flat_rules.specs.Legal.{Legal, frames}
 use Rattle.flat_judge.specs.Heeding.{AllHeed}
 use Rattle.flat_judge.proofs.DisplayLines.{frames_below}
@@ -9,7 +8,7 @@ use Rattle.flat_judge.proofs.following.Followed.run_all.Goals as goal
 
 pub returns-clause-stopped : goal.returns-clause-stopped
 returns-clause-stopped c = record {
-  stop = c.begin.new.self.run.play.board.history;
+  stop = c.begin.new.self.run.screen.board.history;
   stopped = c.in_ok-begin.ensures.stops;
   grown = c.in_ok-end.ensures.grown;
 }
@@ -19,8 +18,8 @@ pub returns-clause-sees : goal.returns-clause-sees
 returns-clause-sees c = λ read run is same.
     let script = c.args.script.now in
     let hints = c.args.guide.now.seen.items in
-    let stop : List Entry = c.begin.new.self.run.play.board.history in
-    let end : List Entry = c.end.new.self.play.board.history in
+    let stop : List Entry = c.begin.new.self.run.screen.board.history in
+    let end : List Entry = c.end.new.self.screen.board.history in
     let at : run.history ≡ stop = (c.in_ok-begin.ensures.stops.only read run is).0 in
     let whole = c.in_ok-end.ensures.whole in
     let L : List Entry → Type 0 = Legal script.setup in

@@ -1,7 +1,6 @@
-use Rattle.std.proofs.Common.{rules, ◌≡◌, ◌+◌, ◌-◌, ◌<◌, ◌≤◌, ℕ, true, false, length, get_or, Some, slice_get, refl, sym, ap, ◌∙◌, subst, arith}
-use Rattle.flat_base.specs.declared.ids.SessionNo.{SessionNo}
+use Rattle.std.proofs.Common.{rules, ◌≡◌, ◌-◌, true, false, get_or, sym, ap, ◌∙◌}
 use Rattle.flat_judge.specs.declared.seat.Seat.{Seat}
-use Rattle.flat_judge.proofs.NextEntries.{ended-makes, run-stands, seat-number, seat-within, session-enters}
+use Rattle.flat_judge.proofs.NextEntries.{ended-makes, seat-within, session-enters}
 use Rattle.flat_judge.proofs.RunSteps.{seat_found}
 use Rattle.flat_judge.proofs.following.Followed.session_entry.Goals as goal
 

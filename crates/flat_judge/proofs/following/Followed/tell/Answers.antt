@@ -1,9 +1,9 @@
-use Rattle.std.proofs.Common.{rules, ◌≡◌, ◌+◌, ◌≤◌, ℕ, Bool, true, false, List, [], length, Some, sym, ap, ◌∙◌, subst, arith}
+use Rattle.std.proofs.Common.{rules, ◌≡◌, ◌+◌, true, false, [], Some, sym, ap, ◌∙◌, subst, arith}
 use Rattle.flat_scene.specs.declared.journal.Entry.{Entry}
 use Rattle.flat_scene.specs.History.{◌▹◌}
 use Rattle.flat_scene.specs.Journals.{history_of}
 use Rattle.flat_rules.specs.Legal.{frames}
-use Rattle.flat_judge.specs.Following.{IsAlong, IsLineTold, IsPart, IsShownTold, Stays}
+use Rattle.flat_judge.specs.Following.{IsAlong, IsPart, IsShownTold, Stays}
 use Rattle.flat_judge.proofs.LastEntry.{newest-is}
 use Rattle.flat_judge.proofs.OneMore.{frames-upto, losses-later}
 use Rattle.flat_judge.proofs.Turning.{held, parted, result-earlier}
@@ -16,7 +16,7 @@ returns-then-not-branch-clause-tells c = λ before entry is part.
     let last : Some c.in-Some.entry.now ≡ Some entry = c.in-Some.ensures.value
     ∙ newest-is c.as_slice-entries.result.now before entry (ap history_of c.as_slice-entries.ensures.value ∙ c.journal.ensures.entries ∙ is) in
     let same : entry ≡ c.in-Some.entry.now = cc in
-    let is_its : c.args.self.now.run.play.board.history ≡ (before ▹ c.in-Some.entry.now) = is ∙ ap (λ (e : Entry). before ▹ e) same in
+    let is_its : c.args.self.now.run.screen.board.history ≡ (before ▹ c.in-Some.entry.now) = is ∙ ap (λ (e : Entry). before ▹ e) same in
     let P : Entry → Type 0 = λ e. IsPart script text before e [] (frames before) c.args.self.now.along in
     let line = c.in_ok-tell_line.ensures.tells before is_its (subst P same part) in
     let none : c.in_ok-tell_line.field-0 ≡ false = search rules in
@@ -33,7 +33,7 @@ returns-then-not-branch-2-clause-tells c = λ before entry is part.
     let last : Some c.in-Some.entry.now ≡ Some entry = c.in-Some.ensures.value
     ∙ newest-is c.as_slice-entries.result.now before entry (ap history_of c.as_slice-entries.ensures.value ∙ c.journal.ensures.entries ∙ is) in
     let same : entry ≡ c.in-Some.entry.now = cc in
-    let is_its : c.args.self.now.run.play.board.history ≡ (before ▹ c.in-Some.entry.now) = is ∙ ap (λ (e : Entry). before ▹ e) same in
+    let is_its : c.args.self.now.run.screen.board.history ≡ (before ▹ c.in-Some.entry.now) = is ∙ ap (λ (e : Entry). before ▹ e) same in
     let P : Entry → Type 0 = λ e. IsPart script text before e [] (frames before) c.args.self.now.along in
     let line = c.in_ok-tell_line.ensures.tells before is_its (subst P same part) in
     let yes : c.in_ok-tell_line.field-0 ≡ true = search rules in
@@ -55,7 +55,7 @@ returns-clause-tells c = λ before entry is part.
     let last : Some c.in-Some.entry.now ≡ Some entry = c.in-Some.ensures.value
     ∙ newest-is c.as_slice-entries.result.now before entry (ap history_of c.as_slice-entries.ensures.value ∙ c.journal.ensures.entries ∙ is) in
     let same : entry ≡ c.in-Some.entry.now = cc in
-    let is_its : c.args.self.now.run.play.board.history ≡ (before ▹ c.in-Some.entry.now) = is ∙ ap (λ (e : Entry). before ▹ e) same in
+    let is_its : c.args.self.now.run.screen.board.history ≡ (before ▹ c.in-Some.entry.now) = is ∙ ap (λ (e : Entry). before ▹ e) same in
     let P : Entry → Type 0 = λ e. IsPart script text before e [] (frames before) c.args.self.now.along in
     let line = c.in_ok-tell_line.ensures.tells before is_its (subst P same part) in
     let yes : c.in_ok-tell_line.field-0 ≡ true = search rules in

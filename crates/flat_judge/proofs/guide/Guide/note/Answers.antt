@@ -1,7 +1,6 @@
-use Rattle.std.proofs.Common.{◌≡◌, ◌<◌, ◌≤◌, ◌∷◌, ◌++◌, ℕ, List, [], false, length, Some, Option, slice_get, slice_set, sym, ◌∙◌, ap, arith}
+use Rattle.std.proofs.Common.{◌≡◌, ◌∷◌, ◌++◌, ℕ, [], Some, slice_get, slice_set, sym, ◌∙◌, ap, arith}
 use Rattle.std.proofs.lemmas.Option.{slice_get-get_or}
-use Rattle.flat_judge.specs.Hints.{NotesLine, is_this}
-use Rattle.flat_text.specs.Pieces.{words_of}
+use Rattle.flat_judge.specs.Hints.{is_this}
 use Rattle.flat_judge.proofs.Looking.{notes-none, notes-one, not-this, on-ok}
 use Rattle.flat_judge.proofs.guide.Guide.note.Goals as goal
 

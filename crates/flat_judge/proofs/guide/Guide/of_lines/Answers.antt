@@ -1,4 +1,4 @@
-use Rattle.std.proofs.Common.{◌+◌, ◌≤◌, length, arith}
+use Rattle.std.proofs.Common.{arith}
 use Rattle.flat_text.specs.Pieces.{lines_of}
 use Rattle.flat_judge.proofs.Looking.{lines-none, noted-all, noted-first, noted-more}
 use Rattle.flat_judge.proofs.guide.Guide.of_lines.Goals as goal

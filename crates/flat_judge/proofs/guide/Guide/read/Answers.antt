@@ -1,4 +1,4 @@
-use Rattle.std.proofs.Common.{◌≡◌, ℕ, drop, ap, ◌∙◌}
+use Rattle.std.proofs.Common.{ℕ, drop, ap, ◌∙◌}
 use Rattle.flat_text.specs.Pieces.{lines_of}
 use Rattle.flat_judge.proofs.Looking.{if-ok, last-hints, other-hints}
 use Rattle.flat_judge.proofs.guide.Guide.read.Goals as goal

@@ -8,7 +8,7 @@ use Rattle.flat_judge.proofs.guided_run.GuidedRun.answer_probes.Given as goal
 abbrev pub invariant-loop-probe : goal.invariant-loop-probe
 invariant-loop-probe l =
     RunStands l.script l.self × (l.is_last ≡ true → AreBehind l.script l.probe l.self.places) × (l.self.place ≡ l.initial.self.place)
-    × (l.self.seats ≡ l.initial.self.seats) × (l.self.play.board ≡ l.initial.self.play.board)
-    × ((last : ℕ) → (l.is_last ≡ true → last ≡ frames l.initial.self.play.board.history)
-    → AllHeed l.script l.guide.seen.items last (frames l.initial.self.play.board.history) l.initial.self.answers.items
-    → HeedTo l.script l.guide.seen.items last (frames l.initial.self.play.board.history) l.probe l.self.answers.items)
+    × (l.self.seats ≡ l.initial.self.seats) × (l.self.screen.board ≡ l.initial.self.screen.board)
+    × ((last : ℕ) → (l.is_last ≡ true → last ≡ frames l.initial.self.screen.board.history)
+    → AllHeed l.script l.guide.seen.items last (frames l.initial.self.screen.board.history) l.initial.self.answers.items
+    → HeedTo l.script l.guide.seen.items last (frames l.initial.self.screen.board.history) l.probe l.self.answers.items)

@@ -1,11 +1,10 @@
-use Rattle.std.proofs.Common.{◌≡◌, ℕ, suc, ◌<◌, List, refl, sym, ap, ◌∙◌, subst, arith}
+use Rattle.std.proofs.Common.{◌≡◌, ℕ, suc, List, refl, sym, ap, ◌∙◌, subst, arith}
 use Rattle.flat_core.specs.Machines.{Machine}
 use Rattle.flat_judge.proofs.Growth.{grown-none, grown-on}
 use Rattle.flat_play.proofs.lemmas.Places.{within}
 use Rattle.flat_scene.specs.declared.journal.Entry.{Entry}
 use Rattle.flat_rules.specs.Legal.{frames}
 use Rattle.flat_report.specs.declared.probes.ProbeAnswer.{ProbeAnswer}
-use Rattle.flat_judge.specs.GuidedRuns.{HaveEnded}
 use Rattle.flat_judge.specs.Heeding.{AllHeed}
 use Rattle.flat_judge.proofs.HeedingSteps.{heeds-before}
 use Rattle.flat_judge.proofs.guided_run.GuidedRun.end.Goals as goal
@@ -33,9 +32,9 @@ pub returns-clause-heeds : goal.returns-clause-heeds
 returns-clause-heeds c = λ same heeds.
     let script = c.args.script.now in
     let hints = c.args.guide.now.seen.items in
-    let n : ℕ = frames c.args.self.now.play.board.history in
-    let before : List Entry = c.end_sessions.new.self.play.board.history in
-    let history : c.answer_probes.new.self.play.board.history ≡ before = ap (λ (m : Machine). m.history) c.in_ok-answer_probes.ensures.board in
+    let n : ℕ = frames c.args.self.now.screen.board.history in
+    let before : List Entry = c.end_sessions.new.self.screen.board.history in
+    let history : c.answer_probes.new.self.screen.board.history ≡ before = ap (λ (m : Machine). m.history) c.in_ok-answer_probes.ensures.board in
     let many : frames before ≡ n = ap frames (sym history ∙ sym same) in
     let A : List (List ProbeAnswer) → Type 0 = AllHeed script hints n (suc n) in
     let answers : c.end_sessions.new.self.answers.items ≡ c.args.self.now.answers.items =

@@ -1,5 +1,5 @@
-use Rattle.std.proofs.Common.{◌≡◌, ◌⊎◌, ◌+◌, ◌<◌, ◌≤◌, ℕ, length, inl, inr, ◌∙◌, arith}
-use Rattle.flat_judge.proofs.Growth.{grown-display, grown-none, grown-on}
+use Rattle.std.proofs.Common.{inl, inr, ◌∙◌, arith}
+use Rattle.flat_judge.proofs.Growth.{grown-display, grown-on}
 use Rattle.flat_judge.proofs.guided_run.GuidedRun.end_display.Goals as goal
 
 pub returns-then-not-branch-clause-grown : goal.returns-then-not-branch-clause-grown

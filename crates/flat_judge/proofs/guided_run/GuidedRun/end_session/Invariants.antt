@@ -7,4 +7,4 @@ abbrev pub invariant-loop : goal.invariant-loop
 invariant-loop l =
     RunStands l.script l.self × HaveEnded l.k l.self.seats.items
     × ((seat : Seat) → slice_get l.self.seats.items l.k ≡ Some seat → seat.has_ended ≡ false → l.counter ≤ seat.place)
-    × (l.self.place ≡ l.initial.self.place) × Grown l.initial.self.play.board.history l.self.play.board.history × (l.self.answers ≡ l.initial.self.answers)
+    × (l.self.place ≡ l.initial.self.place) × Grown l.initial.self.screen.board.history l.self.screen.board.history × (l.self.answers ≡ l.initial.self.answers)

@@ -1,15 +1,14 @@
-use Rattle.std.proofs.Common.{rules, ◌≡◌, ℕ, ◌+◌, ◌<◌, ◌∷◌, [], ◌++◌, List, true, false, refl, sym, ap, ◌∙◌, arith, slice_get, slice_set, subst}
+use Rattle.std.proofs.Common.{rules, ◌≡◌, ℕ, ◌+◌, List, true, false, refl, sym, ap, ◌∙◌, arith, slice_get, slice_set, subst}
 use Rattle.flat_scene.specs.Setups.{at_ratio}
 use Rattle.flat_report.specs.declared.probes.ProbeAnswer.{ProbeAnswer}
 use Rattle.flat_rules.specs.Legal.{frames}
-use Rattle.flat_play.specs.Probing.{answer_of}
 use Rattle.flat_play.proofs.lemmas.Slots.{got-other}
 use Rattle.flat_judge.proofs.HeedingSteps.{behind-same, behind-waits, line-answered}
 use Rattle.flat_play.proofs.lemmas.Starting.{few}
 use Rattle.flat_play.proofs.lemmas.Steps.{at_place}
 use Rattle.flat_judge.specs.declared.guided_run.GuidedRun.{GuidedRun}
 use Rattle.flat_judge.specs.GuidedRuns.{ProbeGoes}
-use Rattle.flat_judge.proofs.ProbePlaces.{probe-goes, probe-stays}
+use Rattle.flat_judge.proofs.ProbePlaces.{probe-goes}
 use Rattle.flat_judge.proofs.RunSteps.{has_answers, probe_answers, probe_passes}
 use Rattle.flat_judge.proofs.guided_run.GuidedRun.probe_step.Goals as goal
 
@@ -56,7 +55,7 @@ returns-in_ok-answer-in-Some-clause-heeds c =
     let due : c.args.is_due ≡ true = search rules in
     line-answered script guided c.args.probe place c.requires.stands c.at-place.ensures
     (has_answers script guided c.args.probe c.requires.stands c.requires.probe) x at c.in-Some.asked (sym c.asked_here.ensures ∙ c.in-Some.is)
-    (at_ratio guided.play.last.ratio script.setup) guided.play.last.reuse c.answer.new.self.answers.items c.in_ok-answer-in-Some.ensures.answers c.args.is_due
+    (at_ratio guided.screen.store.last.ratio script.setup) guided.screen.store.last.reuse c.answer.new.self.answers.items c.in_ok-answer-in-Some.ensures.answers c.args.is_due
     due
 
 pub returns-in_ok-answer-in-Some-clause-others : goal.returns-in_ok-answer-in-Some-clause-others
@@ -66,12 +65,12 @@ returns-in_ok-answer-in-Some-clause-others c = λ n apart.
 
 pub returns-in-None-clause-heeds : goal.returns-in-None-clause-heeds
 returns-in-None-clause-heeds c = λ last named one could at due has.
-    behind-same c.args.probe (frames c.args.self.now.play.board.history) named one c.args.self.now.answers.items at has
+    behind-same c.args.probe (frames c.args.self.now.screen.board.history) named one c.args.self.now.answers.items at has
 
 pub returns-then-not-is_due-clause-heeds : goal.returns-then-not-is_due-clause-heeds
 returns-then-not-is_due-clause-heeds c = λ last named one could at due has.
     let waits : c.args.is_due ≡ false = search rules in
-    behind-waits c.args.script.now last c.args.probe (frames c.args.self.now.play.board.history) named one c.args.self.now.answers.items could at
+    behind-waits c.args.script.now last c.args.probe (frames c.args.self.now.screen.board.history) named one c.args.self.now.answers.items could at
     (sym due ∙ waits) has
 
 pub returns-in_ok-answer-in-Some-clause-goes : goal.returns-in_ok-answer-in-Some-clause-goes

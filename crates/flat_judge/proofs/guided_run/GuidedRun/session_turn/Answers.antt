@@ -1,6 +1,5 @@
-use Rattle.std.proofs.Common.{◌≡◌, ◌+◌, ℕ, false, Some, slice_get, refl, sym, ◌∙◌, arith}
+use Rattle.std.proofs.Common.{◌≡◌, ◌+◌, false, Some, slice_get, refl, sym, ◌∙◌, arith}
 use Rattle.std.proofs.lemmas.Option.{slice_get-get_or}
-use Rattle.flat_judge.specs.declared.seat.Seat.{Seat}
 use Rattle.flat_play.proofs.lemmas.Starting.{is_numbered}
 use Rattle.flat_judge.proofs.RunSteps.{goes_on, seat_open, seat_sits, session_goes}
 use Rattle.flat_judge.proofs.guided_run.GuidedRun.session_turn.Goals as goal
@@ -17,7 +16,7 @@ turn-requires-clause-sits c =
     let at : slice_get guided.seats.items c.args.k ≡ Some seat =
     slice_get-get_or guided.seats.items c.args.k seat c.requires.within ∙ (let found = sym c.index_mut-seat.ensures.value in λ i. Some (found i)) in
     let unended : seat.has_ended ≡ false = c.requires.open seat at in
-    seat_open c.args.script.now (record { 0 = c.args.k + 1 }) guided.play.board.history seat unended
+    seat_open c.args.script.now (record { 0 = c.args.k + 1 }) guided.screen.board.history seat unended
     (seat_sits c.args.script.now guided c.args.k seat c.requires.stands c.requires.within c.index_mut-seat.ensures.value)
 
 pub returns-clause-stands : goal.returns-clause-stands

@@ -1,4 +1,4 @@
-use Rattle.std.proofs.Common.{◌≡◌, ◌+◌, ℕ, true, Some, None, refl, sym, ap, ◌∙◌, subst, arith}
+use Rattle.std.proofs.Common.{◌≡◌, true, refl, sym, ap, ◌∙◌, subst, arith}
 use Rattle.std.specs.Option.{option_copied}
 use Rattle.flat_base.specs.declared.ids.Actor.TheVariants.{Session}
 use Rattle.flat_base.specs.declared.ids.SessionNo.{SessionNo}
@@ -10,7 +10,7 @@ use Rattle.flat_play.proofs.lemmas.Places.{here}
 use Rattle.flat_play.proofs.lemmas.Readers.{reader_owns}
 use Rattle.flat_play.proofs.lemmas.Starting.{few}
 use Rattle.flat_play.proofs.lemmas.Steps.{at_place}
-use Rattle.flat_judge.specs.GuidedRuns.{Goes, own_text}
+use Rattle.flat_judge.specs.GuidedRuns.{Goes}
 use Rattle.flat_judge.proofs.Seats.{IsOwn, goes_by, number_low, other_is, own_at, own_is, passed, read_grows, read_on, share}
 use Rattle.flat_judge.proofs.seat.Seat.step.Goals as goal
 
