@@ -51,7 +51,7 @@ module _ (script : Script) (view : StageView) (place : ℕ) (x : ScriptLine) (at
         middle = h.middle;
         grown = h.grown;
         beside = h.beside;
-        stood = display_same script place (history_of seat.seen) h.middle h.beside stands.display;
+        stood = display_same script (history_of seat.seen) h.middle h.beside place stands.display;
       }
 
   lines_left : x.actor ≡ Display → lines_by 0 (drop place script.lines) ≡ lines_by 0 (drop (place + 1) script.lines) + 1

@@ -1,12 +1,9 @@
 pub mod DirectSteps
-pub mod FilmSteps
 pub mod Finishing
-pub mod HandSteps
-pub mod LinesAlone
-pub mod Held
-pub mod Joined
+pub mod LineSteps
+pub mod LinesBeside
+pub mod Looks
 pub mod lemmas
-pub mod Points
 pub mod ProbeLines
 pub mod ReadLines
 pub mod SessionSteps

@@ -9,9 +9,9 @@ use crate::gate::Gate;
 use crate::lent::Lent;
 use flat_base::{FrameNo, NoMemory};
 use flat_display::DisplaySet;
-use flat_play::{Kept, LastFrame};
+use flat_play::FrameStore;
 use flat_publish::Published;
-use flat_report::{HitAnswers, ProbeAnswers};
+use flat_report::ProbeAnswers;
 use flat_scene::Reply;
 use std::sync::Wait;
 
@@ -21,12 +21,8 @@ pub(crate) const DISPLAY: u32 = 0;
 /// What is kept of a race's frames.
 #[derive(Drop)]
 pub struct Film {
-    /// What is kept of the finished frames.
-    pub kept: Kept,
-    /// The last finished frame.
-    pub last: LastFrame,
-    /// The answers to the points that were asked for.
-    pub answers: HitAnswers,
+    /// The finished frames, and the points that were asked for.
+    pub store: FrameStore,
     /// Which displays were lost.
     pub set: DisplaySet,
     /// What each probe was answered, once all of them have come back.
@@ -42,22 +38,28 @@ fn publish_last<R: Wait, G: Gate>(
     published: &mut Published,
 ) -> Result<(), NoMemory>
     requires setup { is_setup lent.now.script.now.setup ≡ true }
-    requires last { IsLast lent.now.script.now.setup film.old.last }
+    requires last { IsLast lent.now.script.now.setup film.old.store.last }
     requires given { published.old.given ≤ before.0 }
-    ensures stays { OnOk result (StaysLast lent.now.script.now.setup film.old.last film.new.last) }
-    ensures others { film.new ≡ record film.old { last = film.new.last } }
+    ensures stays { OnOk result (StaysLast lent.now.script.now.setup film.old.store.last film.new.store.last) }
+    ensures others { film.new ≡ record film.old {
+      store = record film.old.store
+          { last = film.new.store.last };
+    } }
     ensures home { published.new.home ≡ published.old.home }
-    ensures publishes { OnOk result (PublishesLast lent.now.script.now.setup before.0 film.old.last
+    ensures publishes { OnOk result (PublishesLast lent.now.script.now.setup before.0 film.old.store.last
         published.old published.new) }
 {
     if lent.script.setup.probes == 0 {
         return Ok(());
     }
-    if film.last.frame.0 <= before.0 {
+    if film.store.last.frame.0 <= before.0 {
         return Ok(());
     }
-    let joined = film.last.share_joined(lent.alloc, &lent.script.setup)?;
-    published.publish(lent.rt, film.last.frame, joined)?;
+    let joined = film
+        .store
+        .last
+        .share_joined(lent.alloc, &lent.script.setup)?;
+    published.publish(lent.rt, film.store.last.frame, joined)?;
     Ok(())
 }
 
@@ -72,15 +74,18 @@ pub(crate) fn end_line<R: Wait, G: Gate>(
 ) -> Result<(), NoMemory>
     requires place { place < length lent.now.script.now.lines }
     requires setup { is_setup lent.now.script.now.setup ≡ true }
-    requires last { IsLast lent.now.script.now.setup film.old.last }
+    requires last { IsLast lent.now.script.now.setup film.old.store.last }
     requires given { published.old.given ≤ before.0 }
-    ensures stays { OnOk result (StaysLast lent.now.script.now.setup film.old.last film.new.last) }
-    ensures others { film.new ≡ record film.old { last = film.new.last } }
+    ensures stays { OnOk result (StaysLast lent.now.script.now.setup film.old.store.last film.new.store.last) }
+    ensures others { film.new ≡ record film.old {
+      store = record film.old.store
+          { last = film.new.store.last };
+    } }
     ensures home { published.new.home ≡ published.old.home }
-    ensures publishes { OnOk result (PublishesLast lent.now.script.now.setup before.0 film.old.last
+    ensures publishes { OnOk result (PublishesLast lent.now.script.now.setup before.0 film.old.store.last
         published.old published.new) }
 {
-    let is_later = before.0 < film.last.frame.0;
+    let is_later = before.0 < film.store.last.frame.0;
     let sent = publish_last(lent, film, before, published);
     if is_later {
         lent.gate

@@ -1,8 +1,7 @@
 //! The actors of a race, each of which goes through its own lines on its own seat, whatever
 //! the others do: session.rt is a session, probe.rt a probe and director.rt the compositor.
-//! The compositor holds its seat or an open frame (hand.rt), pauses before a line as a Wait
-//! does (pausing.rt), and keeps what film.rt says of its frames. gate.rt says when actors may
-//! step, and lent.rt what they are lent.
+//! The compositor pauses before a line as a Wait does (pausing.rt), and keeps what film.rt says
+//! of its frames. gate.rt says when actors may step, and lent.rt what they are lent.
 //!
 //! Other crates may cite the lemmas of proofs/lemmas/: what sessions enter changes nothing
 //! of what the display's entries tell (Beside) and of what the compositor stands by
@@ -12,7 +11,6 @@
 mod director;
 mod film;
 mod gate;
-mod hand;
 mod lent;
 mod pausing;
 mod probe;
@@ -21,7 +19,6 @@ mod session;
 pub use director::direct;
 pub use film::Film;
 pub use gate::{ASKS, Gate, LOOKS, OpenGate};
-pub use hand::Hand;
 pub use lent::Lent;
 pub use probe::{Asking, ProbeBack, run_probe};
 pub use session::{SessionBack, both, run_session};

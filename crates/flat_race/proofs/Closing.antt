@@ -30,7 +30,7 @@ use Rattle.flat_actors.specs.Directing.{SeatStands}
 use Rattle.flat_play.specs.Beginning.{AreBegun}
 use Rattle.flat_report.specs.Probes.{ProbesAnswered}
 use Rattle.flat_actors.proofs.lemmas.Beside.{IsBeside, seen_beside}
-use Rattle.flat_actors.proofs.lemmas.StillStands.{display_same, film_same}
+use Rattle.flat_actors.proofs.lemmas.StillStands.{display_same, stored_same}
 use Rattle.flat_race.proofs.Probed.{answered-on-all}
 use Rattle.flat_base.proofs.lemmas.Tests.{and-true}
 
@@ -107,7 +107,7 @@ module _ (script : Script) (view : StageView) (place : ℕ) (compositor : Displa
         legal = legal;
         sessions = all_to (λ s. Follows script.setup script.count (session_lines s script.lines) (own s board.history)) script.setup.sessions
             (follows tell keep);
-        display = (display_same script place (history_of compositor.seen) board.history same_display directed.display).follows;
+        display = (display_same script (history_of compositor.seen) board.history same_display place directed.display).follows;
       };
       are = sym same_frames;
     }
@@ -118,10 +118,10 @@ module _ (script : Script) (view : StageView) (compositor : DisplayView) (seats 
   beside : IsBeside script.setup (history_of compositor.seen) board.history
   beside = same_display script view (length script.lines) compositor ended.directed seats true ended.back board closed setup few
 
-  pub has_played : SeatsTellActors → JournalsKeepSeats → HasPlayed script board film.kept film.answers
+  pub has_played : SeatsTellActors → JournalsKeepSeats → HasPlayed script board film.store.kept film.store.answers
   has_played tell keep =
-      let stood = display_same script (length script.lines) (history_of compositor.seen) board.history beside ended.directed.display in
-      let shot = film_same script (history_of compositor.seen) board.history beside film ended.kept in
+      let stood = display_same script (history_of compositor.seen) board.history beside (length script.lines) ended.directed.display in
+      let shot = stored_same script (history_of compositor.seen) board.history beside film.store ended.kept in
       record {
         setup = setup;
         interleaves = record {
@@ -131,7 +131,7 @@ module _ (script : Script) (view : StageView) (compositor : DisplayView) (seats 
           all_read = stood.left ∙ ap display_lines (drop_all script.lines);
         };
         keeps = shot.keeps;
-        answering = shot.answering.answering;
+        answering = shot.points;
       }
 
   pub as_many : frames board.history ≡ frames (history_of compositor.seen)

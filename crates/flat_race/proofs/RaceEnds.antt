@@ -15,33 +15,32 @@ use Rattle.flat_display.specs.Had.{AreKept}
 use Rattle.flat_play.specs.Beginning.{AreBegun}
 use Rattle.flat_play.proofs.lemmas.Begun.{none-begun}
 use Rattle.flat_play.proofs.lemmas.Seen.{kept_none}
-use Rattle.flat_actors.specs.Directing.{hand_seat}
 use Rattle.flat_race.specs.Ends.{HaveEnded, IsStopped}
 
 module _ (r : Result Ended (Option Stopped)) (e : Ended) (is : r ≡ Ok e) where
-  pub ok_ended : (view : StageView) (script : Script) → IfOk r (λ e. HaveEnded view script e.compositor e.seats e.film)
-      → HaveEnded view script e.compositor e.seats e.film
+  pub ok_ended : (view : StageView) (script : Script) → IfOk r (λ e. HaveEnded view script e.compositor.display e.seats e.film)
+      → HaveEnded view script e.compositor.display e.seats e.film
   ok_ended view script holds = let P : Result Ended (Option Stopped) → Type 0 =
-      λ r. IfOk r (λ e. HaveEnded view script e.compositor e.seats e.film) in subst P is holds
+      λ r. IfOk r (λ e. HaveEnded view script e.compositor.display e.seats e.film) in subst P is holds
 
   pub ok_seen : {D : Type 0} (told : D → Option (List FrameOut)) (count : D → ℕ) (setup : Setup) (olds news : List D)
-      → IfOk r (λ e. HaveSeen told count (finished setup (history_of e.compositor.seen)) (history_of e.compositor.seen) e.film.set.lost olds news)
-      → HaveSeen told count (finished setup (history_of e.compositor.seen)) (history_of e.compositor.seen) e.film.set.lost olds news
+      → IfOk r (λ e. HaveSeen told count (finished setup (history_of e.compositor.display.seen)) (history_of e.compositor.display.seen) e.film.set.lost olds news)
+      → HaveSeen told count (finished setup (history_of e.compositor.display.seen)) (history_of e.compositor.display.seen) e.film.set.lost olds news
   ok_seen told count setup olds news holds = let P : Result Ended (Option Stopped) → Type 0 =
-      λ r. IfOk r (λ e. HaveSeen told count (finished setup (history_of e.compositor.seen)) (history_of e.compositor.seen) e.film.set.lost olds news) in
+      λ r. IfOk r (λ e. HaveSeen told count (finished setup (history_of e.compositor.display.seen)) (history_of e.compositor.display.seen) e.film.set.lost olds news) in
       subst P is holds
 
-  pub ok_kept : (keeping : Keeping) → IfOk r (λ e. keeping_of e.film.kept ≡ keeping) → keeping_of e.film.kept ≡ keeping
-  ok_kept keeping holds = let P : Result Ended (Option Stopped) → Type 0 = λ r. IfOk r (λ e. keeping_of e.film.kept ≡ keeping) in subst P is holds
+  pub ok_kept : (keeping : Keeping) → IfOk r (λ e. keeping_of e.film.store.kept ≡ keeping) → keeping_of e.film.store.kept ≡ keeping
+  ok_kept keeping holds = let P : Result Ended (Option Stopped) → Type 0 = λ r. IfOk r (λ e. keeping_of e.film.store.kept ≡ keeping) in subst P is holds
 
 -- What is known where an actor found no memory.
 module _ {D K : Type 0} (told : D → Option (List FrameOut)) (count : D → ℕ) (kind : D → K) (view : StageView) (script : Script) (olds news : List D) where
   kept_where : (why : Option Stopped) → IsStopped told count view script olds news why → map kind news ≡ map kind olds
-      → ((one : Stopped) → why ≡ Some one → AreBegun script (finished script.setup (history_of (hand_seat one.hand).seen)))
+      → ((one : Stopped) → why ≡ Some one → AreBegun script (finished script.setup (history_of one.compositor.display.seen)))
       → AreKept told count (AreBegun script) olds news kind
   kept_where (Some stopped) stops kinds begun = record {
     kinds = kinds;
-    some = (stops.stopped.lost, finished script.setup (history_of (hand_seat stopped.hand).seen), begun stopped refl, stops.stopped.driven);
+    some = (stops.stopped.lost, finished script.setup (history_of stopped.compositor.display.seen), begun stopped refl, stops.stopped.driven);
   }
   kept_where None same kinds begun =
       let K : List D → Type 0 = λ ds. AreKept told count (AreBegun script) olds ds kind in
@@ -49,7 +48,7 @@ module _ {D K : Type 0} (told : D → Option (List FrameOut)) (count : D → ℕ
 
   pub kept_stopped : (r : Result Ended (Option Stopped)) → IfErr r (λ stopped. IsStopped told count view script olds news stopped) → (why : Option Stopped)
       → r ≡ Err why → map kind news ≡ map kind olds → ((one : Stopped) → why ≡ Some one
-      → AreBegun script (finished script.setup (history_of (hand_seat one.hand).seen)))
+      → AreBegun script (finished script.setup (history_of one.compositor.display.seen)))
       → AreKept told count (AreBegun script) olds news kind
   kept_stopped r holds why is kinds begun =
       let P : Result Ended (Option Stopped) → Type 0 = λ r. IfErr r (λ stopped. IsStopped told count view script olds news stopped) in

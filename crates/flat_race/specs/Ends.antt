@@ -8,8 +8,9 @@ use Rattle.flat_stage.specs.Homes.{SeatsView}
 use Rattle.flat_stage.specs.Seats.{StageView}
 use Rattle.flat_actors.specs.declared.film.Film.{Film}
 use Rattle.flat_report.specs.Probes.{ProbesAnswered}
-use Rattle.flat_actors.specs.declared.hand.Hand.{Hand}
-use Rattle.flat_actors.specs.Directing.{HasStopped, SeatStands, FilmStands, hand_seat}
+use Rattle.flat_actors.specs.Directing.{HasStopped, SeatStands, FilmStands}
+use Rattle.flat_race.specs.declared.running.Halt.{Halt}
+use Rattle.flat_race.specs.declared.running.Halt.TheVariants.{Early, Late}
 use Rattle.flat_race.specs.declared.running.Stopped.{Stopped}
 use Rattle.flat_race.specs.SessionThreads.{AreBack}
 
@@ -39,12 +40,12 @@ module _ {D : Type 0} (told : D → Option (List FrameOut)) (count : D → ℕ) 
     pub rest : AreAtRest view script compositor seats
     pub stopped : HasStopped told count script view compositor olds news
 
-  -- Where the compositor holds something, all actors stopped so; else nothing was shown.
-  abbrev pub StopsWith : SeatsView → Option Hand → Type 0
-  StopsWith seats None = news ≡ olds
-  StopsWith seats (Some hand) = HaveStopped (hand_seat hand) seats
+  -- Once the compositor had begun, all actors stopped so; before that, nothing was shown.
+  abbrev pub StopsAt : DisplayView → SeatsView → Halt → Type 0
+  StopsAt compositor seats Early = news ≡ olds
+  StopsAt compositor seats Late = HaveStopped compositor seats
 
   -- the same of what they leave
   abbrev pub IsStopped : Option Stopped → Type 0
   IsStopped None = news ≡ olds
-  IsStopped (Some stopped) = HaveStopped (hand_seat stopped.hand) stopped.seats
+  IsStopped (Some stopped) = HaveStopped stopped.compositor.display stopped.seats

@@ -1,36 +1,32 @@
 //! A race. Each seat knows its own part of the history, and what others did only to the
 //! point that it has seen; the whole is known when all seats are home (`close`).
-ghost use Rattle.std.specs.Prelude.{◌≡◌, ◌<◌, ◌^◌, ℕ, [], true, length, reverse, slice_get, Some, IfOk};
-ghost use Rattle.std.specs.List.{list_all};
-ghost use Rattle.std.specs.Option.{is_some};
+ghost use Rattle.std.specs.Prelude.{◌≡◌, ◌<◌, ◌^◌, [], true, length, Some, IfOk};
 ghost use Rattle.flat_playable.specs.Playable.{is_playable};
 ghost use Rattle.flat_display.specs.Had.{AreKept};
 ghost use Rattle.flat_scene.specs.Journals.{history_of};
-ghost use Rattle.flat_lock.specs.History.{StartsWith};
-ghost use Rattle.flat_rules.specs.Legal.{frames, Legal};
+ghost use Rattle.flat_rules.specs.Legal.{frames};
+ghost use Rattle.flat_stage.specs.Displays.{IsNewCompositor};
 ghost use Rattle.flat_stage.specs.Homes.{AreFresh};
-ghost use Rattle.flat_stage.specs.Seats.{SessionView, entries_of_seat, setup_of};
 ghost use Rattle.flat_report.specs.Report.{finished};
 ghost use Rattle.flat_play.specs.Beginning.{AreBegun};
 ghost use Rattle.flat_play.specs.Keeping.{keeping_of};
 ghost use Rattle.flat_play.specs.Playing.{HasPlayed};
 ghost use Rattle.flat_play.specs.Showing.{HaveSeen};
-ghost use Rattle.flat_actors.specs.Directing.{FilmStands, hand_seat};
+ghost use Rattle.flat_actors.specs.Directing.{FilmStands};
 ghost use Rattle.flat_race.specs.declared.running.Stopped.{Stopped};
 ghost use Rattle.flat_race.specs.Ends.{AreAtRest, HaveEnded};
 ghost use Rattle.flat_report.specs.Probes.{ProbesAnswered};
 ghost use Rattle.flat_actors.specs.Sessions.{IsStageOf};
 
 use crate::running::{Ended, Raced, Stopped, on_threads};
-use flat_actors::{Film, Gate, Hand};
+use flat_actors::{Film, Gate};
 use flat_base::NoMemory;
 use flat_core::Board;
 use flat_display::{Display, DisplaySet};
 use flat_places::Script;
-use flat_play::{Keeping, Kept, LastFrame, Played, let_go, open_board};
-use flat_report::HitAnswers;
+use flat_play::{FrameStore, Keeping, Played, let_go, open_board};
 use flat_rules::{journals_keep_seats, seats_tell_actors};
-use flat_stage::{CompositorSeat, SessionSeats, Stage};
+use flat_stage::{Compositor, SessionSeats, Stage};
 use std::alloc::Global;
 use std::mem;
 use std::sync::Wait;
@@ -47,27 +43,22 @@ fn new_film(
     ensures stands { IfOk result (λ film. FilmStands script.now [] film) }
     ensures none { IfOk result (λ film. film.set.lost ≡ []) }
     ensures number { IfOk result (λ film. film.set.displays ≡ displays) }
-    ensures keeping { IfOk result (λ film. keeping_of film.kept ≡ keeping) }
+    ensures keeping { IfOk result (λ film. keeping_of film.store.kept ≡ keeping) }
 {
     let set = DisplaySet::new(alloc, displays)?;
-    let last = LastFrame::none(alloc, &script.setup)?;
+    let store = FrameStore::new(alloc, script, keeping)?;
     Ok(Film {
-        kept: Kept::new(alloc, keeping),
-        last,
-        answers: HitAnswers::new(alloc),
+        store,
         set,
         probes: Vec::new(alloc),
     })
 }
 
 /// A stage for a script: a board before any entry, with room for all its lines.
-fn new_stage(
-    alloc: Global,
-    script: &Script,
-) -> Result<(Stage, CompositorSeat, SessionSeats), NoMemory>
+fn new_stage(alloc: Global, script: &Script) -> Result<(Stage, Compositor, SessionSeats), NoMemory>
     requires playable { is_playable script.now ≡ true }
     ensures of { IfOk result (λ r. IsStageOf r.0 script.now) }
-    ensures compositor { IfOk result (λ r. r.1 ≡ record { stage = r.0; seen = []; mine = [] }) }
+    ensures compositor { IfOk result (λ r. IsNewCompositor r.0 r.1) }
     ensures own { IfOk result (λ r. r.2.stage ≡ r.0) }
     ensures sessions { IfOk result (λ r. AreFresh r.0 script.now.setup.sessions r.2.seats) }
 {
@@ -79,16 +70,16 @@ fn new_stage(
 fn close(stage: Stage, script: &Script, ended: Ended) -> Played
     requires playable { is_playable script.now ≡ true }
     requires of { IsStageOf stage script.now }
-    requires ended { HaveEnded stage script.now ended.compositor ended.seats ended.film }
+    requires ended { HaveEnded stage script.now ended.compositor.display ended.seats ended.film }
     ensures played { HasPlayed script.now result.board result.kept result.answers }
     ensures frames { finished script.now.setup result.board.history
-        ≡ finished script.now.setup (history_of ended.compositor.seen) }
-    ensures kept { result.kept ≡ ended.film.kept }
+        ≡ finished script.now.setup (history_of ended.compositor.display.seen) }
+    ensures kept { result.kept ≡ ended.film.store.kept }
     ensures set { result.set ≡ ended.film.set }
-    ensures as_many { frames result.board.history ≡ frames (history_of ended.compositor.seen) }
+    ensures as_many { frames result.board.history ≡ frames (history_of ended.compositor.display.seen) }
     ensures probes { ProbesAnswered script.now result.board.history result.probes.items }
     ensures begun { AreBegun script.now (finished script.now.setup
-        (history_of ended.compositor.seen)) }
+        (history_of ended.compositor.display.seen)) }
 {
     seats_tell_actors();
     journals_keep_seats();
@@ -98,13 +89,12 @@ fn close(stage: Stage, script: &Script, ended: Ended) -> Played
         film,
     } = ended;
     let board = stage.close(compositor, seats);
-    let Film {
+    let Film { store, set, probes } = film;
+    let FrameStore {
         kept,
         last: _,
         answers,
-        set,
-        probes,
-    } = film;
+    } = store;
     Played {
         board,
         kept,
@@ -114,41 +104,22 @@ fn close(stage: Stage, script: &Script, ended: Ended) -> Played
     }
 }
 
-/// The board of a stage whose compositor holds its seat or an open frame.
-fn close_with(stage: Stage, hand: Hand, seats: SessionSeats) -> Board
-    requires compositor { (hand_seat hand).stage ≡ stage }
-    requires sessions { seats.stage ≡ stage }
-    requires home { list_all is_some seats.seats ≡ true }
-    ensures compositor { StartsWith (reverse result.history) (hand_seat hand).seen
-        × ((hand_seat hand).mine ≡ entries_of_seat 0 (reverse result.history)) }
-    ensures sessions { (k : ℕ) (s : SessionView) → slice_get seats.seats k ≡ Some (Some s) →
-        StartsWith (reverse result.history) s.seen
-        × (s.mine ≡ entries_of_seat s.session.0 (reverse result.history)) }
-    ensures fixed { result.setup ≡ setup_of stage }
-    ensures legal { Legal result.setup result.history }
-{
-    match hand {
-        Hand::Idle(seat) => stage.close(seat, seats),
-        Hand::Open(frame) => stage.close_in_frame(frame, seats),
-    }
-}
-
 /// Ends a race in which an actor found no memory. What was done by then begins the script.
 fn close_stopped(stage: Stage, script: &Script, stopped: Option<Stopped>)
     requires playable { is_playable script.now ≡ true }
     requires of { IsStageOf stage script.now }
     requires rest { (one : Stopped) → stopped ≡ Some one →
-        AreAtRest stage script.now (hand_seat one.hand) one.seats }
+        AreAtRest stage script.now one.compositor.display one.seats }
     ensures { (one : Stopped) → stopped ≡ Some one → AreBegun script.now
-        (finished script.now.setup (history_of (hand_seat one.hand).seen)) }
+        (finished script.now.setup (history_of one.compositor.display.seen)) }
 {
     seats_tell_actors();
     journals_keep_seats();
-    let Some(Stopped { hand, seats }) = stopped else {
+    let Some(Stopped { compositor, seats }) = stopped else {
         return;
     };
     // proof: what each actor did is known of a stage that is closed.
-    let_go(close_with(stage, hand, seats));
+    let_go(stage.close(compositor, seats));
 }
 
 /// Runs a race on a stage before any entry, and hands out what it leaves.
@@ -158,14 +129,14 @@ fn race_on<T: Threads + Wait + Sync, G: Gate>(
     stage: Stage,
     script: &Script,
     gate: &G,
-    compositor: CompositorSeat,
+    compositor: Compositor,
     seats: SessionSeats,
     film: Film,
     displays: &mut Vec<Box<dyn Display>>,
 ) -> Result<Played, NoMemory>
     requires playable { is_playable script.now ≡ true }
     requires of { IsStageOf stage script.now }
-    requires compositor { compositor ≡ record { stage = stage; seen = []; mine = [] } }
+    requires compositor { IsNewCompositor stage compositor }
     requires own { seats.stage ≡ stage }
     requires sessions { AreFresh stage script.now.setup.sessions seats.seats }
     requires film { FilmStands script.now [] film }
@@ -176,7 +147,7 @@ fn race_on<T: Threads + Wait + Sync, G: Gate>(
         played.answers) }
     ensures probes { IfOk result (λ played. ProbesAnswered script.now played.board.history
         played.probes.items) }
-    ensures keeping { IfOk result (λ played. keeping_of played.kept ≡ keeping_of film.kept) }
+    ensures keeping { IfOk result (λ played. keeping_of played.kept ≡ keeping_of film.store.kept) }
     ensures seen { IfOk result (λ played. HaveSeen (λ d. shown d) (λ d. faults d)
         (finished script.now.setup played.board.history) played.board.history played.set.lost
         displays.old.items displays.new.items) }

@@ -3,22 +3,23 @@
 ghost use Rattle.std.specs.Prelude.{◌≡◌, ◌<◌, ◌^◌, [], true, length, map, replicate, Some, IfErr, IfOk, OnOk};
 ghost use Rattle.flat_playable.specs.Playable.{is_playable};
 ghost use Rattle.flat_scene.specs.Journals.{history_of};
+ghost use Rattle.flat_stage.specs.Displays.{IsNewCompositor};
 ghost use Rattle.flat_stage.specs.Homes.{AreFresh};
 ghost use Rattle.flat_report.specs.Report.{finished};
 ghost use Rattle.flat_publish.specs.State.{newcomer};
 ghost use Rattle.flat_play.specs.Keeping.{keeping_of};
 ghost use Rattle.flat_play.specs.Showing.{HaveSeen};
 ghost use Rattle.flat_actors.specs.Directing.{FilmStands};
-ghost use Rattle.flat_race.specs.Ends.{HaveEnded, IsStopped, StopsWith};
+ghost use Rattle.flat_race.specs.Ends.{HaveEnded, IsStopped, StopsAt};
 ghost use Rattle.flat_actors.specs.Sessions.{IsStageOf};
 
 use crate::probe_threads::{meet_each, start_probes};
 use crate::threads::{COMPOSITOR, put_back, start_each};
-use flat_actors::{Film, Gate, Hand, Lent, direct};
+use flat_actors::{Film, Gate, Lent, direct};
 use flat_display::Display;
 use flat_places::Script;
 use flat_publish::{ProbeSeats, Published};
-use flat_stage::{CompositorSeat, SessionSeats, Stage};
+use flat_stage::{Compositor, SessionSeats, Stage};
 use flat_waits::Waits;
 use std::alloc::Global;
 use std::sync::Wait;
@@ -28,7 +29,7 @@ use std::thread::{Scope, Threads};
 /// What all actors leave, where each came to its end.
 #[derive(Drop)]
 pub(crate) struct Ended {
-    pub(crate) compositor: CompositorSeat,
+    pub(crate) compositor: Compositor,
     pub(crate) seats: SessionSeats,
     pub(crate) film: Film,
 }
@@ -36,8 +37,18 @@ pub(crate) struct Ended {
 /// What they leave where one of them found no memory.
 #[derive(Drop)]
 pub(crate) struct Stopped {
-    pub(crate) hand: Hand,
+    pub(crate) compositor: Compositor,
     pub(crate) seats: SessionSeats,
+}
+
+/// When a race found no memory, and ends before its script does.
+#[derive(Clone, Copy)]
+pub(crate) enum Halt {
+    /// Before the compositor began. Seats of sessions may be away, and no display was shown
+    /// anything.
+    Early,
+    /// Once it had begun. All seats are back.
+    Late,
 }
 
 /// The displays that come back from a race, and what its actors leave. Where not even the
@@ -49,20 +60,20 @@ pub(crate) struct Raced {
 }
 
 /// Runs the sessions and the probes beside the compositor, and puts the seats of all
-/// sessions back. Out of memory, what the compositor holds comes back, if it began.
+/// sessions back.
 fn run_beside<'s, E, T: Threads + Wait + Sync, G: Gate>(
     scope: &Scope<'s, E>,
     lent: &Lent<'s, T, G>,
-    compositor: CompositorSeat,
+    compositor: &mut Compositor,
     seats: &mut SessionSeats,
     film: &mut Film,
     displays: &mut Vec<Box<dyn Display>>,
     published: &mut Published,
     probes: &mut ProbeSeats,
-) -> Result<CompositorSeat, Option<Hand>>
+) -> Result<(), Halt>
     requires playable { is_playable lent.now.script.now ≡ true }
     requires of { IsStageOf lent.now.stage.now lent.now.script.now }
-    requires compositor { compositor ≡ record { stage = lent.now.stage.now; seen = []; mine = [] } }
+    requires compositor { IsNewCompositor lent.now.stage.now compositor.old }
     requires own { seats.old.stage ≡ lent.now.stage.now }
     requires sessions { AreFresh lent.now.stage.now lent.now.script.now.setup.sessions
         seats.old.seats }
@@ -74,54 +85,51 @@ fn run_beside<'s, E, T: Threads + Wait + Sync, G: Gate>(
         ≡ record { home = published.old.home; frames = []; refused = []; given = 0 } }
     requires probes { probes.old ≡ replicate lent.now.script.now.setup.probes
         (Some (newcomer published.old.home)) }
-    ensures ended { IfOk result (λ compositor. HaveEnded lent.now.stage.now lent.now.script.now
-        compositor seats.new film.new) }
-    ensures seen { IfOk result (λ compositor. HaveSeen (λ d. shown d) (λ d. faults d)
-        (finished lent.now.script.now.setup (history_of compositor.seen))
-        (history_of compositor.seen) film.new.set.lost displays.old.items displays.new.items) }
-    ensures keeping { OnOk result (keeping_of film.new.kept ≡ keeping_of film.old.kept) }
-    ensures stopped { IfErr result (λ hand. StopsWith (λ d. shown d) (λ d. faults d)
-        lent.now.stage.now lent.now.script.now displays.old.items displays.new.items seats.new
-        hand) }
+    ensures ended { OnOk result (HaveEnded lent.now.stage.now lent.now.script.now
+        compositor.new.display seats.new film.new) }
+    ensures seen { OnOk result (HaveSeen (λ d. shown d) (λ d. faults d)
+        (finished lent.now.script.now.setup (history_of compositor.new.display.seen))
+        (history_of compositor.new.display.seen) film.new.set.lost displays.old.items
+        displays.new.items) }
+    ensures keeping { OnOk result (keeping_of film.new.store.kept
+        ≡ keeping_of film.old.store.kept) }
+    ensures stopped { IfErr result (StopsAt (λ d. shown d) (λ d. faults d)
+        lent.now.stage.now lent.now.script.now displays.old.items displays.new.items
+        compositor.new.display seats.new) }
     ensures kinds { map (λ d. d.vtable) displays.new.items
         ≡ map (λ d. d.vtable) displays.old.items }
 {
     let Ok(out) = start_each(scope, lent, seats) else {
-        drop(compositor);
-        return Err(None);
+        return Err(Halt::Early);
     };
     let Ok(asked) = start_probes(scope, lent, published, probes) else {
         lent.waits.end_frames();
         drop(out);
-        drop(compositor);
-        return Err(None);
+        return Err(Halt::Early);
     };
     let directed = direct(lent, compositor, film, displays, published);
     lent.waits.end_frames();
     let are_whole = put_back(lent, seats, out);
-    let compositor = match directed {
-        Ok(compositor) => compositor,
-        Err(hand) => {
-            drop(asked);
-            return Err(Some(hand));
-        }
+    let Ok(()) = directed else {
+        drop(asked);
+        return Err(Halt::Late);
     };
     if !are_whole {
         drop(asked);
-        return Err(Some(Hand::Idle(compositor)));
+        return Err(Halt::Late);
     }
     let Ok(answers) = meet_each(
         lent.rt,
         lent.alloc,
         lent.script,
         published,
-        &mut film.last,
+        &mut film.store.last,
         asked,
     ) else {
-        return Err(Some(Hand::Idle(compositor)));
+        return Err(Halt::Late);
     };
     film.probes = answers;
-    Ok(compositor)
+    Ok(())
 }
 
 /// Runs all actors, and puts the seats of all sessions back. What is published to the
@@ -129,14 +137,14 @@ fn run_beside<'s, E, T: Threads + Wait + Sync, G: Gate>(
 fn run_all<'s, E, T: Threads + Wait + Sync, G: Gate>(
     scope: &Scope<'s, E>,
     lent: &Lent<'s, T, G>,
-    compositor: CompositorSeat,
+    compositor: &mut Compositor,
     seats: &mut SessionSeats,
     film: &mut Film,
     displays: &mut Vec<Box<dyn Display>>,
-) -> Result<CompositorSeat, Option<Hand>>
+) -> Result<(), Halt>
     requires playable { is_playable lent.now.script.now ≡ true }
     requires of { IsStageOf lent.now.stage.now lent.now.script.now }
-    requires compositor { compositor ≡ record { stage = lent.now.stage.now; seen = []; mine = [] } }
+    requires compositor { IsNewCompositor lent.now.stage.now compositor.old }
     requires own { seats.old.stage ≡ lent.now.stage.now }
     requires sessions { AreFresh lent.now.stage.now lent.now.script.now.setup.sessions
         seats.old.seats }
@@ -144,15 +152,17 @@ fn run_all<'s, E, T: Threads + Wait + Sync, G: Gate>(
     requires none { film.old.set.lost ≡ [] }
     requires number { length displays.old.items ≡ film.old.set.displays }
     requires few { film.old.set.displays < 2 ^ 32 }
-    ensures ended { IfOk result (λ compositor. HaveEnded lent.now.stage.now lent.now.script.now
-        compositor seats.new film.new) }
-    ensures seen { IfOk result (λ compositor. HaveSeen (λ d. shown d) (λ d. faults d)
-        (finished lent.now.script.now.setup (history_of compositor.seen))
-        (history_of compositor.seen) film.new.set.lost displays.old.items displays.new.items) }
-    ensures keeping { OnOk result (keeping_of film.new.kept ≡ keeping_of film.old.kept) }
-    ensures stopped { IfErr result (λ hand. StopsWith (λ d. shown d) (λ d. faults d)
-        lent.now.stage.now lent.now.script.now displays.old.items displays.new.items seats.new
-        hand) }
+    ensures ended { OnOk result (HaveEnded lent.now.stage.now lent.now.script.now
+        compositor.new.display seats.new film.new) }
+    ensures seen { OnOk result (HaveSeen (λ d. shown d) (λ d. faults d)
+        (finished lent.now.script.now.setup (history_of compositor.new.display.seen))
+        (history_of compositor.new.display.seen) film.new.set.lost displays.old.items
+        displays.new.items) }
+    ensures keeping { OnOk result (keeping_of film.new.store.kept
+        ≡ keeping_of film.old.store.kept) }
+    ensures stopped { IfErr result (StopsAt (λ d. shown d) (λ d. faults d)
+        lent.now.stage.now lent.now.script.now displays.old.items displays.new.items
+        compositor.new.display seats.new) }
     ensures kinds { map (λ d. d.vtable) displays.new.items
         ≡ map (λ d. d.vtable) displays.old.items }
 {
@@ -161,8 +171,7 @@ fn run_all<'s, E, T: Threads + Wait + Sync, G: Gate>(
         lent.alloc,
         lent.script.setup.probes,
     ) else {
-        drop(compositor);
-        return Err(None);
+        return Err(Halt::Early);
     };
     let run = run_beside(
         scope,
@@ -182,14 +191,14 @@ fn run_all<'s, E, T: Threads + Wait + Sync, G: Gate>(
 fn run_in<'s, E, T: Threads + Wait + Sync, G: Gate>(
     scope: &Scope<'s, E>,
     lent: &Lent<'s, T, G>,
-    compositor: CompositorSeat,
+    mut compositor: Compositor,
     mut seats: SessionSeats,
     mut film: Film,
     mut displays: Vec<Box<dyn Display>>,
 ) -> Raced
     requires playable { is_playable lent.now.script.now ≡ true }
     requires of { IsStageOf lent.now.stage.now lent.now.script.now }
-    requires compositor { compositor ≡ record { stage = lent.now.stage.now; seen = []; mine = [] } }
+    requires compositor { IsNewCompositor lent.now.stage.now compositor }
     requires own { seats.stage ≡ lent.now.stage.now }
     requires sessions { AreFresh lent.now.stage.now lent.now.script.now.setup.sessions seats.seats }
     requires film { FilmStands lent.now.script.now [] film }
@@ -197,11 +206,11 @@ fn run_in<'s, E, T: Threads + Wait + Sync, G: Gate>(
     requires number { length displays.items ≡ film.set.displays }
     requires few { film.set.displays < 2 ^ 32 }
     ensures ended { IfOk result.ended (λ e. HaveEnded lent.now.stage.now lent.now.script.now
-        e.compositor e.seats e.film) }
+        e.compositor.display e.seats e.film) }
     ensures seen { IfOk result.ended (λ e. HaveSeen (λ d. shown d) (λ d. faults d)
-        (finished lent.now.script.now.setup (history_of e.compositor.seen))
-        (history_of e.compositor.seen) e.film.set.lost displays.items result.displays.items) }
-    ensures keeping { IfOk result.ended (λ e. keeping_of e.film.kept ≡ keeping_of film.kept) }
+        (finished lent.now.script.now.setup (history_of e.compositor.display.seen))
+        (history_of e.compositor.display.seen) e.film.set.lost displays.items result.displays.items) }
+    ensures keeping { IfOk result.ended (λ e. keeping_of e.film.store.kept ≡ keeping_of film.store.kept) }
     ensures stopped { IfErr result.ended (λ stopped. IsStopped (λ d. shown d) (λ d. faults d)
         lent.now.stage.now lent.now.script.now displays.items result.displays.items stopped) }
     ensures kinds { map (λ d. d.vtable) result.displays.items
@@ -210,12 +219,12 @@ fn run_in<'s, E, T: Threads + Wait + Sync, G: Gate>(
     match run_all(
         scope,
         lent,
-        compositor,
+        &mut compositor,
         &mut seats,
         &mut film,
         &mut displays,
     ) {
-        Ok(compositor) => Raced {
+        Ok(()) => Raced {
             displays,
             ended: Ok(Ended {
                 compositor,
@@ -223,14 +232,15 @@ fn run_in<'s, E, T: Threads + Wait + Sync, G: Gate>(
                 film,
             }),
         },
-        Err(Some(hand)) => {
+        Err(Halt::Late) => {
             drop(film);
             Raced {
                 displays,
-                ended: Err(Some(Stopped { hand, seats })),
+                ended: Err(Some(Stopped { compositor, seats })),
             }
         }
-        Err(None) => {
+        Err(Halt::Early) => {
+            drop(compositor);
             drop(seats);
             drop(film);
             Raced {
@@ -248,26 +258,26 @@ pub(crate) fn on_threads<T: Threads + Wait + Sync, G: Gate>(
     stage: &Stage,
     script: &Script,
     gate: &G,
-    compositor: CompositorSeat,
+    compositor: Compositor,
     seats: SessionSeats,
     film: Film,
     displays: Vec<Box<dyn Display>>,
 ) -> Raced
     requires playable { is_playable script.now ≡ true }
     requires of { IsStageOf stage.now script.now }
-    requires compositor { compositor ≡ record { stage = stage.now; seen = []; mine = [] } }
+    requires compositor { IsNewCompositor stage.now compositor }
     requires own { seats.stage ≡ stage.now }
     requires sessions { AreFresh stage.now script.now.setup.sessions seats.seats }
     requires film { FilmStands script.now [] film }
     requires none { film.set.lost ≡ [] }
     requires number { length displays.items ≡ film.set.displays }
     requires few { film.set.displays < 2 ^ 32 }
-    ensures ended { IfOk result.ended (λ e. HaveEnded stage.now script.now e.compositor e.seats
+    ensures ended { IfOk result.ended (λ e. HaveEnded stage.now script.now e.compositor.display e.seats
         e.film) }
     ensures seen { IfOk result.ended (λ e. HaveSeen (λ d. shown d) (λ d. faults d)
-        (finished script.now.setup (history_of e.compositor.seen)) (history_of e.compositor.seen)
+        (finished script.now.setup (history_of e.compositor.display.seen)) (history_of e.compositor.display.seen)
         e.film.set.lost displays.items result.displays.items) }
-    ensures keeping { IfOk result.ended (λ e. keeping_of e.film.kept ≡ keeping_of film.kept) }
+    ensures keeping { IfOk result.ended (λ e. keeping_of e.film.store.kept ≡ keeping_of film.store.kept) }
     ensures stopped { IfErr result.ended (λ stopped. IsStopped (λ d. shown d) (λ d. faults d)
         stage.now script.now displays.items result.displays.items stopped) }
     ensures kinds { map (λ d. d.vtable) result.displays.items
@@ -280,18 +290,18 @@ pub(crate) fn on_threads<T: Threads + Wait + Sync, G: Gate>(
         rt,
         move |scope| -> Raced
             requires { (is_playable script.now ≡ true) × IsStageOf stage.now script.now
-                × (compositor ≡ record { stage = stage.now; seen = []; mine = [] })
+                × IsNewCompositor stage.now compositor
                 × (seats.stage ≡ stage.now)
                 × AreFresh stage.now script.now.setup.sessions seats.seats
                 × FilmStands script.now [] film × (film.set.lost ≡ [])
                 × (length displays.items ≡ film.set.displays) × (film.set.displays < 2 ^ 32) }
             ensures { IfOk result.ended (λ e. HaveEnded stage.entry.now script.entry.now
-                e.compositor e.seats e.film)
+                e.compositor.display e.seats e.film)
                 × IfOk result.ended (λ e. HaveSeen (λ d. shown d) (λ d. faults d)
-                (finished script.entry.now.setup (history_of e.compositor.seen))
-                (history_of e.compositor.seen) e.film.set.lost displays.items
+                (finished script.entry.now.setup (history_of e.compositor.display.seen))
+                (history_of e.compositor.display.seen) e.film.set.lost displays.items
                 result.displays.items)
-                × IfOk result.ended (λ e. keeping_of e.film.kept ≡ keeping_of film.kept)
+                × IfOk result.ended (λ e. keeping_of e.film.store.kept ≡ keeping_of film.store.kept)
                 × IfErr result.ended (λ stopped. IsStopped (λ d. shown d) (λ d. faults d)
                 stage.entry.now script.entry.now displays.items result.displays.items stopped)
                 × (map (λ d. d.vtable) result.displays.items ≡ map (λ d. d.vtable)

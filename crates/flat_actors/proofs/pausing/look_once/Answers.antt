@@ -1,4 +1,4 @@
-use Rattle.flat_actors.proofs.Held.{looked_none, looked_more, may_look, legal_there}
+use Rattle.flat_actors.proofs.Looks.{looked_none, looked_more, may_look, legal_there}
 use Rattle.flat_actors.proofs.pausing.look_once.Goals as goal
 
 pub look-requires-clause-may : goal.look-requires-clause-may

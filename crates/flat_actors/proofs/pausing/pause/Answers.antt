@@ -1,4 +1,4 @@
-use Rattle.flat_actors.proofs.Held.{looked_none}
+use Rattle.flat_actors.proofs.Looks.{looked_none}
 use Rattle.flat_actors.proofs.pausing.pause.Goals as goal
 
 pub look_again-requires-clause-may : goal.look_again-requires-clause-may

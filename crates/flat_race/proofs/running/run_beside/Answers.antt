@@ -1,33 +1,40 @@
-use Rattle.std.proofs.Common.{rules, refl}
+use Rattle.std.proofs.Common.{rules, refl, ap, ◌∙◌}
 use Rattle.flat_scene.specs.Journals.{history_of}
-use Rattle.flat_play.proofs.lemmas.DisplaySteps.{answers_stay}
+use Rattle.flat_base.specs.declared.ids.FrameNo.{FrameNo}
 use Rattle.flat_race.proofs.Probed.{answered-all}
 use Rattle.flat_race.proofs.Settled.{last-published-is}
 use Rattle.flat_race.proofs.running.run_beside.Goals as goal
 
 pub meet_each-requires-clause-is : goal.meet_each-requires-clause-is
-meet_each-requires-clause-is g c = c.in-Ok-directed.ensures.film.answering.is_last
+meet_each-requires-clause-is g c = c.in-Ok-directed.ensures.film.ends.is
 
 pub meet_each-requires-clause-last : goal.meet_each-requires-clause-last
 meet_each-requires-clause-last g c = λ any. (
     let was = c.in-Ok-directed.ensures in
-    last-published-is c.args.lent.now.script.now (history_of c.in-Ok-directed.compositor.seen) c.direct-directed.new.film.last c.direct-directed.new.published
-    was.film.answering.number was.film.answering.showing was.film.answering.scaling (was.published.are any)
+    last-published-is c.args.lent.now.script.now (history_of c.direct-directed.new.compositor.display.seen) c.direct-directed.new.film.store.last
+    c.direct-directed.new.published
+    was.film.ends.number was.film.ends.shows was.film.ends.scales (was.published.are any)
     )
 
 pub returns-clause-ended : goal.returns-clause-ended
 returns-clause-ended g c =
     let was = c.in-Ok-directed.ensures in
     let script = c.args.lent.now.script.now in
-    let history = history_of c.in-Ok-directed.compositor.seen in
+    let history = history_of c.direct-directed.new.compositor.display.seen in
+    let ends = was.film.ends in
+    let stays = c.in-Ok-meet_each.ensures.stays in
     let sent = c.direct-directed.new.published in
     record {
       directed = was.stands;
       kept = record {
         keeps = was.film.keeps;
-        answering =
-            answers_stay script.setup history c.direct-directed.new.film.last c.direct-directed.new.film.answers was.film.answering c.meet_each.new.last
-            c.in-Ok-meet_each.ensures.stays;
+        ends = record {
+          number = ap (λ (f : FrameNo). f.0) stays.frame ∙ ends.number;
+          is = stays.is;
+          shows = stays.reuse ∙ ends.shows;
+          scales = stays.ratio ∙ ends.scales;
+        };
+        points = was.film.points;
       };
       own = search rules;
       back = search rules;

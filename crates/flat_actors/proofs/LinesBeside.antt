@@ -1,4 +1,4 @@
--- Lines of the display that leave frames and points alone.
+-- Lines of the display that begin no frame and end none.
 use Rattle.std.proofs.Common.{◌≡◌, ℕ, ℤ, true, false, List, [], refl, sym, ap, ◌∙◌, subst}
 use Rattle.flat_base.specs.declared.ids.Actor.TheVariants.{Display}
 use Rattle.flat_scene.specs.declared.frames.Hit.{Hit}
@@ -18,23 +18,9 @@ use Rattle.flat_rules.specs.Owned.{is_played_display}
 use Rattle.flat_report.specs.Handed.{answer_to}
 use Rattle.flat_stage.specs.Displays.{DisplaySees, DisplayView, HasDisplayRoom}
 use Rattle.flat_stage.specs.Seats.{StageView, setup_of}
-use Rattle.flat_play.specs.Playing.{is_alone}
-
-pub begins_none : (text : DisplayLine) → is_alone text ≡ true → is_begin (entry_of_display text) ≡ false
-begins_none (display.Begin time) alone = absurd (cc)
-begins_none display.Done alone = absurd (cc)
-begins_none (display.Signal f) alone = refl
-begins_none (display.Wait c) alone = refl
-begins_none (display.Hit x y) alone = absurd (cc)
-begins_none (display.Dpr ratio) alone = refl
-
-pub asks_none : (e : Entry) (n : ℕ) (hits : ℤ → ℤ → List Hit) (text : DisplayLine) → is_alone text ≡ true → answer_to e n hits (entry_of_display text) ≡ []
-asks_none e n hits (display.Begin time) alone = absurd (cc)
-asks_none e n hits display.Done alone = absurd (cc)
-asks_none e n hits (display.Signal f) alone = refl
-asks_none e n hits (display.Wait c) alone = refl
-asks_none e n hits (display.Hit x y) alone = absurd (cc)
-asks_none e n hits (display.Dpr ratio) alone = refl
+use Rattle.flat_core.specs.Starts.{is_beside}
+use Rattle.flat_play.specs.Storing.{AnswersLine}
+use Rattle.flat_play.specs.declared.store.FrameStore.{FrameStore}
 
 -- what the display may wait for
 wait_fits : (setup : Setup) (c : Cond) → is_played_display setup (display.Wait c) ≡ true
@@ -47,14 +33,14 @@ wait_fits setup (asks.Taken n) played = absurd (cc)
 wait_fits setup (asks.Answers n) played = absurd (cc)
 
 -- and what it may enter
-pub alone_fits : (setup : Setup) (text : DisplayLine) → is_alone text ≡ true → is_played_display setup text ≡ true
+pub beside_fits : (setup : Setup) (text : DisplayLine) → is_beside text ≡ true → is_played_display setup text ≡ true
     → (display_may (entry_of_display text) ≡ true) × (names_declared setup (entry_of_display text) ≡ true)
-alone_fits setup (display.Begin time) alone played = absurd (cc)
-alone_fits setup display.Done alone played = absurd (cc)
-alone_fits setup (display.Signal f) alone played = (refl, played)
-alone_fits setup (display.Wait c) alone played = wait_fits setup c played
-alone_fits setup (display.Hit x y) alone played = absurd (cc)
-alone_fits setup (display.Dpr ratio) alone played = (refl, played)
+beside_fits setup (display.Begin time) beside played = absurd (cc)
+beside_fits setup display.Done beside played = absurd (cc)
+beside_fits setup (display.Signal f) beside played = (refl, played)
+beside_fits setup (display.Wait c) beside played = wait_fits setup c played
+beside_fits setup (display.Hit x y) beside played = (refl, refl)
+beside_fits setup (display.Dpr ratio) beside played = (refl, played)
 
 -- where it may enter a wait, it may look
 pub may_wait : (setup : Setup) (text : DisplayLine) (c : Cond) → text ≡ display.Wait c → display_may (entry_of_display text) ≡ true
@@ -73,3 +59,12 @@ pub named_there : (view : StageView) (kind : Kind) (old new : DisplayView) → D
 named_there view kind old new sees own named =
     let N : StageView → Type 0 = λ v. names_declared (setup_of v) kind ≡ true in
     subst N (sym own ∙ sym (ap (λ (d : DisplayView). d.stage) sees.rest)) named
+
+-- the answer to a line leaves what is kept of frames
+pub answers_keep : (setup : Setup) (n : ℕ) (text : DisplayLine) (old new : FrameStore) → AnswersLine setup n text old new → new.kept ≡ old.kept
+answers_keep setup n (display.Begin time) old new answers = ap (λ (s : FrameStore). s.kept) answers
+answers_keep setup n display.Done old new answers = ap (λ (s : FrameStore). s.kept) answers
+answers_keep setup n (display.Signal f) old new answers = ap (λ (s : FrameStore). s.kept) answers
+answers_keep setup n (display.Wait c) old new answers = ap (λ (s : FrameStore). s.kept) answers
+answers_keep setup n (display.Hit x y) old new answers = answers.kept
+answers_keep setup n (display.Dpr ratio) old new answers = ap (λ (s : FrameStore). s.kept) answers
