@@ -1,6 +1,6 @@
 -- A compositor after one more of its entries, or after a look.
 use Rattle.std.specs.Arc.{arc_value}
-use Rattle.std.proofs.Common.{◌≡◌, ℕ, suc, ◌+◌, ◌-◌, ◌<◌, ◌≤◌, ◌==◌, Bool, true, false, cond, not, ◌&&◌, ◌||◌, List}
+use Rattle.std.proofs.Common.{◌≡◌, ℕ, suc, ◌+◌, ◌<◌, ◌≤◌, ◌==◌, Bool, true, false, cond, not, ◌&&◌, ◌||◌, List}
 use Rattle.std.proofs.Common.{[], ◌∷◌, ◌++◌, length, length-append, slice_index, Option, Some, None, append-nil, refl}
 use Rattle.std.proofs.Common.{sym, ap, ◌∙◌, subst, arith}
 use Rattle.std.proofs.lemmas.List.{length-reverse, reverse-append}
@@ -13,7 +13,6 @@ use Rattle.flat_scene.specs.declared.journal.Kind.{Kind}
 use Rattle.flat_scene.specs.declared.journal.Kind.TheVariants.{Begin, Finish}
 use Rattle.flat_scene.specs.declared.journal.Reply.{Reply}
 use Rattle.flat_scene.specs.declared.journal.Reply.TheVariants.{Done}
-use Rattle.flat_scene.specs.declared.frames.SessionSet.{SessionSet}
 use Rattle.flat_topology.specs.Changes.{AreSame}
 use Rattle.flat_topology.specs.Shown.{Shown}
 use Rattle.flat_base.specs.declared.ids.FrameNo.{FrameNo}
@@ -33,11 +32,11 @@ use Rattle.flat_play.specs.Last.{IsLast}
 use Rattle.flat_play.proofs.lemmas.FramesShown.{all-finished, few_frames}
 use Rattle.flat_page.proofs.lemmas.LastItems.{last-more}
 use Rattle.flat_play.proofs.lemmas.Seen.{frames_more}
-use Rattle.flat_stage.specs.Displays.{DisplayEnters, DisplaySees, DisplayView, FrameView}
-use Rattle.flat_core.specs.Views.{AreViewed}
+use Rattle.flat_stage.specs.Displays.{CompositorView, DisplayEnters, DisplaySees, DisplayView, IsNewCompositor}
+use Rattle.flat_core.specs.Starts.{IsStart, StartsFrame}
 use Rattle.flat_stage.specs.Seats.{StageView, entries_of_seat, setup_of, shares_of}
 use Rattle.flat_shell.specs.declared.keeper.Keeper.{Keeper}
-use Rattle.flat_shell.specs.Live.{GoesBefore, HasBegun, HasLast, IsComposed, IsKept, MayBegin, left, next_frame}
+use Rattle.flat_shell.specs.Live.{HasLast, IsComposed, IsKept, MayBegin, MayGoBefore, left, next_frame}
 use Rattle.flat_shell.proofs.Beside.{HasEntered, IsBeside, has_entered, seen_beside}
 
 -- What is kept beside a seat after an entry: nothing changed but its number, the time and the frames.
@@ -171,36 +170,32 @@ beside_then keeper keeper' last seat seat' kept has kind reply enters begins end
     )
 
 -- a frame that begins
-pub begun_then : (keeper keeper' : Keeper) (last : LastFrame) (seat : DisplayView) (frame : FrameView) (time : ℕ) → IsKept false keeper seat
-    → HasLast (setup_of seat.stage) (history_of seat.seen) last
-    → DisplayEnters (length seat.mine + 1) (Begin time) Done seat frame.display → keeper' ≡ record keeper { made = length seat.mine + 1; time = time }
-    → MayBegin time seat
-    → frame.shown ≡ shown_states (setup_of seat.stage) (history_of frame.display.seen)
-    → AreSame frame.changed (shown_states (setup_of seat.stage) (to_begin (history_of seat.seen))) frame.shown
-    → AreViewed (setup_of seat.stage) (history_of frame.display.seen) frame.with_view → IsKept true keeper' frame.display
-    × HasBegun (setup_of frame.display.stage) frame (Some last)
-begun_then keeper keeper' last seat frame time kept has enters is may shows changed viewed =
+pub begun_then : (keeper keeper' : Keeper) (last : LastFrame) (old new : CompositorView) (time : ℕ) → IsKept false keeper old.display
+    → HasLast (setup_of old.display.stage) (history_of old.display.seen) last
+    → IsStart (setup_of old.display.stage) (history_of old.display.seen) old.start
+    → DisplayEnters (length old.display.mine + 1) (Begin time) Done old.display new.display
+    → keeper' ≡ record keeper { made = length old.display.mine + 1; time = time }
+    → MayBegin time old.display
+    → StartsFrame (setup_of old.display.stage) (history_of new.display.seen) old.start new.start → IsKept true keeper' new.display
+    × MayGoBefore (setup_of new.display.stage) new (Some last)
+begun_then keeper keeper' last old new time kept has start enters is may starts =
+    let seat : DisplayView = old.display in
     let h : List Entry = history_of seat.seen in
     let setup : Setup = setup_of seat.stage in
     let two = may.0 in
     let then : Keeper = record keeper { made = length seat.mine + 1; time = time } in
-    let K : Keeper → Type 0 = λ k. IsKept true k frame.display in
-    let S : Setup → Type 0 = λ s. HasBegun s frame (Some last) in
-    let V : List Entry → Type 0 = λ es. AreViewed setup es frame.with_view in
-    let W : Shown → Type 0 = λ states. AreSame frame.changed states frame.shown in
-    let begun = begun_now keeper seat frame.display false kept (Begin time) Done enters refl in
+    let K : Keeper → Type 0 = λ k. IsKept true k new.display in
+    let S : Setup → Type 0 = λ s. MayGoBefore s new (Some last) in
+    let W : Shown → Type 0 = λ states. AreSame new.start.changed states new.start.shown in
     let as_many : frames h ≡ frames h + 0 = omega arith in
     let next : IsNext keeper seat (Begin time) (frames h + 0) keeper.shown then =
     record { stage = refl; setup = refl; share = refl; made = refl; time = refl; frames = kept.frames ∙ as_many; shown = refl } in
-    let more = frames_then keeper seat frame.display false kept (Begin time) Done enters in
-    let was : last.reuse ≡ shown_states setup (to_begin h) = has.showing ∙ ap (shown_states setup) (all-finished h kept.frame) in (
-      subst K (sym is) (next_kept keeper seat frame.display false kept (Begin time) Done enters true then keeper.shown next refl
+    let more = frames_then keeper seat new.display false kept (Begin time) Done enters in
+    let was : last.reuse ≡ old.start.shown = has.showing ∙ ap (shown_states setup) (all-finished h kept.frame) ∙ sym start.shows in (
+      subst K (sym is) (next_kept keeper seat new.display false kept (Begin time) Done enters true then keeper.shown next refl
           (kept.shown ∙ ap last_item (sym (append-nil (finished setup h)))) (omega (arith, two))),
-      subst S (sym (setup_same keeper seat frame.display false kept (Begin time) Done enters)) (record {
-        shown = shows ∙ ap (shown_states setup) (sym begun);
-        views = subst V (sym begun) viewed;
-        before = record { is = has.is; number = has.number ∙ omega (arith, more); same = subst W (sym was) changed };
-      }),
+      subst S (sym (setup_same keeper seat new.display false kept (Begin time) Done enters))
+          (record { is = has.is; number = has.number ∙ omega (arith, more); same = subst W (sym was) starts.changed }),
     )
 
 -- a frame that is done
@@ -292,15 +287,16 @@ module _ (keeper : Keeper) (seat seat' : DisplayView) (kept : IsKept false keepe
 
 -- ---- before any entry
 
-pub opened_live : (view : StageView) (keeper : Keeper) (last : LastFrame) (seat : DisplayView) → seat ≡ record { stage = view; seen = []; mine = [] } → view
+pub opened_live : (view : StageView) (keeper : Keeper) (last : LastFrame) (compositor : CompositorView) → IsNewCompositor view compositor → view
     ≡ arc_value keeper.stage → arc_value keeper.setup ≡ setup_of view
     → is_setup (setup_of view) ≡ true → keeper.share ≡ slice_index (shares_of view) 0 → keeper.share < 4294967296 → keeper.made ≡ 0 → keeper.time ≡ 0
     → keeper.frames.0 ≡ 0 → keeper.shown ≡ None
     → IsLast (setup_of view) last → last.frame.0 ≡ 0 → last.reuse ≡ shown_states (setup_of view) [] → last.ratio ≡ (setup_of view).ratio
-    → IsKept false keeper seat × HasLast (setup_of seat.stage) (history_of seat.seen) last
-opened_live view keeper last seat new own of valid share few made time frames_are shown is number showing scaling =
+    → IsKept false keeper compositor.display × HasLast (setup_of compositor.display.stage) (history_of compositor.display.seen) last
+    × (compositor.is_open ≡ false)
+opened_live view keeper last compositor new own of valid share few made time frames_are shown is number showing scaling =
     let P : DisplayView → Type 0 = λ d. IsKept false keeper d × HasLast (setup_of d.stage) (history_of d.seen) last in
-    subst P (sym new) (
+    let both = subst P (sym new.display) (
       record {
         own = own;
         setup = of;
@@ -318,4 +314,5 @@ opened_live view keeper last seat new own of valid share few made time frames_ar
         shown = shown;
       },
       record { is = is; number = number; showing = showing; scaling = scaling },
-    )
+    ) in
+    (both.0, both.1, new.closed)

@@ -19,12 +19,13 @@ use Rattle.flat_rules.specs.Ends.{to_begin, to_finished}
 use Rattle.flat_rules.specs.Legal.{Legal, asked_of, begin_time, frames, is_frame_open, value_of}
 use Rattle.flat_rules.specs.Owned.{is_played_display}
 use Rattle.flat_rules.specs.Shown.{shown_states}
+use Rattle.flat_scene.specs.declared.frames.SessionSet.{SessionSet}
 use Rattle.flat_topology.specs.Changes.{AreSame}
+use Rattle.flat_topology.specs.Shown.{Shown}
 use Rattle.flat_report.specs.Report.{finished, frame_at}
 use Rattle.flat_play.specs.declared.frame.LastFrame.{LastFrame}
 use Rattle.flat_play.specs.Last.{IsLast}
-use Rattle.flat_stage.specs.Displays.{DisplayEnters, DisplaySees, DisplayView, FrameView}
-use Rattle.flat_core.specs.Views.{AreViewed}
+use Rattle.flat_stage.specs.Displays.{CompositorView, DisplayEnters, DisplaySees, DisplayView}
 use Rattle.flat_stage.specs.Seats.{entries_of_seat, setup_of, shares_of}
 use Rattle.flat_shell.specs.declared.fault.DisplayFault.{DisplayFault}
 use Rattle.flat_shell.specs.declared.fault.DisplayFault.TheVariants.{Full, NotOwned, Unmet}
@@ -94,20 +95,16 @@ pub record HasLast (setup : Setup) (history : List Entry) (last : LastFrame) : T
   pub scaling : last.ratio ≡ ratio setup (to_finished history)
 
 -- what is known of the last frame while another is open: its number, and which sessions show something else now
-pub record GoesBefore (setup : Setup) (frame : FrameView) (last : LastFrame) : Type 0 where
+pub record GoesBefore (setup : Setup) (seat : DisplayView) (changed : SessionSet) (shown : Shown) (last : LastFrame) : Type 0 where
   pub is : IsLast setup last
-  pub number : last.frame.0 ≡ frames (history_of frame.display.seen)
-  pub same : AreSame frame.changed last.reuse frame.shown
+  pub number : last.frame.0 ≡ frames (history_of seat.seen)
+  pub same : AreSame changed last.reuse shown
 
-abbrev pub MayGoBefore : Setup → FrameView → Option LastFrame → Type 0
-MayGoBefore setup frame None = Unit {0}
-MayGoBefore setup frame (Some last) = GoesBefore setup frame last
-
--- an open frame shows its begin
-pub record HasBegun (setup : Setup) (frame : FrameView) (last : Option LastFrame) : Type 0 where
-  pub shown : frame.shown ≡ shown_states setup (to_begin (history_of frame.display.seen))
-  pub views : AreViewed setup (to_begin (history_of frame.display.seen)) frame.with_view
-  pub before : MayGoBefore setup frame last
+-- nothing is known of it after memory ran out
+abbrev pub MayGoBefore : Setup → CompositorView → Option LastFrame → Type 0
+MayGoBefore setup compositor None = Unit {0}
+MayGoBefore setup compositor (Some last) =
+    GoesBefore setup compositor.display compositor.start.changed compositor.start.shown last
 
 -- what is composed is the last begin
 pub record IsComposed (setup : Setup) (history : List Entry) (last : LastFrame) : Type 0 where

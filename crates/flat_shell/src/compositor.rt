@@ -6,7 +6,9 @@ ghost use Rattle.flat_scene.specs.declared.journal.Reply.TheVariants.{Done};
 ghost use Rattle.flat_scene.specs.declared.script.DisplayLine.TheVariants as display;
 ghost use Rattle.flat_scene.specs.Journals.{history_of};
 ghost use Rattle.flat_rules.specs.Ends.{to_finished};
-ghost use Rattle.flat_rules.specs.Legal.{begin_time};
+ghost use Rattle.flat_rules.specs.Legal.{begin_time, display_may};
+ghost use Rattle.flat_core.specs.Starts.{is_beside};
+ghost use Rattle.flat_scene.specs.Interleave.{entry_of_display};
 ghost use Rattle.flat_rules.specs.Owned.{is_played_display};
 ghost use Rattle.flat_report.specs.Report.{finished, hits_at};
 ghost use Rattle.flat_stage.specs.Displays.{DisplayEnters};
@@ -23,7 +25,7 @@ use flat_base::{FenceNo, NoMemory};
 use flat_play::LastFrame;
 use flat_scene::{DisplayLine, FrameOut, HitList};
 use flat_setup::may_direct;
-use flat_stage::CompositorSeat;
+use flat_stage::Compositor;
 use std::marker::Model;
 use std::sync::Wait;
 
@@ -32,12 +34,12 @@ use std::sync::Wait;
 #[derive(Drop)]
 pub struct DisplayCompositor {
     pub(crate) keeper: Keeper,
-    pub(crate) seat: CompositorSeat,
+    pub(crate) compositor: Compositor,
     pub(crate) last: LastFrame,
 }
 
 impl Model for DisplayCompositor {
-    ghost use Rattle.std.specs.Prelude.{false};
+    ghost use Rattle.std.specs.Prelude.{◌≡◌, false};
     ghost use Rattle.flat_stage.specs.Displays.{DisplayView};
     ghost use Rattle.flat_stage.specs.Seats.{setup_of};
     ghost use Rattle.flat_scene.specs.Journals.{history_of};
@@ -45,10 +47,11 @@ impl Model for DisplayCompositor {
 
     ghost Value = { DisplayView };
 
-    ghost view = { λ c. c.seat };
+    ghost view = { λ c. c.compositor.display };
 
-    ghost invariant = { λ c. IsKept false c.keeper c.seat
-        × HasLast (setup_of c.seat.stage) (history_of c.seat.seen) c.last };
+    ghost invariant = { λ c. IsKept false c.keeper c.compositor.display
+        × HasLast (setup_of c.compositor.display.stage) (history_of c.compositor.display.seen) c.last
+        × (c.compositor.is_open ≡ false) };
 }
 
 impl DisplayCompositor {
@@ -102,16 +105,18 @@ impl DisplayCompositor {
     {
         let DisplayCompositor {
             mut keeper,
-            seat,
+            mut compositor,
             last,
         } = self;
         let number = keeper.made + 1;
-        let frame = seat.begin(rt, &keeper.stage, number, time);
+        // proof: the last frame shows what the compositor's last begin decided
+        let _ = compositor.start();
+        compositor.begin(rt, &keeper.stage, number, time);
         keeper.made = number;
         keeper.time = time;
         BegunFrame {
             keeper,
-            frame,
+            compositor,
             last: Some(last),
         }
     }
@@ -121,10 +126,7 @@ impl DisplayCompositor {
         ensures enters { Enters (display.Signal f) (Signal f) self.old self.new result }
         ensures stays { self.new.stage ≡ self.old.stage }
     {
-        let number = self.entry_number(DisplayLine::Signal(f))?;
-        self.seat.signal(rt, &self.keeper.stage, number, f);
-        self.keeper.made = number;
-        Ok(())
+        self.enter(rt, DisplayLine::Signal(f))
     }
 
     /// Sets the display's pixel ratio, in fixed point, for the frames that begin from now on.
@@ -133,8 +135,18 @@ impl DisplayCompositor {
         ensures enters { Enters (display.Dpr ratio) (Dpr ratio) self.old self.new result }
         ensures stays { self.new.stage ≡ self.old.stage }
     {
-        let number = self.entry_number(DisplayLine::Dpr(ratio))?;
-        self.seat.dpr(rt, &self.keeper.stage, number, ratio);
+        self.enter(rt, DisplayLine::Dpr(ratio))
+    }
+
+    /// Makes the entry of a line that begins no frame and ends none, if it may be made.
+    fn enter<R: Wait>(&mut self, rt: &R, text: DisplayLine) -> Result<(), DisplayFault>
+        requires beside { is_beside text ≡ true }
+        requires acts { display_may (entry_of_display text) ≡ true }
+        ensures enters { Enters text (entry_of_display text) self.old self.new result }
+        ensures stays { self.new.stage ≡ self.old.stage }
+    {
+        let number = self.entry_number(text)?;
+        self.compositor.enter(rt, &self.keeper.stage, number, text);
         self.keeper.made = number;
         Ok(())
     }

@@ -5,25 +5,22 @@ ghost use Rattle.flat_drawable.specs.Drawable.{IsDrawable};
 ghost use Rattle.flat_scene.specs.declared.journal.Kind.TheVariants.{Finish};
 ghost use Rattle.flat_scene.specs.declared.journal.Reply.TheVariants.{Done};
 ghost use Rattle.flat_scene.specs.Journals.{history_of};
-ghost use Rattle.flat_rules.specs.Ends.{to_begin};
-ghost use Rattle.flat_rules.specs.Legal.{frames};
-ghost use Rattle.flat_report.specs.Report.{finished, frame_at};
+ghost use Rattle.flat_report.specs.Report.{finished};
 ghost use Rattle.flat_stage.specs.Displays.{DisplayEnters};
 ghost use Rattle.flat_stage.specs.Seats.{setup_of};
-ghost use Rattle.flat_shell.specs.Live.{next_frame, GoesBefore, HasBegun, IsComposed, IsKept};
+ghost use Rattle.flat_shell.specs.Live.{next_frame, GoesBefore, IsComposed, IsKept, MayGoBefore};
 ghost use Rattle.flat_texts.specs.Pictures.{list_of};
 
 use crate::compositor::DisplayCompositor;
 use crate::keeper::Keeper;
-use flat_base::{FrameNo, NoMemory};
+use flat_base::NoMemory;
 use flat_core::shown_states_fit;
 use flat_damage::damage;
 use flat_play::LastFrame;
 use flat_rules::{items_are_drawable, journals_keep_seats};
 use flat_scene::{FrameOut, ItemList, RectList, SessionSet};
-use flat_stage::OpenFrame;
+use flat_stage::Compositor;
 use std::marker::Model;
-use std::mem;
 use std::sync::Wait;
 
 /// A frame that began. What it shows is that of its begin, whatever the clients present
@@ -31,23 +28,24 @@ use std::sync::Wait;
 #[derive(Drop)]
 pub struct BegunFrame {
     pub(crate) keeper: Keeper,
-    pub(crate) frame: OpenFrame,
+    pub(crate) compositor: Compositor,
     /// What the last frame was composed of; None after memory ran out.
     pub(crate) last: Option<LastFrame>,
 }
 
 impl Model for BegunFrame {
-    ghost use Rattle.std.specs.Prelude.{true};
+    ghost use Rattle.std.specs.Prelude.{◌≡◌, true};
     ghost use Rattle.flat_stage.specs.Displays.{DisplayView};
     ghost use Rattle.flat_stage.specs.Seats.{setup_of};
-    ghost use Rattle.flat_shell.specs.Live.{HasBegun, IsKept};
+    ghost use Rattle.flat_shell.specs.Live.{IsKept, MayGoBefore};
 
     ghost Value = { DisplayView };
 
-    ghost view = { λ b. b.frame.display };
+    ghost view = { λ b. b.compositor.display };
 
-    ghost invariant = { λ b. IsKept true b.keeper b.frame.display
-        × HasBegun (setup_of b.frame.display.stage) b.frame b.last };
+    ghost invariant = { λ b. IsKept true b.keeper b.compositor.display
+        × MayGoBefore (setup_of b.compositor.display.stage) b.compositor b.last
+        × (b.compositor.is_open ≡ true) };
 }
 
 /// A frame that is composed, to be shown and then done. Contracts see it as the compositor's
@@ -55,7 +53,7 @@ impl Model for BegunFrame {
 #[derive(Drop)]
 pub struct ComposedFrame {
     keeper: Keeper,
-    frame: OpenFrame,
+    compositor: Compositor,
     last: LastFrame,
     out: FrameOut,
 }
@@ -69,11 +67,12 @@ impl Model for ComposedFrame {
 
     ghost Value = { DisplayView };
 
-    ghost view = { λ b. b.frame.display };
+    ghost view = { λ b. b.compositor.display };
 
-    ghost invariant = { λ b. IsKept true b.keeper b.frame.display
-        × IsComposed (setup_of b.frame.display.stage) (history_of b.frame.display.seen) b.last
-        × (b.out ≡ next_frame b.frame.display) };
+    ghost invariant = { λ b. IsKept true b.keeper b.compositor.display
+        × IsComposed (setup_of b.compositor.display.stage)
+        (history_of b.compositor.display.seen) b.last
+        × (b.out ≡ next_frame b.compositor.display) × (b.compositor.is_open ≡ true) };
 }
 
 /// Each session: none is known to show what it showed.
@@ -82,16 +81,17 @@ const EVERYBODY: SessionSet = SessionSet { has: [true; 16] };
 /// What the next frame is composed from, and the sessions that may show something else in it.
 fn start_of(
     keeper: &Keeper,
-    frame: &OpenFrame,
+    compositor: &Compositor,
     last: Option<LastFrame>,
 ) -> Result<(LastFrame, SessionSet), NoMemory>
-    requires kept { IsKept true keeper.now frame.now.display }
-    requires begun { HasBegun (setup_of frame.now.display.stage) frame.now last }
-    ensures { IfOk result (λ r. GoesBefore (setup_of frame.now.display.stage)
-        (record frame.now { changed = r.1 }) r.0) }
+    requires kept { IsKept true keeper.now compositor.now.display }
+    requires begun { MayGoBefore (setup_of compositor.now.display.stage) compositor.now last }
+    ensures { IfOk result (λ r. GoesBefore (setup_of compositor.now.display.stage)
+        compositor.now.display r.1 compositor.now.start.shown r.0) }
 {
+    let start = compositor.start();
     match last {
-        Some(last) => Ok((last, frame.changed())),
+        Some(last) => Ok((last, start.changed)),
         None => {
             let mut last = LastFrame::none(keeper.alloc, &keeper.setup)?;
             last.frame = keeper.frames;
@@ -103,25 +103,26 @@ fn start_of(
 /// The next frame, composed of what an open one shows, and what is kept of it.
 fn compose_from(
     keeper: &Keeper,
-    frame: &OpenFrame,
+    compositor: &Compositor,
     last: Option<LastFrame>,
 ) -> Result<(LastFrame, FrameOut), NoMemory>
-    requires kept { IsKept true keeper.now frame.now.display }
-    requires begun { HasBegun (setup_of frame.now.display.stage) frame.now last }
-    ensures last { IfOk result (λ r. IsComposed (setup_of frame.now.display.stage)
-        (history_of frame.now.display.seen) r.0) }
-    ensures out { IfOk result (λ r. r.1 ≡ next_frame frame.now.display) }
+    requires kept { IsKept true keeper.now compositor.now.display }
+    requires begun { MayGoBefore (setup_of compositor.now.display.stage) compositor.now last }
+    ensures last { IfOk result (λ r. IsComposed (setup_of compositor.now.display.stage)
+        (history_of compositor.now.display.seen) r.0) }
+    ensures out { IfOk result (λ r. r.1 ≡ next_frame compositor.now.display) }
 {
     shown_states_fit();
     journals_keep_seats();
-    let (mut last, changed) = start_of(keeper, frame, last)?;
+    let start = compositor.start();
+    let (mut last, changed) = start_of(keeper, compositor, last)?;
     let out = last.compose_next(
         keeper.alloc,
         &keeper.setup,
-        frame.ratio(),
-        frame.shown(),
+        start.ratio,
+        &start.shown,
         changed,
-        frame.with_view(),
+        start.with_view,
     )?;
     Ok((last, out))
 }
@@ -135,19 +136,19 @@ impl BegunFrame {
     {
         let BegunFrame {
             keeper,
-            frame,
+            compositor,
             last,
         } = self;
-        match compose_from(&keeper, &frame, last) {
+        match compose_from(&keeper, &compositor, last) {
             Ok((last, out)) => Ok(ComposedFrame {
                 keeper,
-                frame,
+                compositor,
                 last,
                 out,
             }),
             Err(NoMemory) => Err(BegunFrame {
                 keeper,
-                frame,
+                compositor,
                 last: None,
             }),
         }
@@ -186,16 +187,20 @@ impl ComposedFrame {
     {
         let ComposedFrame {
             mut keeper,
-            frame,
+            mut compositor,
             mut last,
             out,
         } = self;
         let number = keeper.made + 1;
-        let (seat, finished) = frame.done(rt, &keeper.stage, number);
+        let finished = compositor.done(rt, &keeper.stage, number);
         keeper.made = number;
         keeper.frames = finished;
         keeper.shown = Some(out);
         last.frame = finished;
-        DisplayCompositor { keeper, seat, last }
+        DisplayCompositor {
+            keeper,
+            compositor,
+            last,
+        }
     }
 }

@@ -68,7 +68,7 @@ impl Shell {
         let handed = none_handed(alloc, kept.sessions)?;
         let share = *kept_shares.at(0);
         let board = Board::open(alloc, setup, shares)?;
-        let (stage, seat, seats) = Stage::new(alloc, board)?;
+        let (stage, compositor, seats) = Stage::new(alloc, board)?;
         let stage = Arc::new(alloc, stage)?;
         let setup = Arc::new(alloc, kept)?;
         let keeper = Keeper::new(alloc, &stage, &setup, share)?;
@@ -80,7 +80,14 @@ impl Shell {
             seats,
             handed,
         };
-        Ok((shell, DisplayCompositor { keeper, seat, last }))
+        Ok((
+            shell,
+            DisplayCompositor {
+                keeper,
+                compositor,
+                last,
+            },
+        ))
     }
 
     /// The client of a session; None if there is no such session, or its client was handed out
@@ -144,10 +151,14 @@ impl Shell {
             return Err(CloseFault::ClientsOut(self, compositor));
         }
         let Shell { stage, seats, .. } = self;
-        let DisplayCompositor { keeper, seat, .. } = compositor;
+        let DisplayCompositor {
+            keeper,
+            compositor,
+            ..
+        } = compositor;
         drop(keeper);
         match Arc::into_inner(stage) {
-            Some(stage) => Ok(stage.close(seat, seats)),
+            Some(stage) => Ok(stage.close(compositor, seats)),
             None => Err(CloseFault::StillHeld),
         }
     }

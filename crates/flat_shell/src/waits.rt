@@ -62,6 +62,6 @@ impl DisplayCompositor {
         requires { is_played_display (setup_of self.old.stage) (display.Wait c) ≡ true }
         ensures { HasLooked c result self.old self.new }
     {
-        self.seat.look(rt, &self.keeper.stage, c)
+        self.compositor.look(rt, &self.keeper.stage, c)
     }
 }

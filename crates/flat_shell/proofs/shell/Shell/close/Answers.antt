@@ -1,7 +1,7 @@
 use Rattle.std.proofs.Common.{◌≡◌, true, sym, ap, ◌∙◌, subst}
 use Rattle.flat_core.specs.Machines.{Machine}
 use Rattle.flat_stage.specs.Displays.{DisplayView}
-use Rattle.flat_stage.specs.Seats.{StageView, setup_of, shares_of}
+use Rattle.flat_stage.specs.Seats.{setup_of, shares_of}
 use Rattle.flat_shell.specs.Closing.{IsClosed}
 use Rattle.flat_shell.specs.Shells.{ShellView, all_home}
 use Rattle.flat_shell.proofs.shell.Shell.close.Goals as goal
