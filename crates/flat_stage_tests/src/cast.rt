@@ -1,29 +1,18 @@
 //! A new stage of two sessions, with all its seats handed out.
-ghost use Rattle.std.specs.Prelude.{◌≡◌, [], ◌∷◌, IfOk, IfSome, Some};
-ghost use Rattle.flat_base.specs.declared.ids.Actor.TheVariants.{Display};
-ghost use Rattle.flat_stage_tests.specs.Room.{MayBegin, MayRead};
+ghost use Rattle.std.specs.Prelude.{◌≡◌, [], ◌∷◌, false, IfOk, IfSome, Some};
+ghost use Rattle.flat_stage.specs.Seats.{setup_of};
+ghost use Rattle.flat_stage_tests.specs.Room.{MayBegin, MayRead, two_sessions};
 
 use flat_base::{Actor, Items, NoMemory, ONE, SessionNo, ShareList};
 use flat_core::Board;
 use flat_scene::{PairDecl, Setup};
-use flat_stage::{CompositorSeat, SessionSeat, SessionSeats, Stage};
+use flat_stage::{Compositor, SessionSeat, SessionSeats, Stage};
 use std::alloc::Global;
 use std::test::Fail;
 
 /// A display that shows session 1, beside session 2.
-fn two_sessions(alloc: Global) -> Result<Setup, NoMemory>
-    ensures { IfOk result (λ setup. setup
-        ≡ record {
-          width = 100;
-          height = 50;
-          sessions = 2;
-          probes = 0;
-          pairs = record
-              { viewport = Display; view = record { 0 = 1 } } ∷ [];
-          buffers = [];
-          fences = [];
-          ratio = 65536;
-        }) }
+pub(crate) fn two_sessions(alloc: Global) -> Result<Setup, NoMemory>
+    ensures { IfOk result (λ setup. setup ≡ two_sessions) }
 {
     let mut pairs = Items::new(alloc);
     pairs.push(PairDecl {
@@ -45,17 +34,7 @@ fn two_sessions(alloc: Global) -> Result<Setup, NoMemory>
 fn opened(alloc: Global) -> Result<Board, NoMemory>
     ensures { IfOk result (λ board. board
         ≡ record {
-          setup = record {
-            width = 100;
-            height = 50;
-            sessions = 2;
-            probes = 0;
-            pairs = record { viewport = Display; view = record { 0 = 1 } }
-                ∷ [];
-            buffers = [];
-            fences = [];
-            ratio = 65536;
-          };
+          setup = two_sessions;
           shares = 20 ∷ 101 ∷ 101 ∷ [];
           history = [];
         }) }
@@ -71,7 +50,7 @@ fn opened(alloc: Global) -> Result<Board, NoMemory>
 #[derive(Drop)]
 pub(crate) struct Cast {
     pub(crate) stage: Stage,
-    pub(crate) compositor: CompositorSeat,
+    pub(crate) compositor: Compositor,
     pub(crate) seats: SessionSeats,
     pub(crate) first: SessionSeat,
     pub(crate) second: SessionSeat,
@@ -97,10 +76,12 @@ fn both_of(
 
 /// A stage, and its seats handed out.
 pub(crate) fn new_cast(alloc: Global) -> Result<Cast, Fail>
+    ensures setup { IfOk result (λ c. setup_of c.stage ≡ two_sessions) }
     ensures seats { IfOk result (λ c. c.seats.stage ≡ c.stage) }
-    ensures compositor { IfOk result (λ c. (c.compositor.stage ≡ c.stage)
-        × MayBegin 10 0 c.compositor) }
-    ensures first { IfOk result (λ c. (c.first.stage ≡ c.stage) × MayRead 101 c.first) }
+    ensures compositor { IfOk result (λ c. (c.compositor.display.stage ≡ c.stage)
+        × (c.compositor.is_open ≡ false) × MayBegin 10 0 c.compositor.display) }
+    ensures first { IfOk result (λ c. (c.first.stage ≡ c.stage) × MayRead 101 c.first
+        × (c.first.session ≡ record { 0 = 1 })) }
     ensures second { IfOk result (λ c. (c.second.stage ≡ c.stage) × MayRead 101 c.second) }
 {
     let (stage, compositor, mut seats) = Stage::new(alloc, opened(alloc)?)?;

@@ -8,7 +8,7 @@ use crate::cast::{Cast, new_cast};
 use flat_base::{Actor, Items, NoMemory, SessionNo};
 use flat_core::Board;
 use flat_scene::{Entry, Kind, Line, PresentArgs, Reply};
-use flat_stage::{CompositorSeat, SessionSeat, SessionSeats, Stage};
+use flat_stage::{Compositor, SessionSeat, SessionSeats, Stage};
 use std::alloc::Global;
 use std::sync::Wait;
 use std::test::Fail;
@@ -19,7 +19,7 @@ const POLLS: u32 = 100;
 
 const FRAMES: u32 = 10;
 
-fn no_fences(alloc: Global) -> PresentArgs
+pub(crate) fn no_fences(alloc: Global) -> PresentArgs
     ensures { result ≡ record { time = 0; acquire = []; release = []; unsquashable = false } }
 {
     PresentArgs {
@@ -101,34 +101,30 @@ fn read_all<R: Wait>(
 }
 
 /// One frame, after which so many more may be made.
-fn make_frame<R: Wait>(
-    rt: &R,
-    stage: &Stage,
-    seat: CompositorSeat,
-    k: u32,
-    left: u32,
-) -> CompositorSeat
-    requires own { seat.stage ≡ stage.now }
-    requires may { MayBegin (left + 1) k seat }
+fn make_frame<R: Wait>(rt: &R, stage: &Stage, compositor: &mut Compositor, k: u32, left: u32)
+    requires own { compositor.old.display.stage ≡ stage.now }
+    requires closed { compositor.old.is_open ≡ false }
+    requires may { MayBegin (left + 1) k compositor.old.display }
     requires fits { k < 100 }
-    ensures own { result.stage ≡ stage.now }
-    ensures may { MayBegin left (k + 1) result }
+    ensures own { compositor.new.display.stage ≡ stage.now }
+    ensures closed { compositor.new.is_open ≡ false }
+    ensures may { MayBegin left (k + 1) compositor.new.display }
 {
-    let open = seat.begin(rt, stage, 2 * k + 1, k as u64);
-    let (seat, _) = open.done(rt, stage, 2 * k + 2);
-    seat
+    compositor.begin(rt, stage, 2 * k + 1, k as u64);
+    compositor.done(rt, stage, 2 * k + 2);
 }
 
 /// Ten frames.
-fn make_frames<R: Wait>(rt: &R, stage: &Stage, mut seat: CompositorSeat) -> CompositorSeat
-    requires own { seat.stage ≡ stage.now }
-    requires may { MayBegin 10 0 seat }
-    ensures { result.stage ≡ stage.now }
+fn make_frames<R: Wait>(rt: &R, stage: &Stage, mut compositor: Compositor) -> Compositor
+    requires own { compositor.display.stage ≡ stage.now }
+    requires closed { compositor.is_open ≡ false }
+    requires may { MayBegin 10 0 compositor.display }
+    ensures { result.display.stage ≡ stage.now }
 {
     for k in 0..FRAMES {
-        seat = make_frame(rt, stage, seat, k, FRAMES - 1 - k);
+        make_frame(rt, stage, &mut compositor, k, FRAMES - 1 - k);
     }
-    seat
+    compositor
 }
 
 type Both = (Result<SessionSeat, NoMemory>, Result<SessionSeat, NoMemory>);
@@ -164,22 +160,24 @@ fn run_all<R: Threads + Wait + Sync>(
     rt: &R,
     alloc: Global,
     stage: &Stage,
-    compositor: CompositorSeat,
+    compositor: Compositor,
     first: SessionSeat,
     second: SessionSeat,
-) -> (CompositorSeat, Both)
-    requires compositor { (compositor.stage ≡ stage.now) × MayBegin 10 0 compositor }
+) -> (Compositor, Both)
+    requires compositor { (compositor.display.stage ≡ stage.now) × (compositor.is_open ≡ false)
+        × MayBegin 10 0 compositor.display }
     requires first { (first.stage ≡ stage.now) × MayRead 101 first }
     requires second { (second.stage ≡ stage.now) × MayRead 101 second }
-    ensures compositor { result.0.stage ≡ stage.now }
+    ensures compositor { result.0.display.stage ≡ stage.now }
     ensures first { IfOk result.1.0 (λ seat. seat.stage ≡ stage.now) }
     ensures second { IfOk result.1.1 (λ seat. seat.stage ≡ stage.now) }
 {
     thread::join(
         rt,
-        move || -> CompositorSeat
-            requires { (compositor.stage ≡ stage.now) × MayBegin 10 0 compositor }
-            ensures { result.stage ≡ stage.entry.now }
+        move || -> Compositor
+            requires { (compositor.display.stage ≡ stage.now) × (compositor.is_open ≡ false)
+                × MayBegin 10 0 compositor.display }
+            ensures { result.display.stage ≡ stage.entry.now }
         { make_frames(rt, stage, compositor) },
         move || -> Both
             requires { (first.stage ≡ stage.now) × MayRead 101 first × (second.stage ≡ stage.now)
@@ -255,7 +253,8 @@ fn put_both(seats: &mut SessionSeats, both: Both) -> Result<(), Fail>
 /// The board that a stage leaves, once both sessions and all frames are done.
 fn run<R: Threads + Wait + Sync>(rt: &R, alloc: Global, cast: Cast) -> Result<Board, Fail>
     requires seats { cast.seats.stage ≡ cast.stage }
-    requires compositor { (cast.compositor.stage ≡ cast.stage) × MayBegin 10 0 cast.compositor }
+    requires compositor { (cast.compositor.display.stage ≡ cast.stage)
+        × (cast.compositor.is_open ≡ false) × MayBegin 10 0 cast.compositor.display }
     requires first { (cast.first.stage ≡ cast.stage) × MayRead 101 cast.first }
     requires second { (cast.second.stage ≡ cast.stage) × MayRead 101 cast.second }
 {

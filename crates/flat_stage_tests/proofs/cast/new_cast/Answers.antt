@@ -1,5 +1,6 @@
 use Rattle.std.proofs.Common.{◌≡◌, ◌∙◌, ◌<◌, ℕ, [], ◌∷◌, ap, sym, subst, lit<, lit≤}
 use Rattle.flat_stage.specs.Homes.{SeatsView, session_at}
+use Rattle.flat_stage.specs.Seats.{SessionView}
 use Rattle.flat_stage_tests.proofs.Fresh.{first_is, second_is, fresh_reads, number}
 use Rattle.flat_stage_tests.proofs.cast.new_cast.Goals as goal
 
@@ -9,8 +10,9 @@ returns-clause-first c =
     let e = c.in_ok-stage.ensures in
     let o = c.in_ok-opened.ensures in
     let P : ℕ → Type 0 = λ n. 0 < n in
-    fresh_reads _ (20 ∷ 101 ∷ 101 ∷ []) (number 1) _ (e.shares ∙ ap (λ m. m.shares) o) (lit≤ tt)
-    (first_is _ _ _ _ e.sessions (subst P (sym (ap (λ m. m.setup.sessions) o)) (lit< tt)) (sym a.seat ∙ c.in-Some.ensures.0))
+    let is = first_is _ _ _ _ e.sessions (subst P (sym (ap (λ m. m.setup.sessions) o)) (lit< tt)) (sym a.seat ∙ c.in-Some.ensures.0) in
+    let reads = fresh_reads _ (20 ∷ 101 ∷ 101 ∷ []) (number 1) _ (e.shares ∙ ap (λ m. m.shares) o) (lit≤ tt) is in
+    (reads.0, reads.1, ap (λ (v : SessionView). v.session) is)
 
 pub returns-clause-second : goal.returns-clause-second
 returns-clause-second c =
