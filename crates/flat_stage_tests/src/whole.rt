@@ -9,7 +9,7 @@ ghost use Rattle.flat_stage_tests.specs.Room.{MayBegin, MayRead, two_sessions};
 
 use crate::cast::{Cast, new_cast, two_sessions};
 use crate::seats::no_fences;
-use flat_base::{ContentId, Items, NoMemory, PairNo, TransformId};
+use flat_base::{ContentId, NoMemory, PairNo, SessionNo, TransformId};
 use flat_compose::compose;
 use flat_core::{FrameStart, shown_states_fit};
 use flat_drawable::is_same;
@@ -166,7 +166,7 @@ fn compare<R: Wait>(
 {
     shown_states_fit();
     compositor.begin(rt, stage, 1, 0);
-    compositor.look(rt, stage, Cond::Frames(0));
+    compositor.look(rt, stage, Cond::Presents(SessionNo(1), 1));
     let start = compositor.start();
     let pieces = compose_pieces(alloc, setup, start)?;
     let whole = compose_whole(alloc, setup, start)?;
