@@ -26,14 +26,15 @@ pub record StartsFrame (setup : Setup) (history : List Entry) (old new : FrameSt
   pub start : IsStart setup history new
   pub changed : AreSame new.changed old.shown new.shown
 
--- A begin takes the longest ready prefix of each open session: the first present that still waits wasn't ready, or follows
--- an unsquashable one that was taken; and an unsquashable one that was taken is the last, and is shown.
+-- A begin takes the longest ready prefix of each open session: the first present that still waits wasn't ready, or
+-- follows an unsquashable one that was taken; and an unsquashable one that was taken is the last, and is shown.
 pub record TakesReady (old : Machine) (history : List Entry) (time : ℕ) : Type 0 where
   pub next : (s : SessionNo) (present : Published) → is_closed s old.history ≡ false
       → slice_get (waiting old.setup history s) 0 ≡ Some present
       → (not (list_any is_unsquashable (going old.setup history s))
       && is_ready time (is_signalled old.setup old.history) present.args) ≡ false
-  pub unsquashable : (s : SessionNo) (earlier later : List Published) (present : Published) → is_closed s old.history ≡ false
+  pub unsquashable : (s : SessionNo) (earlier later : List Published) (present : Published)
+      → is_closed s old.history ≡ false
       → going old.setup history s ≡ earlier ++ present ∷ later → is_unsquashable present ≡ true
       → (later ≡ []) × (shown old.setup history s ≡ tree_of old.setup present)
 

@@ -42,7 +42,8 @@ AllHeed script hints frames from answers = (probe : ℕ) → Heeds script hints 
 -- is no run's report.
 abbrev pub HeedsSo : Script → List ℕ → List (List ℕ) → ℕ → GuidedRun → Type 0
 HeedsSo script text hints frames_in_all guided =
-    NoRun script text ⊎ AllHeed script hints frames_in_all (suc (frames guided.screen.board.history)) guided.answers.items
+    NoRun script text ⊎ AllHeed script hints frames_in_all (suc (frames guided.screen.board.history))
+    guided.answers.items
 
 -- The answers of a probe after a line that went on or not: one that went on leaves no named frame to the last one.
 abbrev pub SeenBehind : ℕ → ℕ → List ℕ → List (List ProbeAnswer) → Bool → Type 0

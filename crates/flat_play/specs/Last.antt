@@ -47,8 +47,8 @@ pub record StaysLast (setup : Setup) (old new : LastFrame) : Type 0 where
 
 -- ---- the frame after it
 
--- A frame may follow that starts so: what it shows fits the setup, and outside of the sessions that changed it is what the
--- last one shows.
+-- A frame may follow that starts so: what it shows fits the setup, and outside of the sessions that changed it is what
+-- the last one shows.
 pub record MayFollow (setup : Setup) (start : FrameStart) (last : LastFrame) : Type 0 where
   pub count : length start.shown ≡ setup.sessions
   pub fits : FitsSetup setup start.shown

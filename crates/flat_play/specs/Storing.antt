@@ -38,11 +38,12 @@ pub record StaysStored (setup : Setup) (old new : FrameStore) : Type 0 where
 -- ---- the next frame
 
 -- The next frame is kept: that of the last begin.
-pub record FinishesNext (script : Script) (history : List Entry) (start : FrameStart) (old new : FrameStore) : Type 0 where
-  pub kept : KeepsMore script (frame_at script.setup (frames history + 1) (to_begin history)) old.kept new.kept
-  pub number : new.last.frame.0 ≡ frames history + 1
-  pub last : ShowsStart script.setup start new.last
-  pub points : new.answers ≡ old.answers
+pub record FinishesNext (script : Script) (history : List Entry) (start : FrameStart) (old new : FrameStore) : Type 0
+  where
+    pub kept : KeepsMore script (frame_at script.setup (frames history + 1) (to_begin history)) old.kept new.kept
+    pub number : new.last.frame.0 ≡ frames history + 1
+    pub last : ShowsStart script.setup start new.last
+    pub points : new.answers ≡ old.answers
 
 -- It isn't there: the number of frames stays, and so do the answers. What was kept of the frames may be lost.
 pub record LacksNext (old new : FrameStore) : Type 0 where

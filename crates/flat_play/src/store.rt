@@ -1,6 +1,7 @@
 //! What is kept of the frames that a board finishes. It hangs on the history alone, and not on
 //! who reads which lines: so a play, a race and a judge of reports each have one.
-ghost use Rattle.std.specs.Prelude.{◌≡◌, ◌+◌, ◌<◌, ◌^◌, ◌++◌, ◌∷◌, [], true, List, length, map, IfOk, OnErr, OnOk, Some};
+ghost use Rattle.std.specs.Prelude.{◌≡◌, ◌+◌, ◌<◌, ◌^◌, ◌++◌, ◌∷◌, [], true, List, length, map};
+ghost use Rattle.std.specs.Prelude.{IfOk, OnErr, OnOk, Some};
 ghost use Rattle.flat_base.specs.Last.{last_item};
 ghost use Rattle.flat_core.specs.Starts.{IsStart};
 ghost use Rattle.flat_display.specs.Shows.{Shows};

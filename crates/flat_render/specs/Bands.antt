@@ -50,11 +50,11 @@ pub record IsPart (area : Area) (items : List DrawItem) (all places : List ℕ) 
   pub seen : IsSeenIn area (chosen items all) (chosen items places)
 
 -- a list of such numbers for each tile of a row
-pub record AreParts (grid : Grid) (row : ℕ) (items : List DrawItem) (all : List ℕ) (lists : List (Vec ℕ Global)) : Type 0
-  where
-    pub count : length lists ≡ grid.across
-    pub serve : (c : ℕ) (d : Vec ℕ Global) → c < grid.across
-        → IsPart (tile_area (tile_of grid (row * grid.across + c))) items all (slice_index_or lists c d).items
+pub record AreParts (grid : Grid) (row : ℕ) (items : List DrawItem) (all : List ℕ)
+    (lists : List (Vec ℕ Global)) : Type 0 where
+  pub count : length lists ≡ grid.across
+  pub serve : (c : ℕ) (d : Vec ℕ Global) → c < grid.across
+      → IsPart (tile_area (tile_of grid (row * grid.across + c))) items all (slice_index_or lists c d).items
 
 -- so many lists, and nothing in them
 pub record AreEmpty (n : ℕ) (lists : List (Vec ℕ Global)) : Type 0 where

@@ -1,4 +1,5 @@
-ghost use Rattle.std.specs.Prelude.{◌≡◌, ◌+◌, ◌-◌, ◌<◌, ◌≢◌, ◌^◌, List, [], ◌∷◌, ◌++◌, true, false, length, slice_get, take};
+ghost use Rattle.std.specs.Prelude.{◌≡◌, ◌+◌, ◌-◌, ◌<◌, ◌≢◌, ◌^◌, List, [], ◌∷◌, ◌++◌, true, false};
+ghost use Rattle.std.specs.Prelude.{length, slice_get, take};
 ghost use Rattle.std.specs.Prelude.{Some, None, IfOk, IfErr, OnErr, IsTrue, IfSome};
 ghost use Rattle.flat_base.specs.Last.{last_item};
 ghost use Rattle.flat_base.specs.declared.ids.Actor.TheVariants.{Session};

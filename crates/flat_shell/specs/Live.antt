@@ -95,7 +95,8 @@ pub record HasLast (setup : Setup) (history : List Entry) (last : LastFrame) : T
   pub scaling : last.ratio ≡ ratio setup (to_finished history)
 
 -- what is known of the last frame while another is open: its number, and which sessions show something else now
-pub record GoesBefore (setup : Setup) (seat : DisplayView) (changed : SessionSet) (shown : Shown) (last : LastFrame) : Type 0 where
+pub record GoesBefore (setup : Setup) (seat : DisplayView) (changed : SessionSet) (shown : Shown)
+    (last : LastFrame) : Type 0 where
   pub is : IsLast setup last
   pub number : last.frame.0 ≡ frames (history_of seat.seen)
   pub same : AreSame changed last.reuse shown
