@@ -210,7 +210,8 @@ module _ (script : Script) (view : StageView) (place : ℕ) where
           frames_same script (history_of old.display.seen) en.middle en.beside old.start film.store stands.frames in
           let shut : is_frame_open (en.middle ▹ e) ≡ is_frame_open en.middle = rw (leaves.no_begin, leaves.no_finish) refl in
           record {
-            seat = seat_beside script view place x at of.setup old.display new.display stands.seat text (entry_of_display text) reply actor is refl leaves.no_begin
+            seat = seat_beside script view place x at of.setup old.display new.display stands.seat text (entry_of_display text) reply actor is refl
+                leaves.no_begin
                 leaves.no_finish leaves.keeps enters;
             opened = ap is_frame_open en.grown ∙ shut ∙ en.beside.is_open ∙ stands.opened ∙ sym keeps.is_open;
             frames = subst (λ (s : FrameStart). FramesStand script (history_of new.display.seen) s film'.store) (sym keeps.start)

@@ -8,6 +8,7 @@ pub mod FrameExamples
 pub mod GetCalls
 pub mod GetExamples
 pub mod JournalExamples
+pub mod lemmas
 pub mod PollSteps
 pub mod Polled
 pub mod PresentSteps

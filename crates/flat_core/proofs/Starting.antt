@@ -41,7 +41,10 @@ pub starts-empty : (setup : Setup) (start : FrameStart) → length start.shown �
 starts-empty setup start count none ratio views = record {
   shows = nothing-shown setup start.shown count none;
   scales = ratio;
-  views = record { members = λ s declared. no-members start.with_view views s.0 ∙ sym (no-view setup s); others = λ s beyond. no-members start.with_view views s };
+  views = record {
+    members = λ s declared. no-members start.with_view views s.0 ∙ sym (no-view setup s);
+    others = λ s beyond. no-members start.with_view views s;
+  };
 }
 
 -- which lines leave frames alone, and which don't

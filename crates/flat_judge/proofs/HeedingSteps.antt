@@ -159,7 +159,8 @@ step-heeds script hints guided new frame probe is_last is_due on stands below sa
     let G : ℕ → Type 0 = λ f. Heeds script hints last (cond on f (suc f)) probe new in
     subst G same
     (heeds-goes script hints last probe (frames guided.screen.board.history) guided.answers.items new is_due is_last on below (λ is. end is ∙ sym same)
-    (λ named one at got. due named one at got ∙ ap (λ (n : ℕ). is_last || is_reached (slice_get named (length one)) n) stands.screen.frames.stored.ends.number) goes
+    (λ named one at got. due named one at got ∙ ap (λ (n : ℕ). is_last || is_reached (slice_get named (length one)) n) stands.screen.frames.stored.ends.number)
+    goes
     (subst F (sym same) heeds))
 
 -- behind all lines

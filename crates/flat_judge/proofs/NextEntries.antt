@@ -138,6 +138,7 @@ pub none-unread : (script : Script) (old new : GuidedRun) → RunStands script n
     → DisplayGoes old.screen.board new.screen.board made
     → unread_lines (by_display old.screen.board.history) (display_lines script.lines) ≡ []
 none-unread script old new stands end made none goes =
-    let same : new.screen.board.history ≡ old.screen.board.history = ap (λ (m : Machine). m.history) (display-stays old.screen.board new.screen.board made none goes) in
+    let same : new.screen.board.history ≡ old.screen.board.history =
+    ap (λ (m : Machine). m.history) (display-stays old.screen.board new.screen.board made none goes) in
     ap (λ (h : List Entry). unread_lines (by_display h) (display_lines script.lines)) (sym same)
     ∙ stands.display.left ∙ ap (λ (n : ℕ). display_lines (drop n script.lines)) end ∙ ap display_lines (drop_all script.lines)

@@ -121,7 +121,8 @@ session_goes script guided next k seat board below stands (Goes.enters number ca
     let spent = stands.spent in
     let goes : Goes (Session (record { 0 = k + 1 })) guided.screen.board board true = Goes.enters number carries kind reply aside is in
     record {
-      screen = subst H (sym screen_is) (screen_aside script guided.screen board (Session (record { 0 = k + 1 })) number carries kind reply aside is stands.screen);
+      screen = subst H (sym screen_is) (screen_aside script guided.screen board (Session (record { 0 = k + 1 })) number carries kind reply aside is
+          stands.screen);
       seats = subst S1 (sym (ap (λ (p : Screen). p.board) screen_is))
           (subst S (sym seats_are) (seats_set script k guided.screen.board board guided.seats.items seat below goes sits stands.seats));
       within = omega (arith, place_is, within);

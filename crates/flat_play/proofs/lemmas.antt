@@ -1,5 +1,4 @@
 -- Lemmas that other crates may cite.
-pub mod Alone
 pub mod Begun
 pub mod Beside
 pub mod DisplaySteps

@@ -1,5 +1,5 @@
 -- How a session stands at a place of the script.
-use Rattle.std.specs.Prelude.{◌≡◌, ℕ, Bool, ◌+◌, ◌<◌, ◌≤◌, ◌==◌, true, false, List, [], ◌∷◌, ◌++◌, length, take}
+use Rattle.std.specs.Prelude.{◌≡◌, ℕ, ◌+◌, ◌<◌, ◌≤◌, ◌==◌, true, false, List, [], ◌∷◌, ◌++◌, length, take}
 use Rattle.std.specs.Prelude.{drop, map, reverse, count_by, slice_index, slice_index_or, slice_set, Option, Some, None}
 use Rattle.std.specs.List.{AllByRecursion}
 use Rattle.std.specs.List.Sorted.{IsStrictlyIncreasing}
@@ -15,16 +15,14 @@ use Rattle.flat_scene.specs.declared.journal.Kind.TheVariants.{Begin, Finish}
 use Rattle.flat_scene.specs.declared.script.Line.{Line}
 use Rattle.flat_scene.specs.declared.script.ScriptLine.{ScriptLine}
 use Rattle.flat_scene.specs.declared.setup.Setup.{Setup}
-use Rattle.flat_scene.specs.Frames.{ratio, sessions_to}
+use Rattle.flat_scene.specs.Frames.{sessions_to}
 use Rattle.flat_scene.specs.History.{own, is_end}
 use Rattle.flat_scene.specs.Journals.{seat_number}
 use Rattle.flat_scene.specs.Interleave.{session_lines, display_lines, by_display, unread_lines, last_line}
 use Rattle.flat_scene.specs.Interleave.{FollowsDisplay, Interleaves, IsReading, entry_of_display}
 use Rattle.flat_core.specs.Machines.{Machine, entered, made}
 use Rattle.flat_core.specs.Starts.{StartsFrame}
-use Rattle.flat_rules.specs.Ends.{to_finished}
 use Rattle.flat_rules.specs.Legal.{is_frame_open, begin_time, frames, reply_to}
-use Rattle.flat_rules.specs.Shown.{shown_states}
 use Rattle.flat_report.specs.declared.report.HitAnswer.{HitAnswer}
 use Rattle.flat_report.specs.Handed.{answers_of}
 use Rattle.flat_report.specs.Report.{finished}
@@ -33,10 +31,8 @@ use Rattle.flat_session.specs.declared.reader.Reader.{Reader}
 use Rattle.flat_session.specs.Readings.{HasRead}
 use Rattle.flat_session.specs.Reads.{IsNew, Stands}
 use Rattle.flat_play.specs.declared.play.Play.{Play}
-use Rattle.flat_play.specs.declared.frame.LastFrame.{LastFrame}
 use Rattle.flat_play.specs.declared.kept.Kept.{Kept}
 use Rattle.flat_play.specs.Keeping.{Keeps}
-use Rattle.flat_play.specs.Last.{IsLast}
 use Rattle.flat_play.specs.Storing.{AnswersLine, FinishesNext, FramesStand, StoreStands}
 use Rattle.flat_playable.specs.Playable.{frames_close}
 
@@ -89,15 +85,6 @@ pub record DisplayStands (script : Script) (place : ℕ) (history : List Entry) 
   pub left : unread_lines (by_display history) (display_lines script.lines) ≡ display_lines (drop place script.lines)
   pub closing : frames_close (is_frame_open history) (begin_time history) (drop place script.lines) ≡ true
 
--- The last finished frame is known, and the points that were asked for are answered.
-pub record AnswersStand (setup : Setup) (history : List Entry) (last : LastFrame) (answers : List HitAnswer) : Type 0
-  where
-    pub number : last.frame.0 ≡ frames history
-    pub is_last : IsLast setup last
-    pub showing : last.reuse ≡ shown_states setup (to_finished history)
-    pub scaling : last.ratio ≡ ratio setup (to_finished history)
-    pub answering : answers ≡ answers_of setup history
-
 -- All readers stand at a place.
 pub record ReadersStand (script : Script) (place : ℕ) (history : List Entry) (readers : List Reader) : Type 0 where
   pub count : length readers ≡ script.setup.sessions
@@ -137,13 +124,6 @@ pub record EntersBeside (old new : Play) (number : ℕ) (text : DisplayLine) : T
   pub start : new.start ≡ old.start
   pub readers : new.readers ≡ old.readers
   pub store : AnswersLine old.board.setup number text old.store new.store
-
--- a line of the display that leaves frames and points alone
-abbrev pub is_alone : DisplayLine → Bool
-is_alone (display.Signal f) = true
-is_alone (display.Wait c) = true
-is_alone (display.Dpr ratio) = true
-is_alone _ = false
 
 -- the line of a session that a body is, and the line of the display
 abbrev pub session_text : Body → Option Line

@@ -1,15 +1,13 @@
 //! The last finished frame. A frame is composed without a joined tree, which points and
 //! probes want: what is shown is joined at the first of them, and stays for the next ones
 //! and for later frames before which neither a session nor the pixel ratio changed.
-ghost use Rattle.std.specs.Prelude.{◌≡◌, ◌+◌, ◌<◌, ◌^◌, ◌++◌, List, [], ◌∷◌, true, length, map};
+ghost use Rattle.std.specs.Prelude.{◌≡◌, ◌+◌, ◌<◌, ◌^◌, List, [], true, length};
 ghost use Rattle.std.specs.Prelude.{IfOk, IsTrue, OnErr, OnOk};
 ghost use Rattle.std.specs.List.{list_any};
 ghost use Rattle.std.specs.Arc.{arc_value};
 ghost use Rattle.flat_scene.specs.declared.frames.FrameOut.{FrameOut};
-ghost use Rattle.flat_scene.specs.declared.frames.Lost.{Lost};
 ghost use Rattle.flat_scene.specs.declared.setup.Setup.{Setup};
 ghost use Rattle.flat_scene.specs.declared.journal.Entry.{Entry};
-ghost use Rattle.flat_display.specs.Shows.{Shows};
 ghost use Rattle.flat_scene.specs.Frames.{setup_at};
 ghost use Rattle.flat_scene.specs.Setups.{at_ratio};
 ghost use Rattle.flat_scene.specs.Heads.{is_setup};
@@ -21,17 +19,13 @@ ghost use Rattle.flat_topology.specs.Shown.{Shown};
 ghost use Rattle.flat_rules.specs.Shown.{shown_states};
 ghost use Rattle.flat_report.specs.Report.{frame_at};
 ghost use Rattle.flat_core.specs.Views.{AreViewed};
-ghost use Rattle.flat_places.specs.declared.script.Script.{Script};
-ghost use Rattle.flat_play.specs.Keeping.{Keeps};
 ghost use Rattle.flat_core.specs.Starts.{IsStart};
 ghost use Rattle.flat_play.specs.Last.{IsJoined};
 ghost use Rattle.flat_rules.specs.Ends.{to_begin};
 ghost use Rattle.flat_play.specs.Probing.{answer_of};
 
-use crate::kept::Kept;
 use flat_base::{Actor, FrameNo, NoMemory};
 use flat_core::{FrameStart, shown_states_fit};
-use flat_display::{Display, DisplaySet};
 use flat_hit::Touchable;
 use flat_report::ProbeAnswer;
 use flat_reuse::{Drawing, Reuse};
@@ -195,23 +189,6 @@ impl LastFrame {
         self.ratio == start.ratio
     }
 
-    /// What is joined of it, taken out; nothing where a session is one of these, or this
-    /// isn't its pixel ratio. Where the others go on to show what they show, it is what
-    /// is joined of the next frame at this ratio.
-    pub fn take_joined(&mut self, changed: SessionSet, ratio: u32) -> Option<Arc<Touchable>>
-        ensures joined { (setup : Setup) (shown : Shown) → IsLast setup self.old → length shown
-            ≡ setup.sessions → AreSame changed self.old.reuse shown →
-            IsJoined (at_ratio ratio setup) shown result }
-        ensures stays { (setup : Setup) → IsLast setup self.old →
-            StaysLast setup self.old self.new }
-    {
-        let joined = self.joined.take();
-        if has_any(&changed) || self.ratio != ratio {
-            return None;
-        }
-        joined
-    }
-
     /// Who is hit at a point. What the sessions show is joined at the first one.
     pub fn hits(
         &mut self,
@@ -287,23 +264,5 @@ impl LastFrame {
         let shared = Arc::try_clone(&joined)?;
         self.joined = Some(joined);
         Ok(shared)
-    }
-}
-
-/// Shows the last frame that is kept to the displays that aren't lost.
-pub fn show_last(set: &mut DisplaySet, displays: &mut Vec<Box<dyn Display>>, kept: &Kept)
-    requires { length displays.old.items ≡ set.old.displays }
-    ensures shows { (script : Script) (before : List FrameOut) (frame : FrameOut) →
-        Keeps script kept.now (before ++ frame ∷ []) → (more : List Lost)
-        × (set.new ≡ record set.old { lost = set.old.lost ++ more })
-        × Shows (λ d. shown d) (λ d. faults d) frame set.old.lost 1 displays.old.items
-        displays.new.items more }
-    ensures same { set.new.displays ≡ set.old.displays }
-    ensures length { length displays.new.items ≡ length displays.old.items }
-    ensures kinds { map (λ d. d.vtable) displays.new.items
-        ≡ map (λ d. d.vtable) displays.old.items }
-{
-    if let Some(frame) = kept.last() {
-        set.show(displays, frame);
     }
 }

@@ -4,12 +4,11 @@
 //! A `FrameStore` (store.rt, specs/Storing) has what is kept of the frames: frame.rt composes
 //! the next one and answers points, kept.rt has what is written of them.
 //!
-//! Other crates may cite the lemmas of proofs/lemmas/: lines that leave frames alone (Alone),
-//! lines at their places (Places,
-//! Steps, Unread), what a line leaves (PlaySteps, Readers, DisplaySteps), what is shown
-//! (FramesShown) and to how many sessions (FewViews), what of it is joined (Joining), what
-//! displays have had (Seen), what a play begins with (Starting), and lists of which an
-//! item is set (Slots).
+//! Other crates may cite the lemmas of proofs/lemmas/: lines of the display beside its frames
+//! (Beside), lines at their places (Places, Steps, Unread), what a line leaves (PlaySteps,
+//! Readers, DisplaySteps), what is shown (FramesShown) and to how many sessions (FewViews),
+//! what of it is joined (Joining), what is kept of frames (Storing), what displays have had
+//! (Seen), what a play begins with (Starting), and lists of which an item is set (Slots).
 #![tactic(auto)]
 
 mod explaining;
@@ -24,7 +23,7 @@ mod touches;
 mod trees;
 
 pub use filming::play_filmed;
-pub use frame::{LastFrame, show_last};
+pub use frame::LastFrame;
 pub use kept::{Keeping, Kept};
 pub use play::Play;
 pub use run::{Played, let_go, open_board, play_explained, play_script, play_touched};

@@ -18,7 +18,7 @@ ghost use Rattle.flat_scene.specs.declared.frames.Lost.{Lost};
 ghost use Rattle.flat_scene.specs.declared.journal.Entry.{Entry};
 ghost use Rattle.flat_tree.specs.Trees.{tree_of};
 
-use crate::frame::{LastFrame, show_last};
+use crate::frame::LastFrame;
 use crate::kept::{Keeping, Kept};
 use flat_base::{Actor, FrameNo, NoMemory, TryCopy};
 use flat_core::FrameStart;
@@ -91,7 +91,9 @@ impl FrameStore {
         ensures kinds { map (λ d. d.vtable) displays.new.items
             ≡ map (λ d. d.vtable) displays.old.items }
     {
-        show_last(set, displays, &self.kept);
+        if let Some(frame) = self.kept.last() {
+            set.show(displays, frame);
+        }
     }
 
     /// Answers a line of the display by the last frame, if it asks for a point. Out of memory,

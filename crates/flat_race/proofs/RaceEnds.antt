@@ -24,10 +24,12 @@ module _ (r : Result Ended (Option Stopped)) (e : Ended) (is : r ≡ Ok e) where
       λ r. IfOk r (λ e. HaveEnded view script e.compositor.display e.seats e.film) in subst P is holds
 
   pub ok_seen : {D : Type 0} (told : D → Option (List FrameOut)) (count : D → ℕ) (setup : Setup) (olds news : List D)
-      → IfOk r (λ e. HaveSeen told count (finished setup (history_of e.compositor.display.seen)) (history_of e.compositor.display.seen) e.film.set.lost olds news)
+      → IfOk r (λ e. HaveSeen told count (finished setup (history_of e.compositor.display.seen)) (history_of e.compositor.display.seen) e.film.set.lost olds
+      news)
       → HaveSeen told count (finished setup (history_of e.compositor.display.seen)) (history_of e.compositor.display.seen) e.film.set.lost olds news
   ok_seen told count setup olds news holds = let P : Result Ended (Option Stopped) → Type 0 =
-      λ r. IfOk r (λ e. HaveSeen told count (finished setup (history_of e.compositor.display.seen)) (history_of e.compositor.display.seen) e.film.set.lost olds news) in
+      λ r. IfOk r (λ e. HaveSeen told count (finished setup (history_of e.compositor.display.seen)) (history_of e.compositor.display.seen) e.film.set.lost olds
+      news) in
       subst P is holds
 
   pub ok_kept : (keeping : Keeping) → IfOk r (λ e. keeping_of e.film.store.kept ≡ keeping) → keeping_of e.film.store.kept ≡ keeping

@@ -168,7 +168,7 @@ impl Reader {
 
     /// What a line makes, if the session isn't closed: its entry, or none. Its call
     /// waits for the next entry.
-    pub fn judge(&mut self, text: Line) -> Result<Option<Made>, NoMemory>
+    fn judge(&mut self, text: Line) -> Result<Option<Made>, NoMemory>
         requires stands { HasDraft self.old.draft }
         requires opened { self.old.draft.closed ≡ false }
         ensures rest { IfOk result (λ _. self.new ≡ with_line text self.old self.new.draft) }

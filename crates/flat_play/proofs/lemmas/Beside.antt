@@ -7,6 +7,7 @@ use Rattle.flat_scene.specs.declared.script.DisplayLine.TheVariants as display
 use Rattle.flat_scene.specs.History.{is_begin, is_end, is_finish}
 use Rattle.flat_scene.specs.Interleave.{entry_of_display}
 use Rattle.flat_core.specs.Machines.{Machine, MayCall, HasShare}
+use Rattle.flat_core.proofs.lemmas.Starts.{begins-none, ends-none, no-end}
 use Rattle.flat_core.specs.Starts.{is_beside}
 use Rattle.flat_rules.specs.Owned.{is_played_display}
 use Rattle.flat_playable.specs.Playable.{keeps_frames}
@@ -19,13 +20,22 @@ pub record LeavesFrames (text : DisplayLine) : Type 0 where
   pub no_end : is_end (entry_of_display text) ≡ false
   pub keeps : (is_open : Bool) (time : ℕ) (follows : Bool → ℕ → Bool) → keeps_frames is_open time (body.Display text) follows ≡ follows is_open time
 
+keeps_beside : (text : DisplayLine) → is_beside text ≡ true → (is_open : Bool) (time : ℕ) (follows : Bool → ℕ → Bool)
+    → keeps_frames is_open time (body.Display text) follows ≡ follows is_open time
+keeps_beside (display.Begin time) beside = absurd (cc)
+keeps_beside display.Done beside = absurd (cc)
+keeps_beside (display.Signal f) beside = λ is_open time follows. refl
+keeps_beside (display.Wait c) beside = λ is_open time follows. refl
+keeps_beside (display.Hit x y) beside = λ is_open time follows. refl
+keeps_beside (display.Dpr ratio) beside = λ is_open time follows. refl
+
 pub leaves_frames : (text : DisplayLine) → is_beside text ≡ true → LeavesFrames text
-leaves_frames (display.Begin time) beside = absurd (cc)
-leaves_frames display.Done beside = absurd (cc)
-leaves_frames (display.Signal f) beside = record { no_begin = refl; no_finish = refl; no_end = refl; keeps = λ o t follows. refl }
-leaves_frames (display.Wait c) beside = record { no_begin = refl; no_finish = refl; no_end = refl; keeps = λ o t follows. refl }
-leaves_frames (display.Hit x y) beside = record { no_begin = refl; no_finish = refl; no_end = refl; keeps = λ o t follows. refl }
-leaves_frames (display.Dpr ratio) beside = record { no_begin = refl; no_finish = refl; no_end = refl; keeps = λ o t follows. refl }
+leaves_frames text beside = record {
+  no_begin = begins-none text beside;
+  no_finish = ends-none text beside;
+  no_end = no-end text beside;
+  keeps = keeps_beside text beside;
+}
 
 pub may_beside : (m : Machine) (text : DisplayLine) → is_beside text ≡ true → HasShare m Display → is_played_display m.setup text ≡ true
     → MayCall m Display [] (entry_of_display text)

@@ -4,7 +4,6 @@ use Rattle.std.proofs.Common.{◌∙◌, subst, arith, append-nil}
 use Rattle.std.proofs.lemmas.Grind.{common_steps}
 use Rattle.flat_base.specs.declared.ids.Actor.TheVariants.{Display}
 use Rattle.flat_base.specs.declared.ids.FenceNo.{FenceNo}
-use Rattle.flat_base.specs.declared.ids.FrameNo.{FrameNo}
 use Rattle.flat_scene.specs.declared.frames.Hit as point
 use Rattle.flat_scene.specs.declared.journal.Entry.{Entry}
 use Rattle.flat_scene.specs.declared.journal.Kind.{Kind}
@@ -23,26 +22,20 @@ use Rattle.flat_scene.specs.declared.script.ScriptLine.{ScriptLine}
 use Rattle.flat_scene.specs.declared.setup.Setup.{Setup}
 use Rattle.flat_scene.specs.History.{◌▹◌, is_display, is_begin, is_finish, is_end}
 use Rattle.flat_scene.specs.Interleave.{display_lines, display_line, by_display, unread_lines, entry_of_display, FollowsDisplay}
-use Rattle.flat_scene.specs.Frames.{ratio}
-use Rattle.flat_scene.specs.Setups.{at_ratio, is_ratio}
+use Rattle.flat_scene.specs.Setups.{is_ratio}
 use Rattle.flat_core.specs.Machines.{Machine, MayCall, HasShare, entry_of}
 use Rattle.flat_rules.specs.Ends.{to_begin, to_finished}
 use Rattle.flat_rules.specs.Legal.{is_frame_open, begin_time, frames, display_owns, names_declared, display_may}
-use Rattle.flat_rules.specs.Shown.{shown_states}
-use Rattle.flat_topology.specs.Hits.{hit_list}
-use Rattle.flat_report.specs.declared.report.HitAnswer.{HitAnswer}
-use Rattle.flat_report.specs.Handed.{answer_to, answers_of}
+use Rattle.flat_report.specs.Handed.{answer_to}
 use Rattle.flat_report.specs.Report.{finished, frame_at, hits_at}
 use Rattle.flat_places.specs.declared.script.Script.{Script}
 use Rattle.flat_playable.specs.Playable.{frames_close, keeps_frames}
 use Rattle.flat_rules.specs.Owned.{is_played_display}
-use Rattle.flat_play.specs.Playing.{DisplayStands, IsSpent, lines_by, rest_shares, AnswersStand}
+use Rattle.flat_play.specs.Playing.{DisplayStands, IsSpent, lines_by, rest_shares}
 use Rattle.flat_play.specs.Storing.{FramesStand}
 use Rattle.flat_play.specs.declared.store.FrameStore.{FrameStore}
 use Rattle.flat_play.proofs.lemmas.Storing.{frames_beside}
 use Rattle.flat_core.specs.declared.start.FrameStart.{FrameStart}
-use Rattle.flat_play.specs.declared.frame.LastFrame.{LastFrame}
-use Rattle.flat_play.specs.Last.{IsLast, StaysLast}
 use Rattle.flat_play.proofs.Displayed.{display_more}
 use Rattle.flat_play.proofs.lemmas.Growing.{is_quiet}
 use Rattle.flat_play.proofs.lemmas.Steps.{At}
@@ -313,70 +306,6 @@ frames_session script old new start store (more e other quiet now) stands =
     subst (λ (h : List Entry). FramesStand script h start store) (sym now)
     (frames_beside script old start store e (quiet_begin e.kind quiet) (quiet_finish e.kind quiet)
     (quiet_answers e (frames old) (hits_at script.setup (to_finished old)) e.kind quiet) stands)
-
--- ---- answers
-
-module _ (setup : Setup) (old : List Entry) (last : LastFrame) (answers : List HitAnswer) (stands : AnswersStand setup old last answers) where
-  -- an entry that ends no frame and asks for no point
-  pub answers_beside : (e : Entry) → is_finish e.kind ≡ false → answer_to e (frames old) (hits_at setup (to_finished old)) e.kind ≡ []
-      → AnswersStand setup (old ▹ e) last answers
-  answers_beside e no_finish none =
-      let ended : to_finished (old ▹ e) ≡ to_finished old = rw no_finish refl in
-      let as_many : frames (old ▹ e) ≡ frames old = rw no_finish refl in
-      record {
-        number = stands.number ∙ sym as_many;
-        is_last = stands.is_last;
-        showing = stands.showing ∙ ap (shown_states setup) (sym ended);
-        scaling = stands.scaling ∙ ap (ratio setup) (sym ended);
-        answering = stands.answering ∙ sym (append-nil (answers_of setup old)) ∙ ap (λ (more : List HitAnswer). answers_of setup old ++ more) (sym none);
-      }
-
-  pub answers_session : (new : List Entry) → QuietStep old new → AnswersStand setup new last answers
-  answers_session new (same now) = let P : List Entry → Type 0 = λ h. AnswersStand setup h last answers in subst P (sym now) stands
-  answers_session new (more e other quiet now) =
-      let P : List Entry → Type 0 = λ h. AnswersStand setup h last answers in
-      subst P (sym now) (answers_beside e (quiet_finish e.kind quiet) (quiet_answers e (frames old) (hits_at setup (to_finished old)) e.kind quiet))
-
-  -- the end of a frame
-  pub answers_done : (n : ℕ) (then : LastFrame) → then.frame.0 ≡ suc (frames old) → IsLast setup then → then.reuse ≡ shown_states setup (to_begin old)
-      → then.ratio ≡ ratio setup (to_begin old)
-      → AnswersStand setup (old ▹ entry_of Display n [] Finish Done) then answers
-  answers_done n then number is showing scaling = record {
-    number = number;
-    is_last = is;
-    showing = showing;
-    scaling = scaling;
-    answering = stands.answering ∙ sym (append-nil (answers_of setup old));
-  }
-
-  -- what was joined plays no part
-  pub answers_stay : (then : LastFrame) → StaysLast setup last then → AnswersStand setup old then answers
-  answers_stay then stays = record {
-    number = ap (λ (f : FrameNo). f.0) stays.frame ∙ stands.number;
-    is_last = stays.is;
-    showing = stays.reuse ∙ stands.showing;
-    scaling = stays.ratio ∙ stands.scaling;
-    answering = stands.answering;
-  }
-
-  -- a point
-  pub answers_point : (n : ℕ) (x y : ℤ) (then : LastFrame) (all : List HitAnswer) → StaysLast setup last then
-      → all ≡ answers ++ (record { actor = Display; line = n; frame = last.frame; hits = hit_list (at_ratio last.ratio setup) last.reuse x y }) ∷ []
-      → AnswersStand setup (old ▹ entry_of Display n [] (Hit x y) Done) then all
-  answers_point n x y then all stays is =
-      let hits : hit_list (at_ratio last.ratio setup) last.reuse x y ≡ hits_at setup (to_finished old) x y =
-      λ i. hit_list (at_ratio (stands.scaling i) setup) (stands.showing i) x y in
-      let one : FrameNo → List point.Hit → List HitAnswer = λ f hs. (record { actor = Display; line = n; frame = f; hits = hs }) ∷ [] in
-      let number : last.frame ≡ record { 0 = frames old } = ap (λ (k : ℕ). let f : FrameNo = record { 0 = k } in f) stands.number in
-      record {
-        number = ap (λ (f : FrameNo). f.0) stays.frame ∙ stands.number;
-        is_last = stays.is;
-        showing = stays.reuse ∙ stands.showing;
-        scaling = stays.ratio ∙ stands.scaling;
-        answering = is ∙ ap (λ (given : List HitAnswer). given ++ one last.frame (hit_list (at_ratio last.ratio setup) last.reuse x y)) stands.answering
-            ∙ ap (λ (f : FrameNo). answers_of setup old ++ one f (hit_list (at_ratio last.ratio setup) last.reuse x y)) number
-            ∙ ap (λ (hs : List point.Hit). answers_of setup old ++ one (record { 0 = frames old }) hs) hits;
-      }
 
 pub may_hit : (m : Machine) (x y : ℤ) → HasShare m Display → MayCall m Display [] (Hit x y)
 may_hit m x y share = record {

@@ -1,14 +1,9 @@
 -- What is joined of a frame: where no session changed it is that of the next one too.
-use Rattle.std.proofs.Common.{◌≡◌, ℕ, zero, suc, ◌<◌, ◌≤◌, Bool, true, false, List, [], ◌∷◌, length, slice_index_or, None, refl, sym, ap, ◌∙◌, subst, arith}
+use Rattle.std.proofs.Common.{◌≡◌, ℕ, zero, suc, ◌<◌, ◌≤◌, Bool, true, false, List, [], ◌∷◌, length, slice_index_or, None, refl, arith}
 use Rattle.std.specs.List.{list_any}
 use Rattle.flat_scene.specs.declared.frames.SessionSet.{SessionSet}
-use Rattle.flat_scene.specs.declared.setup.Setup.{Setup}
-use Rattle.flat_scene.specs.Setups.{at_ratio}
 use Rattle.flat_topology.specs.Changes.{AreSame}
-use Rattle.flat_topology.specs.Fit.{FitsSetup}
 use Rattle.flat_topology.specs.Shown.{Shown}
-use Rattle.flat_play.specs.declared.frame.LastFrame.{LastFrame}
-use Rattle.flat_play.specs.Last.{IsJoined, IsLast, StaysLast}
 
 no-member : (has : List Bool) → list_any (λ b. b) has ≡ false → (i : ℕ) → slice_index_or has i false ≡ false
 no-member [] none i = refl
@@ -29,18 +24,3 @@ same-states (was ∷ old) (is ∷ new) long each =
 pub all-same : (changed : SessionSet) (old new : Shown) → list_any (λ b. b) changed.has ≡ false → length old ≡ length new → AreSame changed old new → old ≡ new
 all-same changed old new none long same =
     same-states old new long (λ i within. same (suc i) (let low : suc i ≤ length new = omega (arith, within) in low) (no-member changed.has none i))
-
--- what is joined of a frame is put back
-pub joined-again : (setup : Setup) (last new : LastFrame) → IsLast setup last → new.frame ≡ last.frame → new.reuse ≡ last.reuse → new.ratio ≡ last.ratio
-    → IsJoined (at_ratio last.ratio setup) last.reuse new.joined → StaysLast setup last new
-joined-again setup last new is number shows scales joined = record {
-  frame = number;
-  ratio = scales;
-  reuse = shows;
-  is = record {
-    count = ap length shows ∙ is.count;
-    fits = subst (FitsSetup setup) (sym shows) is.fits;
-    joined = subst (λ (r : ℕ). IsJoined (at_ratio r setup) new.reuse new.joined) (sym scales)
-        (subst (λ (shown : Shown). IsJoined (at_ratio last.ratio setup) shown new.joined) (sym shows) joined);
-  };
-}

@@ -17,8 +17,8 @@ use Rattle.flat_scene.specs.Interleave.{entry_of_display}
 use Rattle.flat_scene.specs.Setups.{at_ratio}
 use Rattle.flat_core.specs.declared.start.FrameStart.{FrameStart}
 use Rattle.flat_core.specs.Machines.{entry_of}
+use Rattle.flat_core.proofs.lemmas.Starts.{start-same}
 use Rattle.flat_core.specs.Starts.{IsStart, StartsFrame, is_beside}
-use Rattle.flat_core.specs.Views.{AreViewed}
 use Rattle.flat_rules.specs.Ends.{to_begin, to_finished}
 use Rattle.flat_rules.specs.Laws.{BegunStatesFit, EachSessionHasOneState}
 use Rattle.flat_rules.specs.Legal.{Legal, frames, is_frame_open}
@@ -63,14 +63,6 @@ finish_the_same setup old e no_finish none = record {
   answering = ap (λ (more : List HitAnswer). answers_of setup old ++ more) none ∙ append-nil (answers_of setup old);
 }
 
--- what starts a frame is that of the last begin
-pub starts_on : (setup : Setup) (old new : List Entry) (start : FrameStart) → to_begin new ≡ to_begin old → IsStart setup old start → IsStart setup new start
-starts_on setup old new start begun is = record {
-  shows = is.shows ∙ ap (shown_states setup) (sym begun);
-  scales = is.scales ∙ ap (ratio setup) (sym begun);
-  views = subst (λ (h : List Entry). AreViewed setup h start.with_view) (sym begun) is.views;
-}
-
 pub stored_on : (script : Script) (old new : List Entry) (store : FrameStore) → FinishTheSame script.setup old new → StoreStands script old store
     → StoreStands script new store
 stored_on script old new store same stands = record {
@@ -87,7 +79,7 @@ stored_on script old new store same stands = record {
 pub frames_on : (script : Script) (old new : List Entry) (start : FrameStart) (store : FrameStore) → to_begin new ≡ to_begin old
     → FinishTheSame script.setup old new → FramesStand script old start store → FramesStand script new start store
 frames_on script old new start store begun same stands = record {
-  starts = starts_on script.setup old new start begun stands.starts;
+  starts = start-same script.setup script.setup old new start refl (sym begun) stands.starts;
   same = stands.same;
   stored = stored_on script old new store same stands.stored;
 }
@@ -146,7 +138,7 @@ module _ (script : Script) (old : List Entry) (start : FrameStart) (store : Fram
       let all : finished script.setup (old ▹ e) ≡ finished script.setup old ++ frame_at script.setup (frames old + 1) (to_begin old) ∷ [] =
       ap (λ (k : ℕ). finished script.setup old ++ frame_at script.setup k (to_begin old) ∷ []) (sym number) in
       record {
-        starts = starts_on script.setup old (old ▹ e) start refl stands.starts;
+        starts = start-same script.setup script.setup old (old ▹ e) start refl refl stands.starts;
         same = λ s within none. ap (λ (states : Shown). state_of states s) finishes.last.shows;
         stored = record {
           keeps = keeps_same script then.kept then.kept (finished script.setup old ++ frame_at script.setup (frames old + 1) (to_begin old) ∷ [])
@@ -193,7 +185,7 @@ module _ (script : Script) (old : List Entry) (start : FrameStart) (store : Fram
       let number : last.frame ≡ record { 0 = frames old } = ap (λ (k : ℕ). let f : FrameNo = record { 0 = k } in f) ends.number in
       let one : FrameNo → List point.Hit → List HitAnswer = λ f hs. (record { actor = Display; line = n; frame = f; hits = hs }) ∷ [] in
       record {
-        starts = starts_on setup old (old ▹ e) start refl stands.starts;
+        starts = start-same setup setup old (old ▹ e) start refl refl stands.starts;
         same = subst (λ (was : Shown). AreSame start.changed was start.shown) (sym answers.last.reuse) stands.same;
         stored = record {
           keeps = keeps_same script store.kept then.kept (finished setup old) (finished setup (old ▹ e)) answers.kept (append-nil (finished setup old))
@@ -231,5 +223,6 @@ module _ (script : Script) (old : List Entry) (start : FrameStart) (store : Fram
   frames_line n (display.Dpr to) reply then beside answers = stays_beside n (display.Dpr to) reply then answers refl refl refl
 
 -- what stands of the last frame is all that stands of the store
-pub stays_stored : (setup : Setup) (store : FrameStore) (last : LastFrame) → StaysLast setup store.last last → StaysStored setup store (record store { last = last })
+pub stays_stored : (setup : Setup) (store : FrameStore) (last : LastFrame) → StaysLast setup store.last last
+    → StaysStored setup store (record store { last = last })
 stays_stored setup store last stays = record { kept = refl; last = stays; points = refl }

@@ -109,7 +109,8 @@ pub returns-in_err-direct_next-clause-stopped : goal.returns-in_err-direct_next-
 returns-in_err-direct_next-clause-stopped g c =
     let was = c.loop-place.invariant in
     let stays = c.in_err-direct_next.ensures.stays in
-    MatchResult-from_err _ _ _ c.from_residual.ensures.0 (λ why. stopped_at _ _ c.args.lent.now.script.now c.args.lent.now.stage.now c.loop-place.place c.loop-place.compositor c.direct_next.new.compositor
+    MatchResult-from_err _ _ _ c.from_residual.ensures.0
+    (λ why. stopped_at _ _ c.args.lent.now.script.now c.args.lent.now.stage.now c.loop-place.place c.loop-place.compositor c.direct_next.new.compositor
     stays.compositor c.loop-place.film was.stands _ _ _ _ stays.displays was.seen)
 
 pub returns-in_err-direct_next-clause-kinds : goal.returns-in_err-direct_next-clause-kinds
@@ -122,10 +123,13 @@ pub returns-in_err-end_line-clause-stopped : goal.returns-in_err-end_line-clause
 returns-in_err-end_line-clause-stopped g c =
     let was = c.loop-place.invariant in
     let now = c.in_ok-direct_next.ensures in
-    MatchResult-from_err _ _ _ c.from_residual-in_err-end_line.ensures.0 (λ why. stopped_at _ _ c.args.lent.now.script.now c.args.lent.now.stage.now (c.loop-place.place + 1) c.direct_next.new.compositor c.direct_next.new.compositor refl
+    MatchResult-from_err _ _ _ c.from_residual-in_err-end_line.ensures.0
+    (λ why. stopped_at _ _ c.args.lent.now.script.now c.args.lent.now.stage.now (c.loop-place.place + 1) c.direct_next.new.compositor
+    c.direct_next.new.compositor refl
     c.direct_next.new.film now.stands _ _ _ _ refl
     (seen_line _ _ c.args.lent.now.script.now.setup _ _ (history_of c.loop-place.compositor.display.seen)
-    (history_of c.direct_next.new.compositor.display.seen) refl refl _ _ _ _ _ (omega (arith, was.number, was.same, c.requires.few)) now.directs.shown was.seen))
+    (history_of c.direct_next.new.compositor.display.seen) refl refl _ _ _ _ _ (omega (arith, was.number, was.same, c.requires.few)) now.directs.shown
+    was.seen))
 
 pub returns-in_err-end_line-clause-kinds : goal.returns-in_err-end_line-clause-kinds
 returns-in_err-end_line-clause-kinds g c = c.direct_next.ensures.displays.kinds ∙ c.loop-place.invariant.kinds

@@ -177,7 +177,8 @@ returns-in_ok-finish-in-Done-clause-stands g c =
     let x : ScriptLine = record { number = c.args.number; actor = Display; body = body.Display c.args.text } in
     let at : At script c.args.place x = at_place script c.args.place x c.requires.playable c.requires.line in
     let is : x.body ≡ body.Display display.Done = ap (λ t. body.Display t) c.in-Done.is in
-    let finishes = c.in_ok-finish-in-Done.ensures.finishes (history_of c.args.compositor.now.display.seen) c.requires.stands.frames.stored c.requires.stands.frames.starts in
+    let finishes = c.in_ok-finish-in-Done.ensures.finishes (history_of c.args.compositor.now.display.seen) c.requires.stands.frames.stored
+    c.requires.stands.frames.starts in
     line_finishes script view c.args.place x at refl c.requires.of c.args.compositor.now c.finish.new.compositor c.args.film.now c.requires.stands is
     c.in_ok-finish-in-Done.ensures.enters c.finish.new.film finishes.next
 
@@ -188,7 +189,8 @@ returns-in_ok-finish-in-Done-clause-directs g c =
     let x : ScriptLine = record { number = c.args.number; actor = Display; body = body.Display c.args.text } in
     let at : At script c.args.place x = at_place script c.args.place x c.requires.playable c.requires.line in
     let is : x.body ≡ body.Display display.Done = ap (λ t. body.Display t) c.in-Done.is in
-    let finishes = c.in_ok-finish-in-Done.ensures.finishes (history_of c.args.compositor.now.display.seen) c.requires.stands.frames.stored c.requires.stands.frames.starts in
+    let finishes = c.in_ok-finish-in-Done.ensures.finishes (history_of c.args.compositor.now.display.seen) c.requires.stands.frames.stored
+    c.requires.stands.frames.starts in
     let all = finished_then script view c.args.place x at refl c.requires.of c.args.compositor.now c.finish.new.compositor c.args.film.now c.requires.stands
     c.in_ok-finish-in-Done.ensures.enters in
     record { finishes = all.1; shown = shown_as _ _ _ _ _ _ _ _ _ _ refl all.0 finishes.shown; keeping = finishes.next.kept.same }
@@ -204,14 +206,16 @@ returns-in_ok-enter_beside-in_default g c =
     let x : ScriptLine = record { number = c.args.number; actor = Display; body = body.Display c.args.text } in
     let at : At script c.args.place x = at_place script c.args.place x c.requires.playable c.requires.line in
     let beside : is_beside c.args.text ≡ true = search rules in
-    let e : EntersBeside (setup_of view) c.args.number c.args.text c.args.compositor.now c.enter_beside.new.compositor = c.in_ok-enter_beside-in_default.ensures.enters in
+    let e : EntersBeside (setup_of view) c.args.number c.args.text c.args.compositor.now c.enter_beside.new.compositor =
+    c.in_ok-enter_beside-in_default.ensures.enters in
     let there = looked_there _ _ _ _ c.requires.of.setup e.looks in
     let looked = compositor_looks script view c.args.place c.args.compositor.now e.looked c.args.film.now there c.requires.stands in
     let still = finished_still script view c.args.place x at refl c.requires.of e.looked c.enter_beside.new.compositor c.args.film.now looked
     (entry_of_display c.args.text) e.reply (leaves_frames c.args.text beside).no_finish e.enters in
     let seen = looked_beside script view c.args.place c.args.compositor.now e.looked c.args.film.now there c.requires.stands in
     record {
-      stands = line_beside script view c.args.place x at refl c.requires.of e.looked c.enter_beside.new.compositor c.args.film.now looked c.args.text beside refl
+      stands = line_beside script view c.args.place x at refl c.requires.of e.looked c.enter_beside.new.compositor c.args.film.now looked c.args.text beside
+          refl
           e.reply c.enter_beside.new.film e.enters e.keeps c.in_ok-enter_beside-in_default.ensures.answers;
       directs = record {
         finishes = finishes_then script.setup (history_of c.args.compositor.now.display.seen) (history_of e.looked.display.seen)

@@ -20,7 +20,8 @@ returns c =
     let its = run script c.requires.playable guided whole c.frames_are_seen.ensures c.journal.ensures.legal lost
     (whole-loss script c.args.text.now history along c.requires.stopped) c.requires.stopped.stopped.losses.1 in
     let report_is = c.in_ok-report.ensures
-    ∙ ap (λ (ls : List Lost). handed_report script journal.entries.items journal.posts.items c.into_texts-texts.result.texts.items ls guided.screen.store.answers
+    ∙ ap (λ (ls : List Lost). handed_report script journal.entries.items journal.posts.items c.into_texts-texts.result.texts.items ls
+    guided.screen.store.answers
     c.as_slice-2.result.now) c.as_slice.ensures
     ∙ handed script c.requires.playable guided whole c.handed_is_report.ensures c.into_texts-texts.result c.into_texts-texts.ensures lost journal.entries.items
     journal.posts.items c.as_slice-2.result.now c.as_slice-2.ensures.value c.journal-2.ensures.entries c.journal-2.ensures.posts in

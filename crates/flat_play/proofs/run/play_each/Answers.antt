@@ -99,7 +99,8 @@ loop-place-preserved g c =
           let A : ℕ → Type 0 = λ n. AreAnswered script.setup new n c.args.lines.now c.in_ok-left.left.now c.answer_upto.new.found.items in
           subst A (sym at.last)
           (answered-more script.setup _ _ _ _ _ (at_ratio c.loop-place.play.store.last.ratio script.setup) _ was.answered
-          (scaled script.setup (to_finished old) c.loop-place.play.store.last.ratio was.stands.frames.stored.ends.scales) was.stands.frames.stored.ends.shows x.number _ _ _ at.above
+          (scaled script.setup (to_finished old) c.loop-place.play.store.last.ratio was.stands.frames.stored.ends.scales) was.stands.frames.stored.ends.shows
+          x.number _ _ _ at.above
           c.in_ok-left.ensures.answers on);
       asked =
           probes-on script (place + 1) x.number old new c.answer_line.new.answers.items on

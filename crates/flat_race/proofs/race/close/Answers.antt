@@ -32,7 +32,8 @@ returns-clause-frames c =
     let made = c.close-board.ensures in
     let closed : IsClosed c.args.ended.compositor.display c.args.ended.seats c.close-board.result =
     record { display = made.compositor; sessions = made.sessions; legal = made.legal } in
-    same_frames script c.args.stage (length script.lines) c.args.ended.compositor.display c.requires.ended.directed c.args.ended.seats true c.requires.ended.back
+    same_frames script c.args.stage (length script.lines) c.args.ended.compositor.display c.requires.ended.directed c.args.ended.seats true
+    c.requires.ended.back
     c.close-board.result closed (made.fixed.0 ∙ c.requires.of.setup) (few_sessions script.setup (setup_is script c.requires.playable))
 
 pub returns-clause-probes : goal.returns-clause-probes

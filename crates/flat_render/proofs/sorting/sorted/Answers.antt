@@ -23,7 +23,8 @@ loop-k-preserved c =
     c.as_mut_slice.ensures.value c.in_ok-note.ensures in
     subst (λ (lists : List (Vec ℕ Global)). AreParts c.args.grid.now c.args.row c.args.items.now (take (c.loop-k.k + 1) c.args.places.now) lists)
     (sym (with_items_is c.loop-k.lists c.note.new.lists (c.note.auto.lists ∙ c.as_mut_slice.ensures.len)))
-    (subst (λ (all : List ℕ). AreParts c.args.grid.now c.args.row c.args.items.now all c.note.new.lists) (sym (take_more c.args.places.now c.loop-k.k 0 c.loop-k-test.true))
+    (subst (λ (all : List ℕ). AreParts c.args.grid.now c.args.row c.args.items.now all c.note.new.lists)
+    (sym (take_more c.args.places.now c.loop-k.k 0 c.loop-k-test.true))
     (parts-more c.args.grid.now c.args.row n c.columns_of-columns.result.from c.columns_of-columns.result.upto c.args.items.now
     (take c.loop-k.k c.args.places.now) c.loop-k.lists.items c.note.new.lists d
     small (c.requires.items n d small)

@@ -27,7 +27,12 @@ loop-n-preserved c =
           (λ row k px py there column right top bottom beyond.
           let low : row < c.args.grid.now.down = omega (arith, there, c.loop-n.invariant.count) in
           not-covered c.args.items.now c.args.list.now c.loop-n.n d _ px py c.requires.prepared c.loop-n-test.true
-          (omega (arith, right, row_fits k c.args.grid.now.tile_w c.args.grid.now.across c.args.grid.now.tile_w column (omega arith), c.requires.grid.most_right))
+          (omega (
+            arith,
+            right,
+            row_fits k c.args.grid.now.tile_w c.args.grid.now.across c.args.grid.now.tile_w column (omega arith),
+            c.requires.grid.most_right,
+          ))
           (omega (
             arith,
             bottom,

@@ -55,7 +55,8 @@ returns-in_ok-answer-in-Some-clause-heeds c =
     let due : c.args.is_due ≡ true = search rules in
     line-answered script guided c.args.probe place c.requires.stands c.at-place.ensures
     (has_answers script guided c.args.probe c.requires.stands c.requires.probe) x at c.in-Some.asked (sym c.asked_here.ensures ∙ c.in-Some.is)
-    (at_ratio guided.screen.store.last.ratio script.setup) guided.screen.store.last.reuse c.answer.new.self.answers.items c.in_ok-answer-in-Some.ensures.answers c.args.is_due
+    (at_ratio guided.screen.store.last.ratio script.setup) guided.screen.store.last.reuse c.answer.new.self.answers.items c.in_ok-answer-in-Some.ensures.answers
+    c.args.is_due
     due
 
 pub returns-in_ok-answer-in-Some-clause-others : goal.returns-in_ok-answer-in-Some-clause-others

@@ -55,7 +55,8 @@ invariant_of-result c =
     let L : Setup → Type 0 = λ s. IsLast s c.in_ok-last.last in
     let same : c.in_ok-kept.kept ≡ setup_of view = kept ∙ sym setup_is in
     let k = c.in_ok-keeper.ensures in
-    opened_live view c.in_ok-keeper.keeper c.in_ok-last.last c.in_ok-stage.compositor c.in_ok-stage.ensures.compositor (sym (k.stage ∙ c.in_ok-stage-2.ensures.ok))
+    opened_live view c.in_ok-keeper.keeper c.in_ok-last.last c.in_ok-stage.compositor c.in_ok-stage.ensures.compositor
+    (sym (k.stage ∙ c.in_ok-stage-2.ensures.ok))
     (k.setup ∙ c.in_ok-setup.ensures.ok ∙ same)
     (subst G (sym setup_is) good.good) (k.share ∙ sym first ∙ ap (λ (xs : List ℕ). slice_index xs 0) (shared ∙ sym shares_are)) k.few k.made k.time k.frames
     k.shown
@@ -75,7 +76,8 @@ returns-clause-opened c =
     record {
       setup = ap setup_of own ∙ c.in_ok-stage.ensures.setup ∙ ap (λ (m : Machine). m.setup) c.in_ok-board.ensures ∙ c.into_parts-setup.ensures.setup;
       shares = ap shares_of own ∙ c.in_ok-stage.ensures.shares ∙ ap (λ (m : Machine). m.shares) c.in_ok-board.ensures ∙ c.into_parts-setup.ensures.shares;
-      display = c.in_ok-stage.ensures.compositor.display ∙ ap (λ (v : StageView). let d : DisplayView = record { stage = v; seen = []; mine = [] } in d) (sym own);
+      display = c.in_ok-stage.ensures.compositor.display ∙ ap (λ (v : StageView). let d : DisplayView = record { stage = v; seen = []; mine = [] } in d)
+          (sym own);
       home = subst N sessions (subst V (sym own) c.in_ok-stage.ensures.sessions);
       waiting = λ s declared. waits-first c.in_ok-handed.handed.items c.args.setup.setup.sessions s first declared;
     }

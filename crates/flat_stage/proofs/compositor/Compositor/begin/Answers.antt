@@ -89,7 +89,8 @@ returns-clause-enters g c =
     } in
     let numbered = c.self.invariant.display.numbered in
     let V : CompositorView → Type 0 = λ v. DisplayEnters c.args.number (Begin c.args.time) Done v.display (display_view c.give.new.seat) in
-    subst V c.self.view_is (display_enters seat turned board turn c.begin.new.self c.args.number (Begin c.args.time) Done c.begin.ensures.entry numbered c.give.new.seat c.journal-after.ensures.legal c.give.ensures.seat c.give.ensures.mine)
+    subst V c.self.view_is (display_enters seat turned board turn c.begin.new.self c.args.number (Begin c.args.time) Done c.begin.ensures.entry numbered
+    c.give.new.seat c.journal-after.ensures.legal c.give.ensures.seat c.give.ensures.mine)
 
 pub invariant_of-self : goal.invariant_of-self
 invariant_of-self g c =
@@ -105,7 +106,8 @@ invariant_of-self g c =
     } in
     let numbered = c.self.invariant.display.numbered in
     let opens : is_frame_open c.begin.new.self.history ≡ true = ap (λ (m : Machine). is_frame_open m.history) c.begin.ensures.entry in
-    compositor_after seat turned board turn c.begin.new.self c.args.number (Begin c.args.time) Done c.begin.ensures.entry numbered c.give.new.seat c.journal-after.ensures.legal c.give.ensures.seat c.give.ensures.mine true c.begin.new.start opens c.begin.ensures.starts.start
+    compositor_after seat turned board turn c.begin.new.self c.args.number (Begin c.args.time) Done c.begin.ensures.entry numbered c.give.new.seat
+    c.journal-after.ensures.legal c.give.ensures.seat c.give.ensures.mine true c.begin.new.start opens c.begin.ensures.starts.start
 
 pub returns-clause-starts : goal.returns-clause-starts
 returns-clause-starts g c =
@@ -121,4 +123,5 @@ returns-clause-starts g c =
     } in
     let numbered = c.self.invariant.display.numbered in
     let V : CompositorView → Type 0 = λ v. StartsFrame (setup_of v.display.stage) (history_of c.give.new.seat.seen) v.start c.begin.new.start in
-    subst V c.self.view_is (starts_then seat turned board turn c.begin.new.self c.args.number (Begin c.args.time) Done c.begin.ensures.entry numbered c.give.new.seat c.journal-after.ensures.legal c.give.ensures.seat c.give.ensures.mine c.self.inside.start c.begin.new.start c.begin.ensures.starts)
+    subst V c.self.view_is (starts_then seat turned board turn c.begin.new.self c.args.number (Begin c.args.time) Done c.begin.ensures.entry numbered
+    c.give.new.seat c.journal-after.ensures.legal c.give.ensures.seat c.give.ensures.mine c.self.inside.start c.begin.new.start c.begin.ensures.starts)

@@ -35,7 +35,8 @@ done-frame-requires g c =
     let opened : is_open ≡ true = ap (λ (v : CompositorView). v.is_open) c.self.view_is ∙ c.requires.open in
     let R : CompositorView → Type 0 = λ v. HasDisplayRoom v.display in
     let room = subst R (sym c.self.view_is) c.requires.room in
-    may_display board Finish (has_share seat turned board turn Display numbered room) refl (open_now seat turned board turn legal is_open start is ∙ opened) refl
+    may_display board Finish (has_share seat turned board turn Display numbered room) refl (open_now seat turned board turn legal is_open start is ∙ opened)
+    refl
 
 pub give-requires-clause-longer : goal.give-requires-clause-longer
 give-requires-clause-longer g c =
@@ -67,7 +68,8 @@ returns-clause-ends g c =
     let numbered = c.self.invariant.display.numbered in
     let V : CompositorView → Type 0 = λ v. DisplayEnters c.args.number (Finish) Done v.display (display_view c.give.new.seat) in
     record {
-      enters = subst V c.self.view_is (display_enters seat turned board turn c.done-frame.new.self c.args.number (Finish) Done c.done-frame.ensures.entry numbered c.give.new.seat c.journal-after.ensures.legal c.give.ensures.seat c.give.ensures.mine);
+      enters = subst V c.self.view_is (display_enters seat turned board turn c.done-frame.new.self c.args.number (Finish) Done c.done-frame.ensures.entry
+          numbered c.give.new.seat c.journal-after.ensures.legal c.give.ensures.seat c.give.ensures.mine);
       start = ap (λ (v : CompositorView). v.start) c.self.view_is;
       closed = refl;
     }
@@ -90,8 +92,10 @@ invariant_of-self g c =
     let is_open = c.self.inside.is_open in
     let start = c.self.inside.start in
     let ended : is_frame_open c.done-frame.new.self.history ≡ false = ap (λ (m : Machine). is_frame_open m.history) c.done-frame.ensures.entry in
-    compositor_after seat turned board turn c.done-frame.new.self c.args.number (Finish) Done c.done-frame.ensures.entry numbered c.give.new.seat c.journal-after.ensures.legal c.give.ensures.seat c.give.ensures.mine false start ended
-    (start_quiet seat turned board turn c.done-frame.new.self c.args.number (Finish) Done c.done-frame.ensures.entry numbered c.give.new.seat c.journal-after.ensures.legal c.give.ensures.seat c.give.ensures.mine start refl (start_now seat turned board turn legal is_open start is))
+    compositor_after seat turned board turn c.done-frame.new.self c.args.number (Finish) Done c.done-frame.ensures.entry numbered c.give.new.seat
+    c.journal-after.ensures.legal c.give.ensures.seat c.give.ensures.mine false start ended
+    (start_quiet seat turned board turn c.done-frame.new.self c.args.number (Finish) Done c.done-frame.ensures.entry numbered c.give.new.seat
+    c.journal-after.ensures.legal c.give.ensures.seat c.give.ensures.mine start refl (start_now seat turned board turn legal is_open start is))
 
 pub returns-clause-frame : goal.returns-clause-frame
 returns-clause-frame g c =
@@ -106,4 +110,5 @@ returns-clause-frame g c =
           (c.stage.view_is ∙ sym (ap (λ (v : CompositorView). v.display.stage) c.self.view_is ∙ c.requires.own));
     } in
     let numbered = c.self.invariant.display.numbered in
-    c.done-frame.ensures.frame ∙ ap frames (sym (then seat turned board turn c.done-frame.new.self c.args.number (Finish) Done c.done-frame.ensures.entry numbered c.give.new.seat c.journal-after.ensures.legal c.give.ensures.seat c.give.ensures.mine))
+    c.done-frame.ensures.frame ∙ ap frames (sym (then seat turned board turn c.done-frame.new.self c.args.number (Finish) Done c.done-frame.ensures.entry
+    numbered c.give.new.seat c.journal-after.ensures.legal c.give.ensures.seat c.give.ensures.mine))

@@ -7,7 +7,8 @@ use Rattle.flat_rules.specs.Legal.{names_declared}
 use Rattle.flat_stage.specs.Displays.{CompositorView, DisplayEnters, HasDisplayRoom, display_view}
 use Rattle.flat_stage.specs.Seats.{Seat, StageView, setup_of}
 use Rattle.flat_stage.proofs.Composing.{compositor_quiet, display_enters}
-use Rattle.flat_stage.proofs.Displaying.{may_beside, begins_none, ends_none}
+use Rattle.flat_core.proofs.lemmas.Starts.{begins-none, ends-none}
+use Rattle.flat_stage.proofs.Displaying.{may_beside}
 use Rattle.flat_stage.proofs.Turns.{HasTurn, has_share, goes_on, setup_is}
 use Rattle.flat_stage.proofs.compositor.Compositor.enter.Goals as goal
 
@@ -48,7 +49,8 @@ give-requires-clause-longer g c =
           (c.stage.view_is ∙ sym (ap (λ (v : CompositorView). v.display.stage) c.self.view_is ∙ c.requires.own));
     } in
     let numbered = c.self.invariant.display.numbered in
-    goes_on seat turned board turn c.enter_display-reply.new.self Display c.args.number [] (entry_of_display c.args.text) c.enter_display-reply.result c.enter_display-reply.ensures.entry numbered
+    goes_on seat turned board turn c.enter_display-reply.new.self Display c.args.number [] (entry_of_display c.args.text) c.enter_display-reply.result
+    c.enter_display-reply.ensures.entry numbered
 
 pub returns-clause-enters : goal.returns-clause-enters
 returns-clause-enters g c =
@@ -63,8 +65,11 @@ returns-clause-enters g c =
           (c.stage.view_is ∙ sym (ap (λ (v : CompositorView). v.display.stage) c.self.view_is ∙ c.requires.own));
     } in
     let numbered = c.self.invariant.display.numbered in
-    let V : CompositorView → Type 0 = λ v. DisplayEnters c.args.number (entry_of_display c.args.text) c.enter_display-reply.result v.display (display_view c.give.new.seat) in
-    subst V c.self.view_is (display_enters seat turned board turn c.enter_display-reply.new.self c.args.number (entry_of_display c.args.text) c.enter_display-reply.result c.enter_display-reply.ensures.entry numbered c.give.new.seat c.journal-after.ensures.legal c.give.ensures.seat c.give.ensures.mine)
+    let V : CompositorView → Type 0 = λ v. DisplayEnters c.args.number (entry_of_display c.args.text) c.enter_display-reply.result v.display
+    (display_view c.give.new.seat) in
+    subst V c.self.view_is (display_enters seat turned board turn c.enter_display-reply.new.self c.args.number (entry_of_display c.args.text)
+    c.enter_display-reply.result c.enter_display-reply.ensures.entry numbered c.give.new.seat c.journal-after.ensures.legal c.give.ensures.seat
+    c.give.ensures.mine)
 
 pub invariant_of-self : goal.invariant_of-self
 invariant_of-self g c =
@@ -79,5 +84,7 @@ invariant_of-self g c =
           (c.stage.view_is ∙ sym (ap (λ (v : CompositorView). v.display.stage) c.self.view_is ∙ c.requires.own));
     } in
     let numbered = c.self.invariant.display.numbered in
-    compositor_quiet seat turned board turn c.enter_display-reply.new.self c.args.number (entry_of_display c.args.text) c.enter_display-reply.result c.enter_display-reply.ensures.entry numbered c.give.new.seat c.journal-after.ensures.legal c.give.ensures.seat c.give.ensures.mine c.self.inside.is_open c.self.inside.start c.journal-before.ensures.legal
-    (begins_none c.args.text c.requires.beside) (ends_none c.args.text c.requires.beside) c.self.invariant
+    compositor_quiet seat turned board turn c.enter_display-reply.new.self c.args.number (entry_of_display c.args.text) c.enter_display-reply.result
+    c.enter_display-reply.ensures.entry numbered c.give.new.seat c.journal-after.ensures.legal c.give.ensures.seat c.give.ensures.mine c.self.inside.is_open
+    c.self.inside.start c.journal-before.ensures.legal
+    (begins-none c.args.text c.requires.beside) (ends-none c.args.text c.requires.beside) c.self.invariant

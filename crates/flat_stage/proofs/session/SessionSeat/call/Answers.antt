@@ -57,7 +57,8 @@ returns-in-Refused-clause-goes_on g c =
     let P : Prepared → Type 0 = Prepares (setup_of seat.lock) (history_of seat.mine) c.args.text reader new in
     let is = subst P c.in-Refused.is (c.in_ok-reply.ensures.prepares (setup_of seat.lock) (history_of seat.mine) stands played) in
     let V : SessionView → Type 0 = λ v. IsReadAlone c.args.text c.in-Refused.reply v (session_view seat new) in
-    goes_edited c.args.text c.args.self.now (session_view seat new) (Read c.in-Refused.reply) (subst V c.self.view_is (read_closed seat reader new c.args.text c.in-Refused.reply is.closed is.answer is.rest))
+    goes_edited c.args.text c.args.self.now (session_view seat new) (Read c.in-Refused.reply)
+    (subst V c.self.view_is (read_closed seat reader new c.args.text c.in-Refused.reply is.closed is.answer is.rest))
 
 pub returns-in-Refused-clause-follows : goal.returns-in-Refused-clause-follows
 returns-in-Refused-clause-follows g c = λ given has.
@@ -104,7 +105,8 @@ returns-in-Waits-clause-goes_on g c =
     let P : Prepared → Type 0 = Prepares (setup_of seat.lock) (history_of seat.mine) c.args.text reader new in
     let is = subst P c.in-Waits.is (c.in_ok-reply.ensures.prepares (setup_of seat.lock) (history_of seat.mine) stands played) in
     let V : SessionView → Type 0 = λ v. IsReadAlone c.args.text c.in-Waits.reply v (session_view seat new) in
-    goes_edited c.args.text c.args.self.now (session_view seat new) (Read c.in-Waits.reply) (subst V c.self.view_is (waiting_alone seat reader new c.args.text c.in-Waits.reply stands is))
+    goes_edited c.args.text c.args.self.now (session_view seat new) (Read c.in-Waits.reply)
+    (subst V c.self.view_is (waiting_alone seat reader new c.args.text c.in-Waits.reply stands is))
 
 pub returns-in-Waits-clause-follows : goal.returns-in-Waits-clause-follows
 returns-in-Waits-clause-follows g c = λ given has.

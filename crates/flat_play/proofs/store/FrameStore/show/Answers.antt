@@ -2,7 +2,7 @@ use Rattle.std.proofs.Common.{◌≡◌, Some, [], ◌∷◌, ◌++◌, ◌∙�
 use Rattle.flat_scene.specs.declared.frames.FrameOut.{FrameOut}
 use Rattle.flat_page.proofs.lemmas.LastItems.{last-more}
 use Rattle.flat_play.proofs.lemmas.Seen.{shows_same}
-use Rattle.flat_play.proofs.frame.show_last.Goals as goal
+use Rattle.flat_play.proofs.store.FrameStore.show.Goals as goal
 
 same-frame : (one other : FrameOut) → Some one ≡ Some other → one ≡ other
 same-frame one other is = cc
