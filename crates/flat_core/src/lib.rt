@@ -5,7 +5,8 @@
 //! the board and what it tells; what makes entries stands in board/, by what is entered,
 //! and ends in entries.rt, which notes and logs;
 //! begins.rt and dones.rt go through all sessions at a frame, polls.rt through the events.
-//! What a frame starts with is a `FrameStart` (start.rt, specs/Starts).
+//! What a frame starts with is a `FrameStart` (start.rt, specs/Starts); proofs/lemmas tells other
+//! crates what leaves it as it is.
 #![tactic(auto)]
 
 mod begins;

@@ -13,7 +13,7 @@ ghost use Rattle.flat_texts.specs.Filming.{IsFilm};
 
 use crate::explaining::Explaining;
 use crate::kept::Keeping;
-use crate::run::{Played, play_whole};
+use crate::whole::{Played, play_whole};
 use flat_base::NoMemory;
 use flat_display::Display;
 use flat_places::Script;

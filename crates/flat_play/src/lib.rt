@@ -1,6 +1,7 @@
 //! The play of a script in written order: its lines are read over one board, its frames
 //! composed and shown to displays, and lines of pointers and probes answered in between.
-//! It keeps `HasPlayed` (specs/Playing): run.rt goes through the lines, play.rt plays each.
+//! It keeps `HasPlayed` (specs/Playing): whole.rt runs a script, run.rt goes through its lines,
+//! play.rt plays each.
 //! A `FrameStore` (store.rt, specs/Storing) has what is kept of the frames: frame.rt composes
 //! the next one and answers points, kept.rt has what is written of them.
 //!
@@ -21,10 +22,12 @@ mod run;
 mod store;
 mod touches;
 mod trees;
+mod whole;
 
 pub use filming::play_filmed;
 pub use frame::LastFrame;
 pub use kept::{Keeping, Kept};
 pub use play::Play;
-pub use run::{Played, let_go, open_board, play_explained, play_script, play_touched};
+pub use run::open_board;
 pub use store::FrameStore;
+pub use whole::{Played, let_go, play_explained, play_script, play_touched};

@@ -5,7 +5,7 @@ use Rattle.flat_play.proofs.Touching.{answered-ended}
 use Rattle.flat_play.proofs.lemmas.Begun.{none-begun}
 use Rattle.flat_play.proofs.Explained.{explained-ended}
 use Rattle.flat_play.proofs.lemmas.Seen.{kept_none, seen_same}
-use Rattle.flat_play.proofs.run.play_whole.Goals as goal
+use Rattle.flat_play.proofs.whole.play_whole.Goals as goal
 
 pub returns-clause-touches : goal.returns-clause-touches
 returns-clause-touches g c = answered-ended c.args.script.now.setup _ _ _ _ c.end_all.ensures.ends c.in_ok-play.ensures.touches

@@ -1,0 +1,240 @@
+//! A script is run as a whole: its lines, then the End of each session. What it leaves is a `Played`.
+ghost use Rattle.std.specs.Prelude.{map, ◌≡◌, ◌<◌, ◌^◌, [], true, length};
+ghost use Rattle.std.specs.Prelude.{IfOk, OnOk};
+ghost use Rattle.flat_scene.specs.Interleave.{IsWritten};
+ghost use Rattle.flat_playable.specs.Playable.{is_playable};
+ghost use Rattle.flat_report.specs.Probes.{ProbesAnswered, frames_seen};
+ghost use Rattle.flat_play.specs.InTurn.{seen_in_turn};
+ghost use Rattle.flat_play.specs.Beginning.{AreBegun};
+ghost use Rattle.flat_play.specs.Playing.{HasPlayed};
+ghost use Rattle.flat_report.specs.Report.{finished};
+ghost use Rattle.flat_why.specs.Text.{why_text};
+ghost use Rattle.flat_play.specs.Explaining.{StandsExplained, ToldExplained, is_film, is_on};
+ghost use Rattle.flat_play.specs.Keeping.{keeping_of};
+ghost use Rattle.flat_display.specs.Had.{AreKept};
+ghost use Rattle.flat_play.specs.Touches.{touch_of};
+ghost use Rattle.flat_pointer.specs.Lines.{rise_after};
+ghost use Rattle.flat_play.specs.Showing.{HaveSeen};
+
+use crate::explaining::Explaining;
+use crate::kept::{Keeping, Kept};
+use crate::play::Play;
+use crate::run::{LinesPlayed, play_lines};
+use crate::store::FrameStore;
+use flat_base::NoMemory;
+use flat_core::Board;
+use flat_display::{Display, DisplaySet};
+use flat_places::Script;
+use flat_pointer::{PointerLine, Touch};
+use flat_report::{HitAnswers, ProbeAnswers};
+use flat_why::Whys;
+use std::alloc::Global;
+
+/// A script that was run to its end.
+#[derive(Drop)]
+pub struct Played {
+    /// Its journal is that of the run.
+    pub board: Board,
+    /// What is kept of the finished frames.
+    pub kept: Kept,
+    /// The answers to the points that were asked for.
+    pub answers: HitAnswers,
+    /// The answers of probes: those of each, in the order of its lines.
+    pub probes: Vec<ProbeAnswers>,
+    /// Which displays were lost.
+    pub set: DisplaySet,
+}
+
+impl Played {
+    /// What is kept of the frames. All else is let go here: a crate that drops a board has
+    /// to prove the drop of every type in it.
+    pub fn into_kept(self) -> Kept
+        ensures { result ≡ self.kept }
+    {
+        let Played {
+            board,
+            kept,
+            answers: _,
+            probes: _,
+            set: _,
+        } = self;
+        drop(board);
+        kept
+    }
+
+    /// Lets all of it go.
+    pub fn let_go(self) {
+        drop(self);
+    }
+}
+
+/// Lets a board go, for crates above that would else have to prove how.
+pub fn let_go(board: Board) {
+    drop(board);
+}
+
+/// Plays a script to its end, and answers lines of pointers on the way: whom one that goes
+/// down hits, in the frame that was finished last before its line. Beside, it notes what is
+/// asked for.
+pub(crate) fn play_whole(
+    alloc: Global,
+    script: &Script,
+    keeping: Keeping,
+    lines: &[PointerLine],
+    explaining: &mut Explaining,
+    displays: &mut Vec<Box<dyn Display>>,
+) -> Result<(Played, Vec<Touch>), NoMemory>
+    requires playable { is_playable script.now ≡ true }
+    requires rise { rise_after 0 lines.now ≡ true }
+    requires unexplained { StandsExplained script.now [] explaining.old }
+    requires few { length displays.old.items < 2 ^ 32 }
+    ensures played { IfOk result (λ ran. HasPlayed script.now ran.0.board ran.0.kept
+        ran.0.answers) }
+    ensures touches { IfOk result (λ ran. ran.1.items
+        ≡ map (touch_of script.now.setup ran.0.board.history) lines.now) }
+    ensures probes { IfOk result (λ ran. ProbesAnswered script.now ran.0.board.history
+        ran.0.probes.items) }
+    ensures in_turn { IfOk result (λ ran. frames_seen ran.0.probes.items
+        ≡ seen_in_turn script.now ran.0.board.history) }
+    ensures explained { IfOk result (λ ran. ToldExplained script.now ran.0.board.history
+        explaining.new) }
+    ensures on { OnOk result (is_on explaining.new ≡ is_on explaining.old) }
+    ensures film { OnOk result (is_film explaining.new ≡ is_film explaining.old) }
+    ensures written { IfOk result (λ ran. IsWritten script.now.setup ran.0.board.history) }
+    ensures keeping { IfOk result (λ ran. keeping_of ran.0.kept ≡ keeping) }
+    ensures seen { IfOk result (λ ran. HaveSeen (λ d. shown d) (λ d. faults d)
+        (finished script.now.setup ran.0.board.history) ran.0.board.history ran.0.set.lost
+        displays.old.items displays.new.items) }
+    ensures kept { AreKept (λ d. shown d) (λ d. faults d) (AreBegun script.now)
+        displays.old.items displays.new.items (λ d. d.vtable) }
+{
+    let mut set = DisplaySet::new(alloc, displays.len() as u32)?;
+    let LinesPlayed {
+        mut play,
+        touches,
+        probes,
+    } = play_lines(
+        alloc, script, keeping, lines, explaining, &mut set, displays,
+    )?;
+    play.end_all(script);
+    let Play {
+        board,
+        readers: _,
+        start: _,
+        store,
+    } = play;
+    let FrameStore {
+        kept,
+        last: _,
+        answers,
+    } = store;
+    let played = Played {
+        board,
+        kept,
+        answers,
+        probes,
+        set,
+    };
+    Ok((played, touches))
+}
+
+/// Plays a script to its end, as [`play_script`] does, and answers lines of pointers
+/// on the way: whom one that goes down hits, in the frame that was finished last
+/// before its line.
+pub fn play_touched(
+    alloc: Global,
+    script: &Script,
+    keeping: Keeping,
+    lines: &[PointerLine],
+    displays: &mut Vec<Box<dyn Display>>,
+) -> Result<(Played, Vec<Touch>), NoMemory>
+    requires playable { is_playable script.now ≡ true }
+    requires rise { rise_after 0 lines.now ≡ true }
+    requires few { length displays.old.items < 2 ^ 32 }
+    ensures played { IfOk result (λ ran. HasPlayed script.now ran.0.board ran.0.kept
+        ran.0.answers) }
+    ensures touches { IfOk result (λ ran. ran.1.items
+        ≡ map (touch_of script.now.setup ran.0.board.history) lines.now) }
+    ensures probes { IfOk result (λ ran. ProbesAnswered script.now ran.0.board.history
+        ran.0.probes.items) }
+    ensures in_turn { IfOk result (λ ran. frames_seen ran.0.probes.items
+        ≡ seen_in_turn script.now ran.0.board.history) }
+    ensures written { IfOk result (λ ran. IsWritten script.now.setup ran.0.board.history) }
+    ensures keeping { IfOk result (λ ran. keeping_of ran.0.kept ≡ keeping) }
+    ensures seen { IfOk result (λ ran. HaveSeen (λ d. shown d) (λ d. faults d)
+        (finished script.now.setup ran.0.board.history) ran.0.board.history ran.0.set.lost
+        displays.old.items displays.new.items) }
+    ensures kept { AreKept (λ d. shown d) (λ d. faults d) (AreBegun script.now)
+        displays.old.items displays.new.items (λ d. d.vtable) }
+{
+    play_whole(
+        alloc,
+        script,
+        keeping,
+        lines,
+        &mut Explaining::Off,
+        displays,
+    )
+}
+
+/// Plays a script to its end: its lines in written order, and then an End of each
+/// session. Each frame is shown to the displays before it is finished.
+pub fn play_script(
+    alloc: Global,
+    script: &Script,
+    keeping: Keeping,
+    displays: &mut Vec<Box<dyn Display>>,
+) -> Result<Played, NoMemory>
+    requires playable { is_playable script.now ≡ true }
+    requires few { length displays.old.items < 2 ^ 32 }
+    ensures played { IfOk result (λ played. HasPlayed script.now played.board played.kept
+        played.answers) }
+    ensures probes { IfOk result (λ played. ProbesAnswered script.now played.board.history
+        played.probes.items) }
+    ensures in_turn { IfOk result (λ played. frames_seen played.probes.items
+        ≡ seen_in_turn script.now played.board.history) }
+    ensures written { IfOk result (λ played. IsWritten script.now.setup played.board.history) }
+    ensures keeping { IfOk result (λ played. keeping_of played.kept ≡ keeping) }
+    ensures seen { IfOk result (λ played. HaveSeen (λ d. shown d) (λ d. faults d)
+        (finished script.now.setup played.board.history) played.board.history played.set.lost
+        displays.old.items displays.new.items) }
+    ensures kept { AreKept (λ d. shown d) (λ d. faults d) (AreBegun script.now)
+        displays.old.items displays.new.items (λ d. d.vtable) }
+{
+    let (played, _touches) = play_touched(alloc, script, keeping, &[], displays)?;
+    Ok(played)
+}
+
+/// Plays a script to its end, as [`play_script`] does, and writes of each finished frame why
+/// each session is on the display, or isn't.
+pub fn play_explained(
+    alloc: Global,
+    script: &Script,
+    displays: &mut Vec<Box<dyn Display>>,
+) -> Result<(Played, Vec<u8>), NoMemory>
+    requires playable { is_playable script.now ≡ true }
+    requires few { length displays.old.items < 2 ^ 32 }
+    ensures played { IfOk result (λ ran. HasPlayed script.now ran.0.board ran.0.kept
+        ran.0.answers) }
+    ensures text { IfOk result (λ ran. ran.1.items ≡ why_text script.now ran.0.board.history) }
+    ensures probes { IfOk result (λ ran. ProbesAnswered script.now ran.0.board.history
+        ran.0.probes.items) }
+    ensures in_turn { IfOk result (λ ran. frames_seen ran.0.probes.items
+        ≡ seen_in_turn script.now ran.0.board.history) }
+    ensures written { IfOk result (λ ran. IsWritten script.now.setup ran.0.board.history) }
+    ensures seen { IfOk result (λ ran. HaveSeen (λ d. shown d) (λ d. faults d)
+        (finished script.now.setup ran.0.board.history) ran.0.board.history ran.0.set.lost
+        displays.old.items displays.new.items) }
+    ensures kept { AreKept (λ d. shown d) (λ d. faults d) (AreBegun script.now)
+        displays.old.items displays.new.items (λ d. d.vtable) }
+{
+    let mut whys = Explaining::On(Whys::new(alloc, script)?);
+    let (played, _touches) = play_whole(alloc, script, Keeping::Last, &[], &mut whys, displays)?;
+    match whys.into_text() {
+        Ok(text) => Ok((played, text)),
+        Err(NoMemory) => {
+            played.let_go();
+            Err(NoMemory)
+        }
+    }
+}
