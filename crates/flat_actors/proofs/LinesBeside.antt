@@ -1,8 +1,7 @@
 -- Lines of the display that begin no frame and end none.
-use Rattle.std.proofs.Common.{◌≡◌, ℕ, ℤ, true, false, List, [], refl, sym, ap, ◌∙◌, subst}
+use Rattle.std.proofs.Common.{◌≡◌, true, refl, sym, ap, ◌∙◌, subst}
 use Rattle.flat_base.specs.declared.ids.Actor.TheVariants.{Display}
 use Rattle.flat_scene.specs.declared.frames.Hit.{Hit}
-use Rattle.flat_scene.specs.declared.journal.Entry.{Entry}
 use Rattle.flat_scene.specs.declared.journal.Kind.{Kind}
 use Rattle.flat_scene.specs.declared.journal.Kind.TheVariants.{Wait}
 use Rattle.flat_scene.specs.declared.script.Cond.{Cond}
@@ -10,17 +9,13 @@ use Rattle.flat_scene.specs.declared.script.Cond.TheVariants as asks
 use Rattle.flat_scene.specs.declared.script.DisplayLine.{DisplayLine}
 use Rattle.flat_scene.specs.declared.script.DisplayLine.TheVariants as display
 use Rattle.flat_scene.specs.declared.setup.Setup.{Setup}
-use Rattle.flat_scene.specs.History.{is_begin}
 use Rattle.flat_scene.specs.Interleave.{entry_of_display}
 use Rattle.flat_core.specs.Machines.{MayLook}
 use Rattle.flat_rules.specs.Legal.{display_may, names_declared}
 use Rattle.flat_rules.specs.Owned.{is_played_display}
-use Rattle.flat_report.specs.Handed.{answer_to}
 use Rattle.flat_stage.specs.Displays.{DisplaySees, DisplayView, HasDisplayRoom}
 use Rattle.flat_stage.specs.Seats.{StageView, setup_of}
 use Rattle.flat_core.specs.Starts.{is_beside}
-use Rattle.flat_play.specs.Storing.{AnswersLine}
-use Rattle.flat_play.specs.declared.store.FrameStore.{FrameStore}
 
 -- what the display may wait for
 wait_fits : (setup : Setup) (c : Cond) → is_played_display setup (display.Wait c) ≡ true
@@ -59,12 +54,3 @@ pub named_there : (view : StageView) (kind : Kind) (old new : DisplayView) → D
 named_there view kind old new sees own named =
     let N : StageView → Type 0 = λ v. names_declared (setup_of v) kind ≡ true in
     subst N (sym own ∙ sym (ap (λ (d : DisplayView). d.stage) sees.rest)) named
-
--- the answer to a line leaves what is kept of frames
-pub answers_keep : (setup : Setup) (n : ℕ) (text : DisplayLine) (old new : FrameStore) → AnswersLine setup n text old new → new.kept ≡ old.kept
-answers_keep setup n (display.Begin time) old new answers = ap (λ (s : FrameStore). s.kept) answers
-answers_keep setup n display.Done old new answers = ap (λ (s : FrameStore). s.kept) answers
-answers_keep setup n (display.Signal f) old new answers = ap (λ (s : FrameStore). s.kept) answers
-answers_keep setup n (display.Wait c) old new answers = ap (λ (s : FrameStore). s.kept) answers
-answers_keep setup n (display.Hit x y) old new answers = answers.kept
-answers_keep setup n (display.Dpr ratio) old new answers = ap (λ (s : FrameStore). s.kept) answers

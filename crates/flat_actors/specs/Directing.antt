@@ -1,5 +1,5 @@
 -- The compositor of a race: how it stands at a place of the script.
-use Rattle.std.specs.Prelude.{◌≡◌, ℕ, ◌+◌, ◌≤◌, List, [], ◌∷◌, ◌++◌, length, drop, map, Option}
+use Rattle.std.specs.Prelude.{◌≡◌, ℕ, ◌+◌, ◌<◌, ◌^◌, ◌≤◌, List, [], ◌∷◌, ◌++◌, length, drop, Option}
 use Rattle.flat_scene.specs.declared.frames.FrameOut.{FrameOut}
 use Rattle.flat_scene.specs.declared.frames.Lost.{Lost}
 use Rattle.flat_scene.specs.declared.journal.Entry.{Entry}
@@ -18,10 +18,11 @@ use Rattle.flat_stage.specs.Displays.{CompositorView, DisplayEnters, DisplaySees
 use Rattle.flat_stage.specs.Seats.{StageView, entries_of_seat}
 use Rattle.flat_play.specs.Keeping.{keeping_of}
 use Rattle.flat_play.specs.Playing.{DisplayStands, lines_by}
-use Rattle.flat_play.specs.Showing.{IsShown}
+use Rattle.flat_play.specs.Showing.{HaveSeen, IsShown}
 use Rattle.flat_play.specs.Storing.{FinishesNext, FramesStand, StoreStands}
+use Rattle.flat_publish.specs.State.{Publishing}
 use Rattle.flat_actors.specs.declared.film.Film.{Film}
-use Rattle.flat_actors.specs.Publishing.{FinishesOne}
+use Rattle.flat_actors.specs.Publishing.{FinishesOne, PublishedStand}
 
 -- The seat knows its own entries in what it has seen, and these are the reading of the display's lines before a place.
 pub record SeatStands (script : Script) (view : StageView) (place : ℕ) (seat : DisplayView) : Type 0 where
@@ -34,6 +35,13 @@ pub record SeatStands (script : Script) (view : StageView) (place : ℕ) (seat :
 -- what is kept of frames is that of the history seen
 abbrev pub FilmStands : Script → List Entry → Film → Type 0
 FilmStands script history film = StoreStands script history film.store
+
+-- Before the first frame, of so many displays none is lost.
+pub record IsNewFilm (script : Script) (displays : ℕ) (film : Film) : Type 0 where
+  pub stands : FilmStands script [] film
+  pub none : film.set.lost ≡ []
+  pub number : displays ≡ film.set.displays
+  pub few : film.set.displays < 2 ^ 32
 
 -- The whole compositor stands at a place.
 pub record CompositorStands (script : Script) (view : StageView) (place : ℕ) (compositor : CompositorView)
@@ -50,6 +58,17 @@ pub record HasStopped {D : Type 0} (told : D → Option (List FrameOut)) (count 
   pub stands : SeatStands script view place seat
   pub lost : List Lost
   pub driven : AreDriven told count lost (finished script.setup (history_of seat.seen)) olds news
+
+-- It went through all its lines. What is kept, published and shown of frames is that of the history that it has seen.
+pub record HasDirected {D : Type 0} (told : D → Option (List FrameOut)) (count : D → ℕ) (script : Script)
+    (view : StageView) (seat : DisplayView) (was now : Film) (sent : Publishing) (olds news : List D) : Type 0
+  where
+    pub stands : SeatStands script view (length script.lines) seat
+    pub film : FilmStands script (history_of seat.seen) now
+    pub keeping : keeping_of now.store.kept ≡ keeping_of was.store.kept
+    pub published : PublishedStand script (history_of seat.seen) sent
+    pub seen : HaveSeen told count (finished script.setup (history_of seat.seen)) (history_of seat.seen) now.set.lost
+        olds news
 
 -- ---- what one line does
 
@@ -91,8 +110,3 @@ pub record EntersNothing {D : Type 0} (old new : CompositorView) (was now : Film
   pub compositor : new ≡ old
   pub set : now.set ≡ was.set
   pub displays : news ≡ olds
-
--- The displays are as many as they were, each of its kind.
-pub record KeepsDisplays {D K : Type 0} (kind : D → K) (was now : Film) (olds news : List D) : Type 0 where
-  pub count : now.set.displays ≡ was.set.displays
-  pub kinds : map kind news ≡ map kind olds

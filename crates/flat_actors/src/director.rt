@@ -1,10 +1,10 @@
 //! The compositor. It composes, keeps and shows a frame outside the lock, while the sessions
 //! go on: nothing that they enter changes what an open frame shows.
-ghost use Rattle.std.specs.Prelude.{◌≡◌, ◌≤◌, ◌<◌, ◌+◌, ◌^◌, [], true, false, length, map, slice_get, Some, List};
+ghost use Rattle.std.specs.Prelude.{◌≡◌, ◌≤◌, ◌<◌, ◌+◌, [], true, false, length, map, slice_get, Some, List};
 ghost use Rattle.std.specs.Prelude.{OnErr, OnOk};
 ghost use Rattle.flat_base.specs.declared.ids.Actor.TheVariants.{Display};
 ghost use Rattle.flat_scene.specs.declared.journal.Entry.{Entry};
-ghost use Rattle.flat_scene.specs.declared.journal.Kind.TheVariants.{Begin, Finish};
+ghost use Rattle.flat_scene.specs.declared.journal.Kind.TheVariants.{Begin};
 ghost use Rattle.flat_scene.specs.declared.journal.Reply.TheVariants.{Done};
 ghost use Rattle.flat_scene.specs.declared.script.Body.TheVariants as body;
 ghost use Rattle.flat_scene.specs.Journals.{history_of};
@@ -15,14 +15,11 @@ ghost use Rattle.flat_rules.specs.Legal.{begin_time, Legal, display_may, names_d
 ghost use Rattle.flat_playable.specs.Playable.{is_playable};
 ghost use Rattle.flat_stage.specs.Displays.{DisplayEnters, EndsFrame, HasDisplayRoom, IsNewCompositor};
 ghost use Rattle.flat_stage.specs.Seats.{entries_of_seat, setup_of};
-ghost use Rattle.flat_report.specs.Report.{finished};
-ghost use Rattle.flat_play.specs.Keeping.{keeping_of};
 ghost use Rattle.flat_play.specs.Last.{IsLast, MayFollow};
-ghost use Rattle.flat_play.specs.Showing.{HaveSeen};
 ghost use Rattle.flat_play.specs.Storing.{AnswersLine, StoreStands};
 ghost use Rattle.flat_actors.specs.Directing.{CompositorStands, Directs, EntersBeside, EntersNothing};
-ghost use Rattle.flat_actors.specs.Directing.{FilmStands, FinishesFrame, HasStopped, KeepsDisplays, SeatStands};
-ghost use Rattle.flat_actors.specs.Publishing.{PublishedStand};
+ghost use Rattle.flat_actors.specs.Directing.{FinishesFrame, HasDirected, HasStopped, IsNewFilm};
+ghost use Rattle.flat_play.specs.Showing.{KeepsDisplays};
 ghost use Rattle.flat_actors.specs.Sessions.{IsStageOf};
 
 use crate::film::{DISPLAY, Film, end_line};
@@ -113,7 +110,7 @@ fn finish<R: Wait, G: Gate>(
         compositor.old.start film.old film.new displays.old.items displays.new.items) }
     ensures stays { OnErr result (EntersNothing compositor.old compositor.new film.old film.new
         displays.old.items displays.new.items) }
-    ensures displays { KeepsDisplays (λ d. d.vtable) film.old film.new displays.old.items
+    ensures displays { KeepsDisplays (λ d. d.vtable) film.old.set film.new.set displays.old.items
         displays.new.items }
 {
     ask(lent.gate, DISPLAY, number, ASKS);
@@ -149,7 +146,7 @@ fn direct_line<R: Wait, G: Gate>(
         displays.old.items displays.new.items) }
     ensures stays { OnErr result (EntersNothing compositor.old compositor.new film.old film.new
         displays.old.items displays.new.items) }
-    ensures displays { KeepsDisplays (λ d. d.vtable) film.old film.new displays.old.items
+    ensures displays { KeepsDisplays (λ d. d.vtable) film.old.set film.new.set displays.old.items
         displays.new.items }
 {
     display_knows_frames();
@@ -194,7 +191,7 @@ fn direct_next<R: Wait, G: Gate>(
         displays.old.items displays.new.items) }
     ensures stays { OnErr result (EntersNothing compositor.old compositor.new film.old film.new
         displays.old.items displays.new.items) }
-    ensures displays { KeepsDisplays (λ d. d.vtable) film.old film.new displays.old.items
+    ensures displays { KeepsDisplays (λ d. d.vtable) film.old.set film.new.set displays.old.items
         displays.new.items }
 {
     let line = lent.script.lines.at(place);
@@ -219,25 +216,13 @@ pub fn direct<R: Wait, G: Gate>(
     requires playable { is_playable lent.now.script.now ≡ true }
     requires of { IsStageOf lent.now.stage.now lent.now.script.now }
     requires fresh { IsNewCompositor lent.now.stage.now compositor.old }
-    requires film { FilmStands lent.now.script.now [] film.old }
-    requires none { film.old.set.lost ≡ [] }
-    requires number { length displays.old.items ≡ film.old.set.displays }
-    requires few { film.old.set.displays < 2 ^ 32 }
+    requires film { IsNewFilm lent.now.script.now (length displays.old.items) film.old }
     requires unpublished { published.old
         ≡ record { home = published.old.home; frames = []; refused = []; given = 0 } }
-    ensures stands { OnOk result (SeatStands lent.now.script.now lent.now.stage.now
-        (length lent.now.script.now.lines) compositor.new.display) }
-    ensures film { OnOk result (FilmStands lent.now.script.now
-        (history_of compositor.new.display.seen) film.new) }
-    ensures published { OnOk result (PublishedStand lent.now.script.now
-        (history_of compositor.new.display.seen) published.new) }
+    ensures directs { OnOk result (HasDirected (λ d. shown d) (λ d. faults d) lent.now.script.now
+        lent.now.stage.now compositor.new.display film.old film.new published.new
+        displays.old.items displays.new.items) }
     ensures home { published.new.home ≡ published.old.home }
-    ensures seen { OnOk result (HaveSeen (λ d. shown d) (λ d. faults d)
-        (finished lent.now.script.now.setup (history_of compositor.new.display.seen))
-        (history_of compositor.new.display.seen) film.new.set.lost displays.old.items
-        displays.new.items) }
-    ensures keeping { OnOk result (keeping_of film.new.store.kept
-        ≡ keeping_of film.old.store.kept) }
     ensures stopped { OnErr result (HasStopped (λ d. shown d) (λ d. faults d)
         lent.now.script.now lent.now.stage.now compositor.new.display displays.old.items
         displays.new.items) }

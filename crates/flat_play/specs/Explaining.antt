@@ -1,5 +1,5 @@
 -- What a play notes line by line: why content is not on the display, or the pictures of its frames.
-use Rattle.std.specs.Prelude.{⊤, Bool, true, false, List}
+use Rattle.std.specs.Prelude.{◌≡◌, ⊤, Bool, true, false, List}
 use Rattle.flat_scene.specs.declared.journal.Entry.{Entry}
 use Rattle.flat_places.specs.declared.script.Script.{Script}
 use Rattle.flat_report.specs.Report.{finished}
@@ -29,3 +29,15 @@ abbrev pub ToldExplained : Script → List Entry → Explaining → Type 0
 ToldExplained script history Off = ⊤
 ToldExplained script history (On whys) = WhysTell script history whys
 ToldExplained script history (Film film) = IsFilm script.setup (finished script.setup history) film
+
+-- What is noted stands for the history, and the same is asked for as before.
+pub record NotesOn (script : Script) (history : List Entry) (old new : Explaining) : Type 0 where
+  pub stands : StandsExplained script history new
+  pub on : is_on new ≡ is_on old
+  pub film : is_film new ≡ is_film old
+
+-- So is what is written alone.
+pub record TellsAll (script : Script) (history : List Entry) (old new : Explaining) : Type 0 where
+  pub told : ToldExplained script history new
+  pub on : is_on new ≡ is_on old
+  pub film : is_film new ≡ is_film old

@@ -5,6 +5,7 @@ pub mod Keeping
 pub mod Last
 pub mod Playing
 pub mod Probing
+pub mod Runs
 pub mod Showing
 pub mod Storing
 pub mod Touches

@@ -1,5 +1,5 @@
 -- What displays have had of a run.
-use Rattle.std.specs.Prelude.{◌≡◌, ℕ, suc, true, List, [], ◌∷◌, ◌++◌, length, Option}
+use Rattle.std.specs.Prelude.{◌≡◌, ℕ, suc, true, List, [], ◌∷◌, ◌++◌, length, map, Option}
 use Rattle.std.specs.List.{list_all}
 use Rattle.flat_scene.specs.declared.frames.FrameOut.{FrameOut}
 use Rattle.flat_scene.specs.declared.frames.Lost.{Lost}
@@ -9,6 +9,11 @@ use Rattle.flat_display.specs.Lost.{Driven}
 use Rattle.flat_display.specs.Shows.{Shows}
 use Rattle.flat_report.specs.Report.{is_loss}
 use Rattle.flat_report.specs.Runs.{is_display_number}
+
+-- There are as many displays as before, each of its kind.
+pub record KeepsDisplays {D K : Type 0} (kind : D → K) (set set' : Driven) (olds news : List D) : Type 0 where
+  pub count : set'.displays ≡ set.displays
+  pub kinds : map kind news ≡ map kind olds
 
 -- Displays of a type tell these frames, and have these counts of faults.
 module _ {D : Type 0} (told : D → Option (List FrameOut)) (count : D → ℕ) where

@@ -2,13 +2,9 @@
 ghost use Rattle.std.specs.Prelude.{◌≡◌, ◌<◌, ◌^◌, [], true, length, IfOk};
 ghost use Rattle.flat_display.specs.Had.{AreKept};
 ghost use Rattle.flat_play.specs.Beginning.{AreBegun};
-ghost use Rattle.flat_play.specs.Playing.{HasPlayed};
-ghost use Rattle.flat_play.specs.InTurn.{seen_in_turn};
-ghost use Rattle.flat_play.specs.Showing.{HaveSeen};
+ghost use Rattle.flat_play.specs.Runs.{HasRunInOrder};
 ghost use Rattle.flat_playable.specs.Playable.{is_playable};
-ghost use Rattle.flat_report.specs.Probes.{ProbesAnswered, frames_seen};
 ghost use Rattle.flat_report.specs.Report.{finished};
-ghost use Rattle.flat_scene.specs.Interleave.{IsWritten};
 ghost use Rattle.flat_texts.specs.Filming.{IsFilm};
 
 use crate::explaining::Explaining;
@@ -31,18 +27,10 @@ pub fn play_filmed(
     requires playable { is_playable script.now ≡ true }
     requires empty { IsFilm script.now.setup [] film }
     requires few { length displays.old.items < 2 ^ 32 }
-    ensures played { IfOk result (λ ran. HasPlayed script.now ran.0.board ran.0.kept
-        ran.0.answers) }
+    ensures run { IfOk result (λ ran. HasRunInOrder (λ d. shown d) (λ d. faults d) script.now
+        displays.old.items displays.new.items Keeping.Last ran.0) }
     ensures film { IfOk result (λ ran. IsFilm script.now.setup
         (finished script.now.setup ran.0.board.history) ran.1) }
-    ensures probes { IfOk result (λ ran. ProbesAnswered script.now ran.0.board.history
-        ran.0.probes.items) }
-    ensures in_turn { IfOk result (λ ran. frames_seen ran.0.probes.items
-        ≡ seen_in_turn script.now ran.0.board.history) }
-    ensures written { IfOk result (λ ran. IsWritten script.now.setup ran.0.board.history) }
-    ensures seen { IfOk result (λ ran. HaveSeen (λ d. shown d) (λ d. faults d)
-        (finished script.now.setup ran.0.board.history) ran.0.board.history ran.0.set.lost
-        displays.old.items displays.new.items) }
     ensures kept { AreKept (λ d. shown d) (λ d. faults d) (AreBegun script.now)
         displays.old.items displays.new.items (λ d. d.vtable) }
 {

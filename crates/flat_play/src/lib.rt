@@ -1,6 +1,6 @@
 //! The play of a script in written order: its lines are read over one board, its frames
 //! composed and shown to displays, and lines of pointers and probes answered in between.
-//! It keeps `HasPlayed` (specs/Playing): whole.rt runs a script, run.rt goes through its lines,
+//! It keeps `HasRunInOrder` (specs/Runs): whole.rt runs a script, run.rt goes through its lines,
 //! play.rt plays each.
 //! A `FrameStore` (store.rt, specs/Storing) has what is kept of the frames: frame.rt composes
 //! the next one and answers points, kept.rt has what is written of them.

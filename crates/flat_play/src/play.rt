@@ -1,16 +1,16 @@
 //! A play on its way. Lines run on the board itself, with no lock, since nobody enters
 //! beside them. What a begin decides stays until the next one: the frame is composed at its
 //! done.
-ghost use Rattle.std.specs.Prelude.{◌≡◌, ◌+◌, ◌<◌, ◌^◌, [], true, length, map, Some, OnOk, OnErr};
+ghost use Rattle.std.specs.Prelude.{◌≡◌, ◌+◌, ◌<◌, ◌^◌, [], true, length, Some, OnOk, OnErr};
 ghost use Rattle.std.specs.Prelude.{slice_get};
 ghost use Rattle.std.specs.Option.{option_copied};
 ghost use Rattle.flat_base.specs.declared.ids.Actor.TheVariants.{Display, Session};
 ghost use Rattle.flat_core.specs.Machines.{MayCall};
 ghost use Rattle.flat_core.specs.Starts.{is_beside, IsStart};
-ghost use Rattle.flat_play.specs.Keeping.{keeping_of};
 ghost use Rattle.flat_play.specs.Playing.{session_text, display_text};
-ghost use Rattle.flat_play.specs.Showing.{IsShown};
-ghost use Rattle.flat_play.specs.Touching.{GoesOnAt, GoesOnByEnds};
+ghost use Rattle.flat_play.specs.Runs.{PlaysLine};
+ghost use Rattle.flat_play.specs.Showing.{IsShown, KeepsDisplays};
+ghost use Rattle.flat_play.specs.Touching.{GoesOnByEnds};
 ghost use Rattle.flat_playable.specs.Playable.{is_playable};
 ghost use Rattle.flat_report.specs.Report.{finished};
 ghost use Rattle.flat_rules.specs.Legal.{frames};
@@ -79,9 +79,8 @@ impl Play {
             (finished script.now.setup self.new.board.history) set.old set.new displays.old.items
             displays.new.items) }
         ensures unshown { OnErr result ((set.new ≡ set.old) × (displays.new ≡ displays.old)) }
-        ensures same { set.new.displays ≡ set.old.displays }
-        ensures kinds { map (λ d. d.vtable) displays.new.items
-            ≡ map (λ d. d.vtable) displays.old.items }
+        ensures displays { KeepsDisplays (λ d. d.vtable) set.old set.new displays.old.items
+            displays.new.items }
     {
         // proof: the entries so far are legal, so what the frame shows fits the setup.
         let _journal = self.board.journal();
@@ -126,9 +125,7 @@ impl Play {
             ≡ Some (record { number = number; actor = Session s; body = body.Session text.now }) }
         requires playable { is_playable script.now ≡ true }
         requires stands { PlayStands script.now place self.old }
-        ensures stands { OnOk result (PlayStands script.now (place + 1) self.new) }
-        ensures goes_on { OnOk result (GoesOnAt number self.old.board.history
-            self.new.board.history) }
+        ensures plays { OnOk result (PlaysLine script.now place number self.old self.new) }
         ensures frames { OnOk result (finished script.now.setup self.new.board.history
             ≡ finished script.now.setup self.old.board.history) }
         ensures kept { OnOk result (self.new.store.kept ≡ self.old.store.kept) }
@@ -156,18 +153,14 @@ impl Play {
         requires playable { is_playable script.now ≡ true }
         requires stands { PlayStands script.now place self.old }
         requires number { length displays.old.items ≡ set.old.displays }
-        ensures stands { OnOk result (PlayStands script.now (place + 1) self.new) }
-        ensures goes_on { OnOk result (GoesOnAt number self.old.board.history
-            self.new.board.history) }
-        ensures keeping { OnOk result (keeping_of self.new.store.kept ≡ keeping_of self.old.store.kept) }
+        ensures plays { OnOk result (PlaysLine script.now place number self.old self.new) }
         ensures shows { OnOk result (IsShown (λ d. shown d) (λ d. faults d)
             (finished script.now.setup self.old.board.history)
             (finished script.now.setup self.new.board.history) set.old set.new displays.old.items
             displays.new.items) }
         ensures unshown { OnErr result ((set.new ≡ set.old) × (displays.new ≡ displays.old)) }
-        ensures same { set.new.displays ≡ set.old.displays }
-        ensures kinds { map (λ d. d.vtable) displays.new.items
-            ≡ map (λ d. d.vtable) displays.old.items }
+        ensures displays { KeepsDisplays (λ d. d.vtable) set.old set.new displays.old.items
+            displays.new.items }
     {
         let _journal = self.board.journal();
         match text {
@@ -195,18 +188,15 @@ impl Play {
         requires playable { is_playable script.now ≡ true }
         requires stands { PlayStands script.now place self.old }
         requires number { length displays.old.items ≡ set.old.displays }
-        ensures stands { OnOk result (PlayStands script.now (place + 1) self.new) }
-        ensures goes_on { (line : ScriptLine) → slice_get script.now.lines place ≡ Some line →
-            OnOk result (GoesOnAt line.number self.old.board.history self.new.board.history) }
-        ensures keeping { OnOk result (keeping_of self.new.store.kept ≡ keeping_of self.old.store.kept) }
+        ensures plays { (line : ScriptLine) → slice_get script.now.lines place ≡ Some line →
+            OnOk result (PlaysLine script.now place line.number self.old self.new) }
         ensures shows { OnOk result (IsShown (λ d. shown d) (λ d. faults d)
             (finished script.now.setup self.old.board.history)
             (finished script.now.setup self.new.board.history) set.old set.new displays.old.items
             displays.new.items) }
         ensures unshown { OnErr result ((set.new ≡ set.old) × (displays.new ≡ displays.old)) }
-        ensures same { set.new.displays ≡ set.old.displays }
-        ensures kinds { map (λ d. d.vtable) displays.new.items
-            ≡ map (λ d. d.vtable) displays.old.items }
+        ensures displays { KeepsDisplays (λ d. d.vtable) set.old set.new displays.old.items
+            displays.new.items }
     {
         let line = script.lines.at(place);
         match line.actor {

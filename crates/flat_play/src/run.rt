@@ -1,22 +1,18 @@
 //! A script is played in written order. What may fail has the play by `&mut`: each exit
 //! behind which it were held would drop all of it, part by part, which is most of what a
 //! check has to look at. Where it has to go, one call of `drop` lets it go.
-ghost use Rattle.std.specs.Prelude.{map, ◌≡◌, ◌+◌, ◌<◌, ◌^◌, slice_index, [], true, length, replicate};
+ghost use Rattle.std.specs.Prelude.{◌≡◌, ◌+◌, ◌<◌, ◌^◌, slice_index, [], true, length, replicate};
 ghost use Rattle.std.specs.Prelude.{IfOk, OnOk};
 ghost use Rattle.flat_scene.specs.Journals.{seat_number};
 ghost use Rattle.flat_scene.specs.Heads.{is_setup};
 ghost use Rattle.flat_playable.specs.Playable.{is_playable};
-ghost use Rattle.flat_report.specs.Probes.{ProbesAnswered, frames_seen};
-ghost use Rattle.flat_play.specs.InTurn.{seen_in_turn};
 ghost use Rattle.flat_play.specs.Beginning.{AreBegun};
 ghost use Rattle.flat_play.specs.Playing.{with_one_more, shares_of, AreNew, PlayStands};
-ghost use Rattle.flat_report.specs.Report.{finished};
-ghost use Rattle.flat_play.specs.Explaining.{StandsExplained, is_film, is_on};
+ghost use Rattle.flat_play.specs.Explaining.{NotesOn, StandsExplained};
+ghost use Rattle.flat_play.specs.Runs.{HasReadLines};
 ghost use Rattle.flat_play.specs.Keeping.{keeping_of};
 ghost use Rattle.flat_display.specs.Had.{AreKept};
-ghost use Rattle.flat_play.specs.Touches.{touch_of};
 ghost use Rattle.flat_pointer.specs.Lines.{rise_after};
-ghost use Rattle.flat_play.specs.Showing.{HaveSeen};
 
 use crate::explaining::Explaining;
 use crate::kept::Keeping;
@@ -142,22 +138,11 @@ fn play_each(
     requires number { length displays.old.items ≡ set.old.displays }
     requires few { set.old.displays < 2 ^ 32 }
     requires none { set.old.lost ≡ [] }
-    ensures stands { OnOk result (PlayStands script.now (length script.now.lines) play.new) }
-    ensures touches { OnOk result (found.new.items
-        ≡ map (touch_of script.now.setup play.new.board.history) lines.now) }
-    ensures probes { OnOk result (ProbesAnswered script.now play.new.board.history
-        answers.new.items) }
-    ensures in_turn { OnOk result (frames_seen answers.new.items
-        ≡ seen_in_turn script.now play.new.board.history) }
-    ensures explained { OnOk result (StandsExplained script.now play.new.board.history
+    ensures reads { OnOk result (HasReadLines (λ d. shown d) (λ d. faults d) script.now
+        displays.old.items displays.new.items (keeping_of play.old.store.kept) lines.now play.new
+        found.new.items answers.new.items set.new.lost) }
+    ensures notes { OnOk result (NotesOn script.now play.new.board.history explaining.old
         explaining.new) }
-    ensures on { OnOk result (is_on explaining.new ≡ is_on explaining.old) }
-    ensures film { OnOk result (is_film explaining.new ≡ is_film explaining.old) }
-    ensures keeping { OnOk result (keeping_of play.new.store.kept
-        ≡ keeping_of play.old.store.kept) }
-    ensures seen { OnOk result (HaveSeen (λ d. shown d) (λ d. faults d)
-        (finished script.now.setup play.new.board.history) play.new.board.history set.new.lost
-        displays.old.items displays.new.items) }
     ensures kept { AreKept (λ d. shown d) (λ d. faults d) (AreBegun script.now)
         displays.old.items displays.new.items (λ d. d.vtable) }
 {
@@ -207,21 +192,11 @@ pub(crate) fn play_lines(
     requires number { length displays.old.items ≡ set.old.displays }
     requires few { set.old.displays < 2 ^ 32 }
     requires none { set.old.lost ≡ [] }
-    ensures stands { IfOk result (λ ran. PlayStands script.now (length script.now.lines) ran.play) }
-    ensures touches { IfOk result (λ ran. ran.touches.items
-        ≡ map (touch_of script.now.setup ran.play.board.history) lines.now) }
-    ensures probes { IfOk result (λ ran. ProbesAnswered script.now ran.play.board.history
-        ran.probes.items) }
-    ensures in_turn { IfOk result (λ ran. frames_seen ran.probes.items
-        ≡ seen_in_turn script.now ran.play.board.history) }
-    ensures explained { IfOk result (λ ran. StandsExplained script.now ran.play.board.history
+    ensures reads { IfOk result (λ ran. HasReadLines (λ d. shown d) (λ d. faults d) script.now
+        displays.old.items displays.new.items keeping lines.now ran.play ran.touches.items
+        ran.probes.items set.new.lost) }
+    ensures notes { IfOk result (λ ran. NotesOn script.now ran.play.board.history explaining.old
         explaining.new) }
-    ensures on { OnOk result (is_on explaining.new ≡ is_on explaining.old) }
-    ensures film { OnOk result (is_film explaining.new ≡ is_film explaining.old) }
-    ensures keeping { IfOk result (λ ran. keeping_of ran.play.store.kept ≡ keeping) }
-    ensures seen { IfOk result (λ ran. HaveSeen (λ d. shown d) (λ d. faults d)
-        (finished script.now.setup ran.play.board.history) ran.play.board.history set.new.lost
-        displays.old.items displays.new.items) }
     ensures kept { AreKept (λ d. shown d) (λ d. faults d) (AreBegun script.now)
         displays.old.items displays.new.items (λ d. d.vtable) }
 {

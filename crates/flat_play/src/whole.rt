@@ -1,20 +1,14 @@
 //! A script is run as a whole: its lines, then the End of each session. What it leaves is a `Played`.
 ghost use Rattle.std.specs.Prelude.{map, ◌≡◌, ◌<◌, ◌^◌, [], true, length};
-ghost use Rattle.std.specs.Prelude.{IfOk, OnOk};
-ghost use Rattle.flat_scene.specs.Interleave.{IsWritten};
+ghost use Rattle.std.specs.Prelude.{IfOk};
 ghost use Rattle.flat_playable.specs.Playable.{is_playable};
-ghost use Rattle.flat_report.specs.Probes.{ProbesAnswered, frames_seen};
-ghost use Rattle.flat_play.specs.InTurn.{seen_in_turn};
 ghost use Rattle.flat_play.specs.Beginning.{AreBegun};
-ghost use Rattle.flat_play.specs.Playing.{HasPlayed};
-ghost use Rattle.flat_report.specs.Report.{finished};
 ghost use Rattle.flat_why.specs.Text.{why_text};
-ghost use Rattle.flat_play.specs.Explaining.{StandsExplained, ToldExplained, is_film, is_on};
-ghost use Rattle.flat_play.specs.Keeping.{keeping_of};
+ghost use Rattle.flat_play.specs.Explaining.{StandsExplained, TellsAll};
+ghost use Rattle.flat_play.specs.Runs.{HasRunInOrder};
 ghost use Rattle.flat_display.specs.Had.{AreKept};
 ghost use Rattle.flat_play.specs.Touches.{touch_of};
 ghost use Rattle.flat_pointer.specs.Lines.{rise_after};
-ghost use Rattle.flat_play.specs.Showing.{HaveSeen};
 
 use crate::explaining::Explaining;
 use crate::kept::{Keeping, Kept};
@@ -88,23 +82,12 @@ pub(crate) fn play_whole(
     requires rise { rise_after 0 lines.now ≡ true }
     requires unexplained { StandsExplained script.now [] explaining.old }
     requires few { length displays.old.items < 2 ^ 32 }
-    ensures played { IfOk result (λ ran. HasPlayed script.now ran.0.board ran.0.kept
-        ran.0.answers) }
+    ensures run { IfOk result (λ ran. HasRunInOrder (λ d. shown d) (λ d. faults d) script.now
+        displays.old.items displays.new.items keeping ran.0) }
     ensures touches { IfOk result (λ ran. ran.1.items
         ≡ map (touch_of script.now.setup ran.0.board.history) lines.now) }
-    ensures probes { IfOk result (λ ran. ProbesAnswered script.now ran.0.board.history
-        ran.0.probes.items) }
-    ensures in_turn { IfOk result (λ ran. frames_seen ran.0.probes.items
-        ≡ seen_in_turn script.now ran.0.board.history) }
-    ensures explained { IfOk result (λ ran. ToldExplained script.now ran.0.board.history
+    ensures tells { IfOk result (λ ran. TellsAll script.now ran.0.board.history explaining.old
         explaining.new) }
-    ensures on { OnOk result (is_on explaining.new ≡ is_on explaining.old) }
-    ensures film { OnOk result (is_film explaining.new ≡ is_film explaining.old) }
-    ensures written { IfOk result (λ ran. IsWritten script.now.setup ran.0.board.history) }
-    ensures keeping { IfOk result (λ ran. keeping_of ran.0.kept ≡ keeping) }
-    ensures seen { IfOk result (λ ran. HaveSeen (λ d. shown d) (λ d. faults d)
-        (finished script.now.setup ran.0.board.history) ran.0.board.history ran.0.set.lost
-        displays.old.items displays.new.items) }
     ensures kept { AreKept (λ d. shown d) (λ d. faults d) (AreBegun script.now)
         displays.old.items displays.new.items (λ d. d.vtable) }
 {
@@ -151,19 +134,10 @@ pub fn play_touched(
     requires playable { is_playable script.now ≡ true }
     requires rise { rise_after 0 lines.now ≡ true }
     requires few { length displays.old.items < 2 ^ 32 }
-    ensures played { IfOk result (λ ran. HasPlayed script.now ran.0.board ran.0.kept
-        ran.0.answers) }
+    ensures run { IfOk result (λ ran. HasRunInOrder (λ d. shown d) (λ d. faults d) script.now
+        displays.old.items displays.new.items keeping ran.0) }
     ensures touches { IfOk result (λ ran. ran.1.items
         ≡ map (touch_of script.now.setup ran.0.board.history) lines.now) }
-    ensures probes { IfOk result (λ ran. ProbesAnswered script.now ran.0.board.history
-        ran.0.probes.items) }
-    ensures in_turn { IfOk result (λ ran. frames_seen ran.0.probes.items
-        ≡ seen_in_turn script.now ran.0.board.history) }
-    ensures written { IfOk result (λ ran. IsWritten script.now.setup ran.0.board.history) }
-    ensures keeping { IfOk result (λ ran. keeping_of ran.0.kept ≡ keeping) }
-    ensures seen { IfOk result (λ ran. HaveSeen (λ d. shown d) (λ d. faults d)
-        (finished script.now.setup ran.0.board.history) ran.0.board.history ran.0.set.lost
-        displays.old.items displays.new.items) }
     ensures kept { AreKept (λ d. shown d) (λ d. faults d) (AreBegun script.now)
         displays.old.items displays.new.items (λ d. d.vtable) }
 {
@@ -187,17 +161,8 @@ pub fn play_script(
 ) -> Result<Played, NoMemory>
     requires playable { is_playable script.now ≡ true }
     requires few { length displays.old.items < 2 ^ 32 }
-    ensures played { IfOk result (λ played. HasPlayed script.now played.board played.kept
-        played.answers) }
-    ensures probes { IfOk result (λ played. ProbesAnswered script.now played.board.history
-        played.probes.items) }
-    ensures in_turn { IfOk result (λ played. frames_seen played.probes.items
-        ≡ seen_in_turn script.now played.board.history) }
-    ensures written { IfOk result (λ played. IsWritten script.now.setup played.board.history) }
-    ensures keeping { IfOk result (λ played. keeping_of played.kept ≡ keeping) }
-    ensures seen { IfOk result (λ played. HaveSeen (λ d. shown d) (λ d. faults d)
-        (finished script.now.setup played.board.history) played.board.history played.set.lost
-        displays.old.items displays.new.items) }
+    ensures run { IfOk result (HasRunInOrder (λ d. shown d) (λ d. faults d) script.now
+        displays.old.items displays.new.items keeping) }
     ensures kept { AreKept (λ d. shown d) (λ d. faults d) (AreBegun script.now)
         displays.old.items displays.new.items (λ d. d.vtable) }
 {
@@ -214,17 +179,9 @@ pub fn play_explained(
 ) -> Result<(Played, Vec<u8>), NoMemory>
     requires playable { is_playable script.now ≡ true }
     requires few { length displays.old.items < 2 ^ 32 }
-    ensures played { IfOk result (λ ran. HasPlayed script.now ran.0.board ran.0.kept
-        ran.0.answers) }
+    ensures run { IfOk result (λ ran. HasRunInOrder (λ d. shown d) (λ d. faults d) script.now
+        displays.old.items displays.new.items Keeping.Last ran.0) }
     ensures text { IfOk result (λ ran. ran.1.items ≡ why_text script.now ran.0.board.history) }
-    ensures probes { IfOk result (λ ran. ProbesAnswered script.now ran.0.board.history
-        ran.0.probes.items) }
-    ensures in_turn { IfOk result (λ ran. frames_seen ran.0.probes.items
-        ≡ seen_in_turn script.now ran.0.board.history) }
-    ensures written { IfOk result (λ ran. IsWritten script.now.setup ran.0.board.history) }
-    ensures seen { IfOk result (λ ran. HaveSeen (λ d. shown d) (λ d. faults d)
-        (finished script.now.setup ran.0.board.history) ran.0.board.history ran.0.set.lost
-        displays.old.items displays.new.items) }
     ensures kept { AreKept (λ d. shown d) (λ d. faults d) (AreBegun script.now)
         displays.old.items displays.new.items (λ d. d.vtable) }
 {

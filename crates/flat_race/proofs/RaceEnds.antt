@@ -1,39 +1,26 @@
 -- What is known of a race once its threads have ended.
 use Rattle.std.proofs.Common.{◌≡◌, ℕ, List, map, Option, None, Some, Result, Ok, Err, IfErr, IfOk, refl, sym, subst}
 use Rattle.flat_scene.specs.declared.frames.FrameOut.{FrameOut}
-use Rattle.flat_scene.specs.declared.setup.Setup.{Setup}
 use Rattle.flat_scene.specs.Journals.{history_of}
 use Rattle.flat_report.specs.Report.{finished}
 use Rattle.flat_stage.specs.Seats.{StageView}
 use Rattle.flat_places.specs.declared.script.Script.{Script}
-use Rattle.flat_play.specs.declared.kept.Keeping.{Keeping}
-use Rattle.flat_play.specs.Keeping.{keeping_of}
-use Rattle.flat_play.specs.Showing.{HaveSeen}
 use Rattle.flat_race.specs.declared.running.Ended.{Ended}
 use Rattle.flat_race.specs.declared.running.Stopped.{Stopped}
 use Rattle.flat_display.specs.Had.{AreKept}
 use Rattle.flat_play.specs.Beginning.{AreBegun}
 use Rattle.flat_play.proofs.lemmas.Begun.{none-begun}
 use Rattle.flat_play.proofs.lemmas.Seen.{kept_none}
-use Rattle.flat_race.specs.Ends.{HaveEnded, IsStopped}
+use Rattle.flat_actors.specs.declared.film.Film.{Film}
+use Rattle.flat_race.specs.Ends.{HaveRaced, IsStopped}
 
-module _ (r : Result Ended (Option Stopped)) (e : Ended) (is : r ≡ Ok e) where
-  pub ok_ended : (view : StageView) (script : Script) → IfOk r (λ e. HaveEnded view script e.compositor.display e.seats e.film)
-      → HaveEnded view script e.compositor.display e.seats e.film
-  ok_ended view script holds = let P : Result Ended (Option Stopped) → Type 0 =
-      λ r. IfOk r (λ e. HaveEnded view script e.compositor.display e.seats e.film) in subst P is holds
-
-  pub ok_seen : {D : Type 0} (told : D → Option (List FrameOut)) (count : D → ℕ) (setup : Setup) (olds news : List D)
-      → IfOk r (λ e. HaveSeen told count (finished setup (history_of e.compositor.display.seen)) (history_of e.compositor.display.seen) e.film.set.lost olds
-      news)
-      → HaveSeen told count (finished setup (history_of e.compositor.display.seen)) (history_of e.compositor.display.seen) e.film.set.lost olds news
-  ok_seen told count setup olds news holds = let P : Result Ended (Option Stopped) → Type 0 =
-      λ r. IfOk r (λ e. HaveSeen told count (finished setup (history_of e.compositor.display.seen)) (history_of e.compositor.display.seen) e.film.set.lost olds
-      news) in
-      subst P is holds
-
-  pub ok_kept : (keeping : Keeping) → IfOk r (λ e. keeping_of e.film.store.kept ≡ keeping) → keeping_of e.film.store.kept ≡ keeping
-  ok_kept keeping holds = let P : Result Ended (Option Stopped) → Type 0 = λ r. IfOk r (λ e. keeping_of e.film.store.kept ≡ keeping) in subst P is holds
+pub ok_raced : (r : Result Ended (Option Stopped)) (e : Ended) → r ≡ Ok e → {D : Type 0} (told : D → Option (List FrameOut)) (count : D → ℕ)
+    (view : StageView) (script : Script) (olds news : List D) (was : Film)
+    → IfOk r (λ e. HaveRaced told count view script olds news e.compositor.display e.seats was e.film)
+    → HaveRaced told count view script olds news e.compositor.display e.seats was e.film
+ok_raced r e is told count view script olds news was holds =
+    let P : Result Ended (Option Stopped) → Type 0 =
+    λ r. IfOk r (λ e. HaveRaced told count view script olds news e.compositor.display e.seats was e.film) in subst P is holds
 
 -- What is known where an actor found no memory.
 module _ {D K : Type 0} (told : D → Option (List FrameOut)) (count : D → ℕ) (kind : D → K) (view : StageView) (script : Script) (olds news : List D) where

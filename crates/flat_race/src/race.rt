@@ -1,27 +1,23 @@
 //! A race. Each seat knows its own part of the history, and what others did only to the
 //! point that it has seen; the whole is known when all seats are home (`close`).
-ghost use Rattle.std.specs.Prelude.{◌≡◌, ◌<◌, ◌^◌, [], true, length, Some, IfOk};
+ghost use Rattle.std.specs.Prelude.{◌≡◌, ◌<◌, ◌^◌, true, length, Some, IfOk};
 ghost use Rattle.flat_playable.specs.Playable.{is_playable};
 ghost use Rattle.flat_display.specs.Had.{AreKept};
 ghost use Rattle.flat_scene.specs.Journals.{history_of};
-ghost use Rattle.flat_rules.specs.Legal.{frames};
 ghost use Rattle.flat_stage.specs.Displays.{IsNewCompositor};
 ghost use Rattle.flat_stage.specs.Homes.{AreFresh};
 ghost use Rattle.flat_report.specs.Report.{finished};
 ghost use Rattle.flat_play.specs.Beginning.{AreBegun};
 ghost use Rattle.flat_play.specs.Keeping.{keeping_of};
-ghost use Rattle.flat_play.specs.Playing.{HasPlayed};
-ghost use Rattle.flat_play.specs.Showing.{HaveSeen};
-ghost use Rattle.flat_actors.specs.Directing.{FilmStands};
+ghost use Rattle.flat_play.specs.Runs.{HasRun};
+ghost use Rattle.flat_actors.specs.Directing.{IsNewFilm};
 ghost use Rattle.flat_race.specs.declared.running.Stopped.{Stopped};
-ghost use Rattle.flat_race.specs.Ends.{AreAtRest, HaveEnded};
-ghost use Rattle.flat_report.specs.Probes.{ProbesAnswered};
+ghost use Rattle.flat_race.specs.Ends.{AreAtRest, HaveEnded, IsHandedOut, MayRace};
 ghost use Rattle.flat_actors.specs.Sessions.{IsStageOf};
 
 use crate::running::{Ended, Raced, Stopped, on_threads};
 use flat_actors::{Film, Gate};
 use flat_base::NoMemory;
-use flat_core::Board;
 use flat_display::{Display, DisplaySet};
 use flat_places::Script;
 use flat_play::{FrameStore, Keeping, Played, let_go, open_board};
@@ -40,9 +36,7 @@ fn new_film(
     displays: u32,
 ) -> Result<Film, NoMemory>
     requires playable { is_playable script.now ≡ true }
-    ensures stands { IfOk result (λ film. FilmStands script.now [] film) }
-    ensures none { IfOk result (λ film. film.set.lost ≡ []) }
-    ensures number { IfOk result (λ film. film.set.displays ≡ displays) }
+    ensures new { IfOk result (IsNewFilm script.now displays) }
     ensures keeping { IfOk result (λ film. keeping_of film.store.kept ≡ keeping) }
 {
     let set = DisplaySet::new(alloc, displays)?;
@@ -71,13 +65,7 @@ fn close(stage: Stage, script: &Script, ended: Ended) -> Played
     requires playable { is_playable script.now ≡ true }
     requires of { IsStageOf stage script.now }
     requires ended { HaveEnded stage script.now ended.compositor.display ended.seats ended.film }
-    ensures played { HasPlayed script.now result.board result.kept result.answers }
-    ensures frames { finished script.now.setup result.board.history
-        ≡ finished script.now.setup (history_of ended.compositor.display.seen) }
-    ensures kept { result.kept ≡ ended.film.store.kept }
-    ensures set { result.set ≡ ended.film.set }
-    ensures as_many { frames result.board.history ≡ frames (history_of ended.compositor.display.seen) }
-    ensures probes { ProbesAnswered script.now result.board.history result.probes.items }
+    ensures out { IsHandedOut script.now ended.compositor.display ended.film result }
     ensures begun { AreBegun script.now (finished script.now.setup
         (history_of ended.compositor.display.seen)) }
 {
@@ -134,23 +122,9 @@ fn race_on<T: Threads + Wait + Sync, G: Gate>(
     film: Film,
     displays: &mut Vec<Box<dyn Display>>,
 ) -> Result<Played, NoMemory>
-    requires playable { is_playable script.now ≡ true }
-    requires of { IsStageOf stage script.now }
-    requires compositor { IsNewCompositor stage compositor }
-    requires own { seats.stage ≡ stage }
-    requires sessions { AreFresh stage script.now.setup.sessions seats.seats }
-    requires film { FilmStands script.now [] film }
-    requires none { film.set.lost ≡ [] }
-    requires number { length displays.old.items ≡ film.set.displays }
-    requires few { film.set.displays < 2 ^ 32 }
-    ensures played { IfOk result (λ played. HasPlayed script.now played.board played.kept
-        played.answers) }
-    ensures probes { IfOk result (λ played. ProbesAnswered script.now played.board.history
-        played.probes.items) }
-    ensures keeping { IfOk result (λ played. keeping_of played.kept ≡ keeping_of film.store.kept) }
-    ensures seen { IfOk result (λ played. HaveSeen (λ d. shown d) (λ d. faults d)
-        (finished script.now.setup played.board.history) played.board.history played.set.lost
-        displays.old.items displays.new.items) }
+    requires { MayRace stage script.now (length displays.old.items) compositor seats film }
+    ensures run { IfOk result (HasRun (λ d. shown d) (λ d. faults d) script.now displays.old.items
+        displays.new.items (keeping_of film.store.kept)) }
     ensures kept { AreKept (λ d. shown d) (λ d. faults d) (AreBegun script.now)
         displays.old.items displays.new.items (λ d. d.vtable) }
 {
@@ -192,14 +166,8 @@ pub fn race_script<T: Threads + Wait + Sync, G: Gate>(
 ) -> Result<Played, NoMemory>
     requires playable { is_playable script.now ≡ true }
     requires few { length displays.old.items < 2 ^ 32 }
-    ensures played { IfOk result (λ played. HasPlayed script.now played.board played.kept
-        played.answers) }
-    ensures probes { IfOk result (λ played. ProbesAnswered script.now played.board.history
-        played.probes.items) }
-    ensures keeping { IfOk result (λ played. keeping_of played.kept ≡ keeping) }
-    ensures seen { IfOk result (λ played. HaveSeen (λ d. shown d) (λ d. faults d)
-        (finished script.now.setup played.board.history) played.board.history played.set.lost
-        displays.old.items displays.new.items) }
+    ensures run { IfOk result (HasRun (λ d. shown d) (λ d. faults d) script.now displays.old.items
+        displays.new.items keeping) }
     ensures kept { AreKept (λ d. shown d) (λ d. faults d) (AreBegun script.now)
         displays.old.items displays.new.items (λ d. d.vtable) }
 {

@@ -1,17 +1,8 @@
 //! All actors of a race at once: the sessions and the probes on their threads, and the
 //! compositor on this one.
-ghost use Rattle.std.specs.Prelude.{◌≡◌, ◌<◌, ◌^◌, [], true, length, map, replicate, Some, IfErr, IfOk, OnOk};
-ghost use Rattle.flat_playable.specs.Playable.{is_playable};
-ghost use Rattle.flat_scene.specs.Journals.{history_of};
-ghost use Rattle.flat_stage.specs.Displays.{IsNewCompositor};
-ghost use Rattle.flat_stage.specs.Homes.{AreFresh};
-ghost use Rattle.flat_report.specs.Report.{finished};
+ghost use Rattle.std.specs.Prelude.{◌≡◌, ◌<◌, [], length, map, replicate, Some, IfErr, IfOk, OnOk};
 ghost use Rattle.flat_publish.specs.State.{newcomer};
-ghost use Rattle.flat_play.specs.Keeping.{keeping_of};
-ghost use Rattle.flat_play.specs.Showing.{HaveSeen};
-ghost use Rattle.flat_actors.specs.Directing.{FilmStands};
-ghost use Rattle.flat_race.specs.Ends.{HaveEnded, IsStopped, StopsAt};
-ghost use Rattle.flat_actors.specs.Sessions.{IsStageOf};
+ghost use Rattle.flat_race.specs.Ends.{HaveRaced, IsStopped, MayRace, StopsAt};
 
 use crate::probe_threads::{meet_each, start_probes};
 use crate::threads::{COMPOSITOR, put_back, start_each};
@@ -71,28 +62,15 @@ fn run_beside<'s, E, T: Threads + Wait + Sync, G: Gate>(
     published: &mut Published,
     probes: &mut ProbeSeats,
 ) -> Result<(), Halt>
-    requires playable { is_playable lent.now.script.now ≡ true }
-    requires of { IsStageOf lent.now.stage.now lent.now.script.now }
-    requires compositor { IsNewCompositor lent.now.stage.now compositor.old }
-    requires own { seats.old.stage ≡ lent.now.stage.now }
-    requires sessions { AreFresh lent.now.stage.now lent.now.script.now.setup.sessions
-        seats.old.seats }
-    requires film { FilmStands lent.now.script.now [] film.old }
-    requires none { film.old.set.lost ≡ [] }
-    requires number { length displays.old.items ≡ film.old.set.displays }
-    requires few { film.old.set.displays < 2 ^ 32 }
+    requires may { MayRace lent.now.stage.now lent.now.script.now (length displays.old.items)
+        compositor.old seats.old film.old }
     requires unpublished { published.old
         ≡ record { home = published.old.home; frames = []; refused = []; given = 0 } }
     requires probes { probes.old ≡ replicate lent.now.script.now.setup.probes
         (Some (newcomer published.old.home)) }
-    ensures ended { OnOk result (HaveEnded lent.now.stage.now lent.now.script.now
-        compositor.new.display seats.new film.new) }
-    ensures seen { OnOk result (HaveSeen (λ d. shown d) (λ d. faults d)
-        (finished lent.now.script.now.setup (history_of compositor.new.display.seen))
-        (history_of compositor.new.display.seen) film.new.set.lost displays.old.items
-        displays.new.items) }
-    ensures keeping { OnOk result (keeping_of film.new.store.kept
-        ≡ keeping_of film.old.store.kept) }
+    ensures raced { OnOk result (HaveRaced (λ d. shown d) (λ d. faults d) lent.now.stage.now
+        lent.now.script.now displays.old.items displays.new.items compositor.new.display seats.new
+        film.old film.new) }
     ensures stopped { IfErr result (StopsAt (λ d. shown d) (λ d. faults d)
         lent.now.stage.now lent.now.script.now displays.old.items displays.new.items
         compositor.new.display seats.new) }
@@ -142,24 +120,11 @@ fn run_all<'s, E, T: Threads + Wait + Sync, G: Gate>(
     film: &mut Film,
     displays: &mut Vec<Box<dyn Display>>,
 ) -> Result<(), Halt>
-    requires playable { is_playable lent.now.script.now ≡ true }
-    requires of { IsStageOf lent.now.stage.now lent.now.script.now }
-    requires compositor { IsNewCompositor lent.now.stage.now compositor.old }
-    requires own { seats.old.stage ≡ lent.now.stage.now }
-    requires sessions { AreFresh lent.now.stage.now lent.now.script.now.setup.sessions
-        seats.old.seats }
-    requires film { FilmStands lent.now.script.now [] film.old }
-    requires none { film.old.set.lost ≡ [] }
-    requires number { length displays.old.items ≡ film.old.set.displays }
-    requires few { film.old.set.displays < 2 ^ 32 }
-    ensures ended { OnOk result (HaveEnded lent.now.stage.now lent.now.script.now
-        compositor.new.display seats.new film.new) }
-    ensures seen { OnOk result (HaveSeen (λ d. shown d) (λ d. faults d)
-        (finished lent.now.script.now.setup (history_of compositor.new.display.seen))
-        (history_of compositor.new.display.seen) film.new.set.lost displays.old.items
-        displays.new.items) }
-    ensures keeping { OnOk result (keeping_of film.new.store.kept
-        ≡ keeping_of film.old.store.kept) }
+    requires may { MayRace lent.now.stage.now lent.now.script.now (length displays.old.items)
+        compositor.old seats.old film.old }
+    ensures raced { OnOk result (HaveRaced (λ d. shown d) (λ d. faults d) lent.now.stage.now
+        lent.now.script.now displays.old.items displays.new.items compositor.new.display seats.new
+        film.old film.new) }
     ensures stopped { IfErr result (StopsAt (λ d. shown d) (λ d. faults d)
         lent.now.stage.now lent.now.script.now displays.old.items displays.new.items
         compositor.new.display seats.new) }
@@ -196,21 +161,11 @@ fn run_in<'s, E, T: Threads + Wait + Sync, G: Gate>(
     mut film: Film,
     mut displays: Vec<Box<dyn Display>>,
 ) -> Raced
-    requires playable { is_playable lent.now.script.now ≡ true }
-    requires of { IsStageOf lent.now.stage.now lent.now.script.now }
-    requires compositor { IsNewCompositor lent.now.stage.now compositor }
-    requires own { seats.stage ≡ lent.now.stage.now }
-    requires sessions { AreFresh lent.now.stage.now lent.now.script.now.setup.sessions seats.seats }
-    requires film { FilmStands lent.now.script.now [] film }
-    requires none { film.set.lost ≡ [] }
-    requires number { length displays.items ≡ film.set.displays }
-    requires few { film.set.displays < 2 ^ 32 }
-    ensures ended { IfOk result.ended (λ e. HaveEnded lent.now.stage.now lent.now.script.now
-        e.compositor.display e.seats e.film) }
-    ensures seen { IfOk result.ended (λ e. HaveSeen (λ d. shown d) (λ d. faults d)
-        (finished lent.now.script.now.setup (history_of e.compositor.display.seen))
-        (history_of e.compositor.display.seen) e.film.set.lost displays.items result.displays.items) }
-    ensures keeping { IfOk result.ended (λ e. keeping_of e.film.store.kept ≡ keeping_of film.store.kept) }
+    requires may { MayRace lent.now.stage.now lent.now.script.now (length displays.items) compositor
+        seats film }
+    ensures raced { IfOk result.ended (λ e. HaveRaced (λ d. shown d) (λ d. faults d)
+        lent.now.stage.now lent.now.script.now displays.items result.displays.items
+        e.compositor.display e.seats film e.film) }
     ensures stopped { IfErr result.ended (λ stopped. IsStopped (λ d. shown d) (λ d. faults d)
         lent.now.stage.now lent.now.script.now displays.items result.displays.items stopped) }
     ensures kinds { map (λ d. d.vtable) result.displays.items
@@ -263,21 +218,9 @@ pub(crate) fn on_threads<T: Threads + Wait + Sync, G: Gate>(
     film: Film,
     displays: Vec<Box<dyn Display>>,
 ) -> Raced
-    requires playable { is_playable script.now ≡ true }
-    requires of { IsStageOf stage.now script.now }
-    requires compositor { IsNewCompositor stage.now compositor }
-    requires own { seats.stage ≡ stage.now }
-    requires sessions { AreFresh stage.now script.now.setup.sessions seats.seats }
-    requires film { FilmStands script.now [] film }
-    requires none { film.set.lost ≡ [] }
-    requires number { length displays.items ≡ film.set.displays }
-    requires few { film.set.displays < 2 ^ 32 }
-    ensures ended { IfOk result.ended (λ e. HaveEnded stage.now script.now e.compositor.display e.seats
-        e.film) }
-    ensures seen { IfOk result.ended (λ e. HaveSeen (λ d. shown d) (λ d. faults d)
-        (finished script.now.setup (history_of e.compositor.display.seen)) (history_of e.compositor.display.seen)
-        e.film.set.lost displays.items result.displays.items) }
-    ensures keeping { IfOk result.ended (λ e. keeping_of e.film.store.kept ≡ keeping_of film.store.kept) }
+    requires may { MayRace stage.now script.now (length displays.items) compositor seats film }
+    ensures raced { IfOk result.ended (λ e. HaveRaced (λ d. shown d) (λ d. faults d) stage.now
+        script.now displays.items result.displays.items e.compositor.display e.seats film e.film) }
     ensures stopped { IfErr result.ended (λ stopped. IsStopped (λ d. shown d) (λ d. faults d)
         stage.now script.now displays.items result.displays.items stopped) }
     ensures kinds { map (λ d. d.vtable) result.displays.items
@@ -289,19 +232,10 @@ pub(crate) fn on_threads<T: Threads + Wait + Sync, G: Gate>(
         thread::scope_env(),
         rt,
         move |scope| -> Raced
-            requires { (is_playable script.now ≡ true) × IsStageOf stage.now script.now
-                × IsNewCompositor stage.now compositor
-                × (seats.stage ≡ stage.now)
-                × AreFresh stage.now script.now.setup.sessions seats.seats
-                × FilmStands script.now [] film × (film.set.lost ≡ [])
-                × (length displays.items ≡ film.set.displays) × (film.set.displays < 2 ^ 32) }
-            ensures { IfOk result.ended (λ e. HaveEnded stage.entry.now script.entry.now
-                e.compositor.display e.seats e.film)
-                × IfOk result.ended (λ e. HaveSeen (λ d. shown d) (λ d. faults d)
-                (finished script.entry.now.setup (history_of e.compositor.display.seen))
-                (history_of e.compositor.display.seen) e.film.set.lost displays.items
-                result.displays.items)
-                × IfOk result.ended (λ e. keeping_of e.film.store.kept ≡ keeping_of film.store.kept)
+            requires { MayRace stage.now script.now (length displays.items) compositor seats film }
+            ensures { IfOk result.ended (λ e. HaveRaced (λ d. shown d) (λ d. faults d)
+                stage.entry.now script.entry.now displays.items result.displays.items
+                e.compositor.display e.seats film e.film)
                 × IfErr result.ended (λ stopped. IsStopped (λ d. shown d) (λ d. faults d)
                 stage.entry.now script.entry.now displays.items result.displays.items stopped)
                 × (map (λ d. d.vtable) result.displays.items ≡ map (λ d. d.vtable)

@@ -2,17 +2,11 @@
 //! the first byte is written. So the program never runs out of memory halfway through a
 //! report.
 ghost use Rattle.std.specs.Prelude.{◌≡◌, ◌≢◌, ◌<◌, ◌^◌, [], ℕ, List, true, false, map, length, IfOk, Ok, Err};
-ghost use Rattle.flat_scene.specs.Interleave.{IsWritten};
 ghost use Rattle.flat_words.specs.declared.form.Form.TheVariants.{Film, Judge, Pointer, Race, Why};
 ghost use Rattle.flat_words.specs.Forms.{IsAllowed};
 ghost use Rattle.flat_display.specs.Had.{AreKept};
-ghost use Rattle.flat_report.specs.Probes.{ProbesAnswered, frames_seen};
-ghost use Rattle.flat_report.specs.Report.{finished};
 ghost use Rattle.flat_play.specs.Beginning.{AreBegun};
-ghost use Rattle.flat_play.specs.Keeping.{keeping_of};
-ghost use Rattle.flat_play.specs.Playing.{HasPlayed};
-ghost use Rattle.flat_play.specs.InTurn.{seen_in_turn};
-ghost use Rattle.flat_play.specs.Showing.{HaveSeen};
+ghost use Rattle.flat_play.specs.Runs.{HasRunInOrder};
 ghost use Rattle.flat_play.specs.Touches.{touch_of};
 ghost use Rattle.flat_run.specs.Answering.{Answers, IsRunnable};
 ghost use Rattle.flat_run.specs.Forms.{Fits, form_read, is_read};
@@ -49,20 +43,10 @@ fn play_reading(
 ) -> Result<(Played, Vec<Touch>), NoMemory>
     requires runnable { IsRunnable reading.now }
     requires few { length displays.old.items < 2 ^ 32 }
-    ensures played { IfOk result
-        (λ ran. HasPlayed reading.now.script ran.0.board ran.0.kept ran.0.answers) }
-    ensures probes { IfOk result
-        (λ ran. ProbesAnswered reading.now.script ran.0.board.history ran.0.probes.items) }
-    ensures keeping { IfOk result (λ ran. keeping_of ran.0.kept ≡ keeping_for form) }
+    ensures run { IfOk result (λ ran. HasRunInOrder (λ d. shown d) (λ d. faults d)
+        reading.now.script displays.old.items displays.new.items (keeping_for form) ran.0) }
     ensures touches { form ≡ Pointer → IfOk result (λ ran. ran.1.items ≡
         map (touch_of reading.now.script.setup ran.0.board.history) reading.now.pointers) }
-    ensures written { IfOk result
-        (λ ran. IsWritten reading.now.script.setup ran.0.board.history) }
-    ensures in_turn { IfOk result (λ ran. frames_seen ran.0.probes.items ≡
-        seen_in_turn reading.now.script ran.0.board.history) }
-    ensures seen { IfOk result (λ ran. HaveSeen (λ d. shown d) (λ d. faults d)
-        (finished reading.now.script.setup ran.0.board.history) ran.0.board.history ran.0.set.lost
-        displays.old.items displays.new.items) }
     ensures kept { AreKept (λ d. shown d) (λ d. faults d) (AreBegun reading.now.script)
         displays.old.items displays.new.items (λ d. d.vtable) }
 {

@@ -226,3 +226,12 @@ module _ (script : Script) (old : List Entry) (start : FrameStart) (store : Fram
 pub stays_stored : (setup : Setup) (store : FrameStore) (last : LastFrame) → StaysLast setup store.last last
     → StaysStored setup store (record store { last = last })
 stays_stored setup store last stays = record { kept = refl; last = stays; points = refl }
+
+-- the answer to a line leaves what is kept of frames
+pub answers_keep : (setup : Setup) (n : ℕ) (text : DisplayLine) (old new : FrameStore) → AnswersLine setup n text old new → new.kept ≡ old.kept
+answers_keep setup n (display.Begin time) old new answers = ap (λ (s : FrameStore). s.kept) answers
+answers_keep setup n display.Done old new answers = ap (λ (s : FrameStore). s.kept) answers
+answers_keep setup n (display.Signal f) old new answers = ap (λ (s : FrameStore). s.kept) answers
+answers_keep setup n (display.Wait c) old new answers = ap (λ (s : FrameStore). s.kept) answers
+answers_keep setup n (display.Hit x y) old new answers = answers.kept
+answers_keep setup n (display.Dpr ratio) old new answers = ap (λ (s : FrameStore). s.kept) answers

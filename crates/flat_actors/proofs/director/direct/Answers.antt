@@ -19,11 +19,11 @@ use Rattle.flat_actors.proofs.director.direct.Goals as goal
 pub loop-place-init : goal.loop-place-init
 loop-place-init g c = record {
   stands = stands_first c.args.lent.now.script.now c.args.lent.now.stage.now c.args.compositor.now c.args.film.now c.requires.playable c.requires.of.setup
-      c.requires.fresh c.requires.film;
+      c.requires.fresh c.requires.film.stands;
   seen = seen_none _ _ _ _ _ _
-      (ap (λ (s : DisplayView). finished c.args.lent.now.script.now.setup (history_of s.seen)) c.requires.fresh.display) c.requires.none;
+      (ap (λ (s : DisplayView). finished c.args.lent.now.script.now.setup (history_of s.seen)) c.requires.fresh.display) c.requires.film.none;
   keeping = refl;
-  number = c.requires.number;
+  number = c.requires.film.number;
   kinds = refl;
   same = refl;
   published = subst (λ (s : DisplayView). PublishedStand c.args.lent.now.script.now (history_of s.seen) c.args.published.now) (sym c.requires.fresh.display)
@@ -71,7 +71,7 @@ loop-place-preserved g c =
           c.in_ok-end_line.ensures.stays now.stands;
       seen = seen_counted _ _ (finished script.setup now_seen) (finished script.setup now_seen) now_seen now_seen _ _ _ _ _ refl refl
           (ap (λ (s : Driven). s.lost) set) refl (seen_line _ _ script.setup _ _ was_seen now_seen refl refl _ _ _ _ _
-          (omega (arith, was.number, was.same, c.requires.few)) now.directs.shown was.seen);
+          (omega (arith, was.number, was.same, c.requires.film.few)) now.directs.shown was.seen);
       number = as_long _ _ _ kept.kinds ∙ was.number ∙ sym kept.count ∙ ap (λ (s : Driven). s.displays) (sym set);
       kinds = kept.kinds ∙ was.kinds;
       keeping = ap (λ (f : Film). keeping_of f.store.kept) sent.others ∙ now.directs.keeping ∙ was.keeping;
@@ -84,26 +84,22 @@ loop-place-preserved g c =
       home = sent.home ∙ was.home;
     }
 
-pub returns-clause-stands : goal.returns-clause-stands
-returns-clause-stands g c =
-    let last : c.loop-place.place ≡ length c.args.lent.now.script.now.lines = omega (arith, c.loop-place.auto.place-end, c.loop-place-test.false) in
-    let P : ℕ → Type 0 = λ n. CompositorStands c.args.lent.now.script.now c.args.lent.now.stage.now n c.loop-place.compositor c.loop-place.film in
-    (subst P last c.loop-place.invariant.stands).seat
-
-pub returns-clause-film : goal.returns-clause-film
-returns-clause-film g c = c.loop-place.invariant.stands.frames.stored
-
-pub returns-clause-seen : goal.returns-clause-seen
-returns-clause-seen g c = c.loop-place.invariant.seen
-
-pub returns-clause-published : goal.returns-clause-published
-returns-clause-published g c = c.loop-place.invariant.published
+pub returns-clause-directs : goal.returns-clause-directs
+returns-clause-directs g c =
+    let script = c.args.lent.now.script.now in
+    let was = c.loop-place.invariant in
+    let last : c.loop-place.place ≡ length script.lines = omega (arith, c.loop-place.auto.place-end, c.loop-place-test.false) in
+    let P : ℕ → Type 0 = λ n. CompositorStands script c.args.lent.now.stage.now n c.loop-place.compositor c.loop-place.film in
+    record {
+      stands = (subst P last was.stands).seat;
+      film = was.stands.frames.stored;
+      keeping = was.keeping;
+      published = was.published;
+      seen = was.seen;
+    }
 
 pub returns-clause-home : goal.returns-clause-home
 returns-clause-home g c = c.loop-place.invariant.home
-
-pub returns-clause-keeping : goal.returns-clause-keeping
-returns-clause-keeping g c = c.loop-place.invariant.keeping
 
 pub returns-in_err-direct_next-clause-stopped : goal.returns-in_err-direct_next-clause-stopped
 returns-in_err-direct_next-clause-stopped g c =
@@ -128,7 +124,7 @@ returns-in_err-end_line-clause-stopped g c =
     c.direct_next.new.compositor refl
     c.direct_next.new.film now.stands _ _ _ _ refl
     (seen_line _ _ c.args.lent.now.script.now.setup _ _ (history_of c.loop-place.compositor.display.seen)
-    (history_of c.direct_next.new.compositor.display.seen) refl refl _ _ _ _ _ (omega (arith, was.number, was.same, c.requires.few)) now.directs.shown
+    (history_of c.direct_next.new.compositor.display.seen) refl refl _ _ _ _ _ (omega (arith, was.number, was.same, c.requires.film.few)) now.directs.shown
     was.seen))
 
 pub returns-in_err-end_line-clause-kinds : goal.returns-in_err-end_line-clause-kinds

@@ -24,7 +24,8 @@ use Rattle.flat_actors.specs.Directing.{EntersBeside}
 use Rattle.flat_actors.proofs.Finishing.{finishes_then}
 use Rattle.flat_actors.proofs.LineSteps.{begins_closed, compositor_looks, finished_still, finished_then, finishes_open, frames_few, line_begins}
 use Rattle.flat_actors.proofs.LineSteps.{line_beside, line_finishes, looked_beside, seat_room, shown_as, time_fits}
-use Rattle.flat_actors.proofs.LinesBeside.{answers_keep, beside_fits}
+use Rattle.flat_play.proofs.lemmas.Storing.{answers_keep}
+use Rattle.flat_actors.proofs.LinesBeside.{beside_fits}
 use Rattle.flat_actors.proofs.Looks.{looked_there}
 use Rattle.flat_actors.proofs.director.direct_line.Goals as goal
 

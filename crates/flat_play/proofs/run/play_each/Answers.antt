@@ -86,15 +86,16 @@ loop-place-preserved g c =
     let stays = c.in_ok-left.ensures.stays in
     let number : last.frame.0 ≡ frames old = ap (λ (n : FrameNo). n.0) stays.frame ∙ was.stands.frames.stored.ends.number in
     let showing = stays.reuse ∙ was.stands.frames.stored.ends.shows in
-    let on = now.goes_on x c.at-line.ensures in
+    let plays = now.plays x c.at-line.ensures in
+    let on = plays.goes_on in
     let asks = c.in_ok-answer_line.ensures.answers in
     record {
-      stands = now.stands;
+      stands = plays.stands;
       seen = seen_line _ _ script.setup _ _ old new refl refl _ _ _ _ _ (omega (arith, was.number, was.same, c.requires.few)) now.shows was.seen;
-      number = as_long _ _ _ c.play_line.ensures.kinds ∙ was.number ∙ sym c.play_line.ensures.same;
-      kinds = c.play_line.ensures.kinds ∙ was.kinds;
-      keeping = now.keeping ∙ was.keeping;
-      same = c.play_line.ensures.same ∙ was.same;
+      number = as_long _ _ _ c.play_line.ensures.displays.kinds ∙ was.number ∙ sym c.play_line.ensures.displays.count;
+      kinds = c.play_line.ensures.displays.kinds ∙ was.kinds;
+      keeping = plays.keeping ∙ was.keeping;
+      same = c.play_line.ensures.displays.count ∙ was.same;
       answered =
           let A : ℕ → Type 0 = λ n. AreAnswered script.setup new n c.args.lines.now c.in_ok-left.left.now c.answer_upto.new.found.items in
           subst A (sym at.last)
@@ -116,27 +117,31 @@ loop-place-preserved g c =
           last.reuse last.frame.0 number c.loop-place.answers.items c.answer_line.new.answers.items was.asked.count asks was.turns);
     }
 
-pub returns-clause-stands : goal.returns-clause-stands
-returns-clause-stands g c =
-    let last : c.loop-place.place ≡ length c.args.script.now.lines = omega (arith, c.loop-place.auto.place-end, c.loop-place-test.false) in
-    let P : ℕ → Type 0 = λ n. PlayStands c.args.script.now n c.loop-place.play in
-    play_stays c.args.script.now _ c.loop-place.play _ c.in_ok-answer_all.ensures.stays (subst P last c.loop-place.invariant.stands)
-
-pub returns-clause-touches : goal.returns-clause-touches
-returns-clause-touches g c =
-    let setup = c.args.script.now.setup in
+pub returns-clause-reads : goal.returns-clause-reads
+returns-clause-reads g c =
+    let script = c.args.script.now in
+    let setup = script.setup in
     let play = c.loop-place.play in
-    answered-all setup _ _ _ _ _ (at_ratio play.store.last.ratio setup) _ c.loop-place.invariant.answered
-    (scaled setup (to_finished play.board.history) play.store.last.ratio c.loop-place.invariant.stands.frames.stored.ends.scales)
-    c.loop-place.invariant.stands.frames.stored.ends.shows _ c.in_ok-answer_all.ensures.answers
+    let history = play.board.history in
+    let was = c.loop-place.invariant in
+    let ends = was.stands.frames.stored.ends in
+    let last : c.loop-place.place ≡ length script.lines = omega (arith, c.loop-place.auto.place-end, c.loop-place-test.false) in
+    let P : ℕ → Type 0 = λ n. PlayStands script n play in
+    record {
+      stands = play_stays script _ play _ c.in_ok-answer_all.ensures.stays (subst P last was.stands);
+      touches =
+          answered-all setup _ _ _ _ _ (at_ratio play.store.last.ratio setup) _ was.answered
+          (scaled setup (to_finished history) play.store.last.ratio ends.scales) ends.shows _ c.in_ok-answer_all.ensures.answers;
+      probes = probes-all script c.loop-place.place history c.loop-place.answers.items last was.asked;
+      in_turn = turns-all script c.loop-place.place history c.loop-place.answers.items last was.asked.count was.turns;
+      keeping = was.keeping;
+      seen = was.seen;
+    }
 
-pub returns-clause-probes : goal.returns-clause-probes
-returns-clause-probes g c =
-    probes-all c.args.script.now c.loop-place.place c.loop-place.play.board.history c.loop-place.answers.items
-    (omega (arith, c.loop-place.auto.place-end, c.loop-place-test.false)) c.loop-place.invariant.asked
-
-pub returns-clause-seen : goal.returns-clause-seen
-returns-clause-seen g c = c.loop-place.invariant.seen
+pub returns-clause-notes : goal.returns-clause-notes
+returns-clause-notes g c =
+    let was = c.loop-place.invariant in
+    record { stands = was.explained; on = was.on; film = was.film }
 
 pub returns-clause-kept : goal.returns-clause-kept
 returns-clause-kept g c = kept_seen _ _ (AreBegun c.args.script.now) _ _ _ _ _ _ c.loop-place.invariant.kinds
@@ -155,12 +160,6 @@ returns-in_err-answer_line-clause-kept g c = kept_seen _ _ (AreBegun c.args.scri
     (play-begins c.args.script.now c.requires.playable c.loop-place.place c.loop-place.play c.loop-place.invariant.stands c.journal-journal.ensures.legal)
     c.loop-place.invariant.seen
 
-pub returns-clause-in_turn : goal.returns-clause-in_turn
-returns-clause-in_turn g c =
-    turns-all c.args.script.now c.loop-place.place c.loop-place.play.board.history c.loop-place.answers.items
-    (omega (arith, c.loop-place.auto.place-end, c.loop-place-test.false))
-    c.loop-place.invariant.asked.count c.loop-place.invariant.turns
-
 pub returns-in_err-left-clause-kept : goal.returns-in_err-left-clause-kept
 returns-in_err-left-clause-kept g c = kept_seen _ _ (AreBegun c.args.script.now) _ _ _ _ _ _ c.loop-place.invariant.kinds
     (play-begins c.args.script.now c.requires.playable c.loop-place.place c.loop-place.play c.loop-place.invariant.stands c.journal-journal.ensures.legal)
@@ -177,10 +176,10 @@ pub note-requires-clause-setup : goal.note-requires-clause-setup
 note-requires-clause-setup g c = setup_is c.args.script.now c.requires.playable
 
 pub note-requires-clause-of : goal.note-requires-clause-of
-note-requires-clause-of g c = c.in_ok-play_line.ensures.stands.setup
+note-requires-clause-of g c = (c.in_ok-play_line.ensures.plays c.at-line.result.now c.at-line.ensures).stands.setup
 
 pub note-requires-clause-frames : goal.note-requires-clause-frames
-note-requires-clause-frames g c = c.in_ok-play_line.ensures.stands.frames
+note-requires-clause-frames g c = (c.in_ok-play_line.ensures.plays c.at-line.result.now c.at-line.ensures).stands.frames
 
 pub note-requires-clause-before : goal.note-requires-clause-before
 note-requires-clause-before g c =
@@ -196,7 +195,7 @@ note-requires-clause-before g c =
       old,
       x.number,
       (let all : length old ≡ c.len-entries.result = omega (arith, long, whole, many) in all),
-      c.in_ok-play_line.ensures.goes_on x c.at-line.ensures,
+      (c.in_ok-play_line.ensures.plays x c.at-line.ensures).goes_on,
       c.loop-place.invariant.explained,
       number,
     )
@@ -205,17 +204,9 @@ pub returns-in_err-note-clause-kept : goal.returns-in_err-note-clause-kept
 returns-in_err-note-clause-kept g c =
     let was = c.loop-place.invariant in
     let now = c.in_ok-play_line.ensures in
-    kept_seen _ _ (AreBegun c.args.script.now) _ _ _ _ _ _ (c.play_line.ensures.kinds ∙ was.kinds)
-    (play-begins c.args.script.now c.requires.playable (c.loop-place.place + 1) c.play_line.new.self now.stands
+    kept_seen _ _ (AreBegun c.args.script.now) _ _ _ _ _ _ (c.play_line.ensures.displays.kinds ∙ was.kinds)
+    (play-begins c.args.script.now c.requires.playable (c.loop-place.place + 1) c.play_line.new.self
+    (now.plays c.at-line.result.now c.at-line.ensures).stands
     c.journal-journal-in-loop-place.ensures.legal)
     (seen_line _ _ c.args.script.now.setup _ _ c.loop-place.play.board.history c.play_line.new.self.board.history refl refl _ _ _ _ _
     (omega (arith, was.number, was.same, c.requires.few)) now.shows was.seen)
-
-pub returns-clause-explained : goal.returns-clause-explained
-returns-clause-explained g c = c.loop-place.invariant.explained
-
-pub returns-clause-on : goal.returns-clause-on
-returns-clause-on g c = c.loop-place.invariant.on
-
-pub returns-clause-film : goal.returns-clause-film
-returns-clause-film g c = c.loop-place.invariant.film

@@ -13,7 +13,7 @@ use Rattle.flat_run.proofs.Reporting.{if_ok, has_run, have_had, load_asked}
 use Rattle.flat_run.proofs.load.summed.Goals as goal
 
 pub totals_of-totals-requires : goal.totals_of-totals-requires
-totals_of-totals-requires g c = c.last.ensures c.args.script.now _ c.in_ok-played.ensures.played.keeps
+totals_of-totals-requires g c = c.last.ensures c.args.script.now _ c.in_ok-played.ensures.run.run.played.keeps
     ∙ ap (λ (h : List Entry). last_item (finished c.args.script.now.setup h)) (sym c.journal-journal.ensures.entries)
 
 pub returns-clause-told : goal.returns-clause-told
@@ -22,16 +22,16 @@ returns-clause-told g c =
     let board = c.in_ok-played.played.board in
     let lost = c.in_ok-played.played.set.lost in
     let playable = c.scripts_are_playable.ensures.playable (load_text c.args.frames) script c.requires.read in
-    let played = c.in_ok-played.ensures.played in
+    let run = c.in_ok-played.ensures.run in
     let journal = c.journal-journal.ensures in
-    let asked = load_asked (plain script) board _ _ playable played c.args.frames journal.legal
+    let asked = load_asked (plain script) board _ _ playable run.run.played c.args.frames journal.legal
     (c.loads_have_their_frames.ensures c.args.frames script c.requires.first c.requires.last c.requires.read) in
     let probes = c.in_ok-played.played.probes.items in
-    let seeing = c.frames_are_seen.ensures script board.history probes c.in_ok-played.ensures.probes in
-    let ran = has_run (plain script) board _ _ playable played _ _ (Stress c.args.frames) lost (frames_seen probes) _ _
-    (λ no_race. c.in_ok-played.ensures.written) (λ no_race. c.in_ok-played.ensures.in_turn) c.in_ok-played.ensures.seen c.families_are_alone.ensures
+    let seeing = c.frames_are_seen.ensures script board.history probes run.run.probes in
+    let ran = has_run (plain script) board _ _ playable run.run.played _ _ (Stress c.args.frames) lost (frames_seen probes) _ _
+    (λ no_race. run.written) (λ no_race. run.in_turn) run.run.seen c.families_are_alone.ensures
     c.due_presents_are_taken.ensures journal.legal asked tt seeing in
-    let had = have_had (plain script) board _ _ playable played _ _ lost _ _ c.in_ok-played.ensures.seen in
+    let had = have_had (plain script) board _ _ playable run.run.played _ _ lost _ _ run.run.seen in
     if_ok (λ text. text.items ≡ summary_line c.totals_of-totals.result) _ c.summary.result
     (λ text is. (
       record {

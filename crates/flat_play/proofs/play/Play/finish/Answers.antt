@@ -42,3 +42,6 @@ returns-clause-shows g c =
     let finishes = c.in_ok-finish.ensures.finishes history c.requires.frames.stored c.requires.frames.starts in
     let shows = c.show.ensures.shows script before frame (finishes.kept.more before c.requires.frames.stored.keeps) in
     IsShown.shows_frame frame shows.0 all number shows.1 shows.2
+
+pub returns-clause-displays : goal.returns-clause-displays
+returns-clause-displays g c = record { count = c.show.ensures.same; kinds = c.show.ensures.kinds }

@@ -8,6 +8,8 @@ use Rattle.flat_scene.specs.declared.setup.Setup.{Setup}
 use Rattle.flat_scene.specs.Heads.{is_setup}
 use Rattle.flat_core.specs.Starts.{IsStart, is_beside}
 use Rattle.flat_rules.specs.Owned.{is_played_display}
+use Rattle.flat_play.specs.declared.store.FrameStore.{FrameStore}
+use Rattle.flat_play.specs.Keeping.{keeping_of}
 use Rattle.flat_play.specs.Last.{IsLast}
 use Rattle.flat_play.specs.Showing.{IsShown}
 use Rattle.flat_play.proofs.lemmas.Beside.{leaves_frames, may_beside}
@@ -16,6 +18,7 @@ use Rattle.flat_play.proofs.lemmas.FramesShown.{few_frames}
 use Rattle.flat_play.proofs.lemmas.Places.{setup_is}
 use Rattle.flat_play.proofs.lemmas.PlaySteps.{begin_more, display_finishes, finish_more, beside_more}
 use Rattle.flat_play.proofs.lemmas.Starting.{few, by_at_most}
+use Rattle.flat_play.proofs.lemmas.Storing.{answers_keep}
 use Rattle.flat_play.proofs.lemmas.Steps.{At, at_place}
 use Rattle.flat_play.proofs.Touching.{entered-on}
 use Rattle.flat_play.proofs.play.Play.play_display.Goals as goal
@@ -36,15 +39,16 @@ begin-requires-clause-start g c =
     let self = c.args.self.now in
     subst (λ (setup : Setup). IsStart setup self.board.history self.start) (sym c.requires.stands.setup) c.requires.stands.frames.starts
 
-pub returns-in-Begin-clause-stands : goal.returns-in-Begin-clause-stands
-returns-in-Begin-clause-stands g c =
+pub returns-in-Begin-clause-plays : goal.returns-in-Begin-clause-plays
+returns-in-Begin-clause-plays g c =
     let x : ScriptLine = record { number = c.args.number; actor = Display; body = body.Display c.args.text } in
     let at : At c.args.script.now c.args.place x = at_place c.args.script.now c.args.place x c.requires.playable c.requires.line in
     let is : x.body ≡ body.Display (display.Begin c.in-Begin.time) = ap (λ t. body.Display t) c.in-Begin.is in
-    begin_more c.args.script.now c.args.place x at c.args.self.now c.begin.new.self c.in-Begin.time refl is c.requires.stands c.begin.ensures
-
-pub returns-in-Begin-clause-goes_on : goal.returns-in-Begin-clause-goes_on
-returns-in-Begin-clause-goes_on g c = entered-on _ _ _ _ _ _ _ c.begin.ensures.board
+    record {
+      stands = begin_more c.args.script.now c.args.place x at c.args.self.now c.begin.new.self c.in-Begin.time refl is c.requires.stands c.begin.ensures;
+      goes_on = entered-on _ _ _ _ _ _ _ c.begin.ensures.board;
+      keeping = ap (λ (s : FrameStore). keeping_of s.kept) c.begin.ensures.store;
+    }
 
 pub returns-in-Begin-clause-shows : goal.returns-in-Begin-clause-shows
 returns-in-Begin-clause-shows g c =
@@ -73,16 +77,16 @@ finish-requires-clause-few g c =
     let frames_made = few_frames _ _ c.journal-journal.ensures.legal in
     omega (arith, all, most, spent, frames_made)
 
-pub returns-in-Done-clause-stands : goal.returns-in-Done-clause-stands
-returns-in-Done-clause-stands g c =
+pub returns-in-Done-clause-plays : goal.returns-in-Done-clause-plays
+returns-in-Done-clause-plays g c =
     let x : ScriptLine = record { number = c.args.number; actor = Display; body = body.Display c.args.text } in
     let at : At c.args.script.now c.args.place x = at_place c.args.script.now c.args.place x c.requires.playable c.requires.line in
     let is : x.body ≡ body.Display display.Done = ap (λ t. body.Display t) c.in-Done.is in
-    on_ok_weaker c.finish.result (finish_more c.args.script.now c.args.place x at c.args.self.now c.finish.new.self refl is c.requires.stands)
-    c.finish.ensures.finishes
-
-pub returns-in-Done-clause-goes_on : goal.returns-in-Done-clause-goes_on
-returns-in-Done-clause-goes_on g c = on_ok_weaker c.finish.result (λ finishes. entered-on _ _ _ _ _ _ _ finishes.board) c.finish.ensures.finishes
+    on_ok_weaker c.finish.result (λ finishes. record {
+      stands = finish_more c.args.script.now c.args.place x at c.args.self.now c.finish.new.self refl is c.requires.stands finishes;
+      goes_on = entered-on _ _ _ _ _ _ _ finishes.board;
+      keeping = finishes.store.kept.same;
+    }) c.finish.ensures.finishes
 
 -- ---- any other line
 
@@ -107,17 +111,16 @@ pub enter_beside-requires-clause-is : goal.enter_beside-requires-clause-is
 enter_beside-requires-clause-is g c =
     subst (λ (setup : Setup). IsLast setup c.args.self.now.store.last) (sym c.requires.stands.setup) c.requires.stands.frames.stored.ends.is
 
-pub returns-in_default-clause-stands : goal.returns-in_default-clause-stands
-returns-in_default-clause-stands g c =
+pub returns-in_default-clause-plays : goal.returns-in_default-clause-plays
+returns-in_default-clause-plays g c =
     let x : ScriptLine = record { number = c.args.number; actor = Display; body = body.Display c.args.text } in
     let at : At c.args.script.now c.args.place x = at_place c.args.script.now c.args.place x c.requires.playable c.requires.line in
     let beside : is_beside c.args.text ≡ true = search rules in
-    on_ok_weaker c.enter_beside.result
-    (beside_more c.args.script.now c.args.place x at c.args.self.now c.enter_beside.new.self c.args.text refl refl beside c.requires.stands)
-    c.enter_beside.ensures
-
-pub returns-in_default-clause-goes_on : goal.returns-in_default-clause-goes_on
-returns-in_default-clause-goes_on g c = on_ok_weaker c.enter_beside.result (λ enters. entered-on _ _ _ _ _ _ _ enters.board) c.enter_beside.ensures
+    on_ok_weaker c.enter_beside.result (λ enters. record {
+      stands = beside_more c.args.script.now c.args.place x at c.args.self.now c.enter_beside.new.self c.args.text refl refl beside c.requires.stands enters;
+      goes_on = entered-on _ _ _ _ _ _ _ enters.board;
+      keeping = ap keeping_of (answers_keep _ _ c.args.text _ _ enters.store);
+    }) c.enter_beside.ensures
 
 pub returns-in_default-clause-shows : goal.returns-in_default-clause-shows
 returns-in_default-clause-shows g c =

@@ -63,8 +63,8 @@ call-requires-clause-stands c =
     c.requires.stands.readers reader c.index_mut-reader.ensures.value in
     on_board c.args.script.now.setup c.args.s c.args.self.now.board reader c.requires.stands.setup mine.session (λ setup es r. Stands setup es r) mine.stands
 
-pub returns-clause-stands : goal.returns-clause-stands
-returns-clause-stands c =
+pub returns-clause-plays : goal.returns-clause-plays
+returns-clause-plays c =
     let x : ScriptLine = record { number = c.args.number; actor = Session c.args.s; body = body.Session c.args.text.now } in
     let h = here c.args.script.now c.args.s c.args.place c.args.number c.args.text.now c.requires.playable c.requires.line in
     let script = c.args.script.now in
@@ -78,22 +78,12 @@ returns-clause-stands c =
     c.requires.stands.setup mine reads c.lines_are_read.ensures.more c.call.ensures.stands in
     let grown = reader_grows script c.args.s c.args.place c.args.number c.args.text.now h c.in_ok-_reply._reply old.board c.call.new.board reader
     c.call.new.self c.requires.stands.setup mine reads in
-    session_more script c.args.place x (at_place script c.args.place x c.requires.playable c.requires.line) old
-    _ c.args.s c.args.text.now c.call.new.self refl refl h.declared c.requires.stands refl after grown refl refl
-
-pub returns-clause-goes_on : goal.returns-clause-goes_on
-returns-clause-goes_on c =
-    let h = here c.args.script.now c.args.s c.args.place c.args.number c.args.text.now c.requires.playable c.requires.line in
-    let script = c.args.script.now in
-    let old = c.args.self.now in
-    let reader = c.index_mut-reader.result.now in
-    let mine = own_reader script c.args.place old.board.history old.readers.items c.args.s h.declared c.requires.stands.readers reader
-    c.index_mut-reader.ensures.value in
-    let R : Line → Type 0 = λ text. Reads c.args.number text c.in_ok-_reply._reply old.board c.call.new.board reader c.call.new.self reader.closed in
-    let reads = subst R c.in_ok-text.ensures c.in_ok-_reply.ensures.reads in
-    grown-on old.board c.call.new.board (Session c.args.s) c.args.number
-    (reader_grows script c.args.s c.args.place c.args.number c.args.text.now h c.in_ok-_reply._reply old.board c.call.new.board reader c.call.new.self
-    c.requires.stands.setup mine reads)
+    record {
+      stands = session_more script c.args.place x (at_place script c.args.place x c.requires.playable c.requires.line) old
+          _ c.args.s c.args.text.now c.call.new.self refl refl h.declared c.requires.stands refl after grown refl refl;
+      goes_on = grown-on old.board c.call.new.board (Session c.args.s) c.args.number grown;
+      keeping = refl;
+    }
 
 pub returns-clause-frames : goal.returns-clause-frames
 returns-clause-frames c =
