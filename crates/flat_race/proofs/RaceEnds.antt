@@ -8,7 +8,10 @@ use Rattle.flat_places.specs.declared.script.Script.{Script}
 use Rattle.flat_race.specs.declared.running.Ended.{Ended}
 use Rattle.flat_race.specs.declared.running.Stopped.{Stopped}
 use Rattle.flat_display.specs.Had.{AreKept}
+use Rattle.flat_play.specs.declared.kept.Keeping.{Keeping}
+use Rattle.flat_play.specs.declared.whole.Played.{Played}
 use Rattle.flat_play.specs.Beginning.{AreBegun}
+use Rattle.flat_play.specs.Runs.{HasRun}
 use Rattle.flat_play.proofs.lemmas.Begun.{none-begun}
 use Rattle.flat_play.proofs.lemmas.Seen.{kept_none}
 use Rattle.flat_actors.specs.declared.film.Film.{Film}
@@ -21,6 +24,11 @@ pub ok_raced : (r : Result Ended (Option Stopped)) (e : Ended) → r ≡ Ok e �
 ok_raced r e is told count view script olds news was holds =
     let P : Result Ended (Option Stopped) → Type 0 =
     λ r. IfOk r (λ e. HaveRaced told count view script olds news e.compositor.display e.seats was e.film) in subst P is holds
+
+-- frames are kept in the way that was asked for
+pub run_as : {D E : Type 0} (told : D → Option (List FrameOut)) (count : D → ℕ) (script : Script) (olds news : List D) (was now : Keeping) (r : Result Played E)
+    → was ≡ now → IfOk r (HasRun told count script olds news was) → IfOk r (HasRun told count script olds news now)
+run_as told count script olds news was now r same holds = subst (λ (k : Keeping). IfOk r (HasRun told count script olds news k)) same holds
 
 -- What is known where an actor found no memory.
 module _ {D K : Type 0} (told : D → Option (List FrameOut)) (count : D → ℕ) (kind : D → K) (view : StageView) (script : Script) (olds news : List D) where

@@ -122,7 +122,7 @@ fn race_on<T: Threads + Wait + Sync, G: Gate>(
     film: Film,
     displays: &mut Vec<Box<dyn Display>>,
 ) -> Result<Played, NoMemory>
-    requires { MayRace stage script.now (length displays.old.items) compositor seats film }
+    requires may { MayRace stage script.now (length displays.old.items) compositor seats film }
     ensures run { IfOk result (HasRun (λ d. shown d) (λ d. faults d) script.now displays.old.items
         displays.new.items (keeping_of film.store.kept)) }
     ensures kept { AreKept (λ d. shown d) (λ d. faults d) (AreBegun script.now)

@@ -1,4 +1,4 @@
-use Rattle.std.proofs.Common.{ap, sym, subst}
+use Rattle.std.proofs.Common.{arith, ap, sym}
 use Rattle.flat_display.specs.Lost.{Driven}
 use Rattle.flat_race.proofs.race.new_film.Goals as goal
 
@@ -7,5 +7,5 @@ returns-clause-new c = record {
   stands = c.in_ok-store.ensures.stands;
   none = ap (λ (s : Driven). s.lost) c.in_ok-set.ensures;
   number = sym (ap (λ (s : Driven). s.displays) c.in_ok-set.ensures);
-  few = rw c.in_ok-set.ensures c.ranges.displays;
+  few = rw c.in_ok-set.ensures (omega (arith, c.ranges.displays));
 }

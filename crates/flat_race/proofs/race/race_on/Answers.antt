@@ -1,19 +1,22 @@
-use Rattle.std.proofs.Common.{ap, sym, ◌∙◌}
+use Rattle.std.proofs.Common.{ℕ, length, ap, sym, subst, ◌∙◌}
 use Rattle.flat_display.specs.Lost.{Driven}
 use Rattle.flat_play.specs.Beginning.{AreBegun}
 use Rattle.flat_play.specs.Keeping.{keeping_of}
 use Rattle.flat_play.proofs.lemmas.Seen.{kept_from, kept_seen, seen_counted}
+use Rattle.flat_race.specs.Ends.{MayRace}
 use Rattle.flat_race.proofs.RaceEnds.{kept_stopped, ok_raced}
 use Rattle.flat_race.proofs.race.race_on.Goals as goal
 
 pub on_threads-shown-requires-clause-may : goal.on_threads-shown-requires-clause-may
-on_threads-shown-requires-clause-may g c κs within = c.requires
+on_threads-shown-requires-clause-may g c κs within =
+    let M : ℕ → Type 0 = λ n. MayRace c.args.stage c.args.script.now n c.args.compositor c.args.seats c.args.film in
+    subst M (ap (λ v. length v.items) (sym c.replace-shown_here.ensures.value)) c.requires.may
 
 pub close-requires-clause-playable : goal.close-requires-clause-playable
-close-requires-clause-playable g c = c.requires.playable
+close-requires-clause-playable g c = c.requires.may.playable
 
 pub close-requires-clause-of : goal.close-requires-clause-of
-close-requires-clause-of g c = c.requires.of
+close-requires-clause-of g c = c.requires.may.of
 
 pub close-requires-clause-ended : goal.close-requires-clause-ended
 close-requires-clause-ended g c =
