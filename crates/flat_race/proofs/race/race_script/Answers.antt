@@ -1,7 +1,8 @@
-use Rattle.std.proofs.Common.{◌∙◌, sym}
+use Rattle.std.proofs.Common.{◌∙◌, length, sym}
 use Rattle.std.proofs.lemmas.Result.{IfOk-from_err}
 use Rattle.flat_play.proofs.lemmas.Begun.{none-begun}
 use Rattle.flat_play.proofs.lemmas.Seen.{kept_none}
+use Rattle.flat_race.specs.Ends.{MayRace}
 use Rattle.flat_race.proofs.RaceEnds.{run_as}
 use Rattle.flat_race.proofs.race.race_script.Goals as goal
 
@@ -14,18 +15,15 @@ new_stage-requires g c = record { playable = c.requires.playable }
 pub race_on-requires : goal.race_on-requires
 race_on-requires g c =
     let new = c.in_ok-film.ensures.new in
-    let stage = c.in-Ok.ensures in (
-      c.type_bounds.sync-T,
-      c.type_bounds.sync-G,
-      record {
-        playable = c.requires.playable;
-        of = stage.of;
-        fresh = stage.compositor;
-        own = stage.own;
-        sessions = stage.sessions;
-        none = record { stands = new.stands; none = new.none; number = sym c.len.ensures ∙ new.number; few = new.few };
-      },
-    )
+    let stage = c.in-Ok.ensures in
+    let may : MayRace c.in-Ok.stage c.args.script.now (length c.args.displays.now.items) c.in-Ok.compositor c.in-Ok.seats c.in_ok-film.film = record {
+      playable = c.requires.playable;
+      of = stage.of;
+      fresh = stage.compositor;
+      own = stage.own;
+      sessions = stage.sessions;
+      none = record { stands = new.stands; none = new.none; number = sym c.len.ensures ∙ new.number; few = new.few };
+    } in (c.type_bounds.sync-T, (c.type_bounds.sync-G, may))
 
 pub returns-in_err-film-clause-kept : goal.returns-in_err-film-clause-kept
 returns-in_err-film-clause-kept g c = kept_none _ _ _ _ _ (none-begun c.args.script.now)
