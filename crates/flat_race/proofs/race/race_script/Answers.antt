@@ -1,4 +1,4 @@
-use Rattle.std.proofs.Common.{◌∙◌, length, sym}
+use Rattle.std.proofs.Common.{arith, length}
 use Rattle.std.proofs.lemmas.Result.{IfOk-from_err}
 use Rattle.flat_play.proofs.lemmas.Begun.{none-begun}
 use Rattle.flat_play.proofs.lemmas.Seen.{kept_none}
@@ -22,7 +22,7 @@ race_on-requires g c =
       fresh = stage.compositor;
       own = stage.own;
       sessions = stage.sessions;
-      none = record { stands = new.stands; none = new.none; number = sym c.len.ensures ∙ new.number; few = new.few };
+      none = record { stands = new.stands; none = new.none; number = omega (arith, c.len.ensures, c.args.displays.now.ok.0, new.number); few = new.few };
     } in (c.type_bounds.sync-T, (c.type_bounds.sync-G, may))
 
 pub returns-in_err-film-clause-kept : goal.returns-in_err-film-clause-kept
