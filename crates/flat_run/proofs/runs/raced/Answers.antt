@@ -6,13 +6,13 @@ use Rattle.flat_run.proofs.Reporting.{if_ok, has_run, have_had}
 use Rattle.flat_run.proofs.runs.raced.Goals as goal
 
 pub text_of-requires-clause-keeping : goal.text_of-requires-clause-keeping
-text_of-requires-clause-keeping g c = c.in_ok-played.ensures.run.keeping
+text_of-requires-clause-keeping g c κs within = c.in_ok-played.ensures.run.keeping
 
 pub text_of-requires-clause-played : goal.text_of-requires-clause-played
-text_of-requires-clause-played g c = c.in_ok-played.ensures.run.played
+text_of-requires-clause-played g c κs within = c.in_ok-played.ensures.run.played
 
 pub text_of-requires-clause-probes : goal.text_of-requires-clause-probes
-text_of-requires-clause-probes g c = c.in_ok-played.ensures.run.probes
+text_of-requires-clause-probes g c κs within = c.in_ok-played.ensures.run.probes
 
 pub returns-clause-told : goal.returns-clause-told
 returns-clause-told g c = λ bytes read.

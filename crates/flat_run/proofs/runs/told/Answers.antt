@@ -4,13 +4,13 @@ use Rattle.flat_run.proofs.Reporting.{if_ok, has_run, have_had, none_asked}
 use Rattle.flat_run.proofs.runs.told.Goals as goal
 
 pub text_of-requires-clause-keeping : goal.text_of-requires-clause-keeping
-text_of-requires-clause-keeping g c = c.in_ok-played.ensures.run.run.keeping
+text_of-requires-clause-keeping g c κs within = c.in_ok-played.ensures.run.run.keeping
 
 pub text_of-requires-clause-played : goal.text_of-requires-clause-played
-text_of-requires-clause-played g c = c.in_ok-played.ensures.run.run.played
+text_of-requires-clause-played g c κs within = c.in_ok-played.ensures.run.run.played
 
 pub text_of-requires-clause-probes : goal.text_of-requires-clause-probes
-text_of-requires-clause-probes g c = c.in_ok-played.ensures.run.run.probes
+text_of-requires-clause-probes g c κs within = c.in_ok-played.ensures.run.run.probes
 
 pub returns-clause-told : goal.returns-clause-told
 returns-clause-told g c = λ bytes read.
