@@ -3,8 +3,9 @@ ghost use Rattle.flat_topology.specs.Draw.{blend_of_colour, painting_of};
 ghost use Rattle.flat_compose.specs.Brushes.{painting};
 
 use flat_base::{COLOUR_MAX, OPACITY_MAX};
+use flat_join::through;
 use flat_scene::{BlendMode, Content, Paint};
-use flat_topology::{Placed, through};
+use flat_topology::Placed;
 
 /// What a content paints.
 #[derive(Clone, Copy)]

@@ -70,7 +70,7 @@ fn draw(items: &mut Roomy<DrawItem>, at: &Placed)
 
 /// The draw list of a joined tree. The room is taken once.
 ///
-/// No opacity of a node that [`join`](flat_topology::join) placed is above one.
+/// No opacity of a node that [`join`](flat_join::join) placed is above one.
 pub fn compose(alloc: Global, joined: &Joined) -> Result<ItemList, NoMemory>
     requires { All (λ at. at.opacity ≤ OPACITY_MAX) joined.now.nodes }
     ensures { IfOk result (λ items. items ≡ items_of joined.now.nodes) }

@@ -17,11 +17,11 @@ ghost use Rattle.flat_core.specs.Changes.{NotesChanges};
 
 use flat_base::{SESSIONS_MAX, SessionNo};
 use flat_fence::FenceSet;
+use flat_join::Shown;
 use flat_scene::{Event, Post, SessionSet, Setup};
 use flat_snap::Snapshot;
 use flat_states::log::Log;
 use flat_states::state::{SessionState, let_go, take_ready};
-use flat_topology::Shown;
 use std::sync::Arc;
 
 /// Shows a state of a session from now on, or nothing. Notes that the session changed,

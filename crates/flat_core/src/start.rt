@@ -3,8 +3,8 @@ ghost use Rattle.std.specs.Prelude.{[], IfOk};
 ghost use Rattle.flat_core.specs.Starts.{IsStart};
 
 use flat_base::NoMemory;
+use flat_join::Shown;
 use flat_scene::{SessionSet, Setup};
-use flat_topology::Shown;
 use std::alloc::Global;
 
 /// What a begin decides of its frame. Whoever composes the frame reads it, and nothing that is

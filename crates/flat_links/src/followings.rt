@@ -7,8 +7,8 @@ ghost use Rattle.flat_links.specs.Hearing.{IsCalm};
 
 use crate::following::{Following, Sight};
 use flat_base::NoMemory;
+use flat_join::{Shown, pair_of_display};
 use flat_scene::Setup;
-use flat_topology::{Shown, pair_of_display};
 use std::alloc::Global;
 use std::marker::Model;
 

@@ -22,9 +22,9 @@ use flat_base::{NoMemory, PairNo, SessionNo};
 use flat_facts::contents::count_contents;
 use flat_facts::live::Live;
 use flat_facts::views::may_lose;
+use flat_join::Shown;
 use flat_scene::{Call, SessionSet, Setup, ViewportProps};
 use flat_states::state::{Account, SessionState};
-use flat_topology::Shown;
 use std::alloc::Global;
 
 /// What the begin of a frame sees of a session, of which it knows whether it is

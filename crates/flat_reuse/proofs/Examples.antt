@@ -1,7 +1,7 @@
 -- The definitions, computed on a session with a fill and, after it, a viewport.
 use Rattle.std.proofs.Common.{ℕ, ◌*◌, pos, suc, ◌≡◌, refl, sym, ap, ◌∙◌, List, [], ◌∷◌, ◌++◌, length, None, Some, arith}
 use Rattle.std.proofs.lemmas.List.{length-append}
-use Rattle.flat_topology.specs.declared.scope.Scope.{Scope}
+use Rattle.flat_join.specs.declared.scope.Scope.{Scope}
 use Rattle.flat_reuse.specs.declared.trace.Span.{Span}
 use Rattle.flat_reuse.specs.Tracing.{pushed}
 use Rattle.flat_base.specs.declared.ids.SessionNo.{SessionNo}

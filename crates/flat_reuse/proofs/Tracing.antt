@@ -15,12 +15,12 @@ use Rattle.flat_snap.specs.Flat.{FlatNode, flat_from, flat_nodes, rooted}
 use Rattle.flat_snap.specs.Forest.{as_node, forest_in}
 use Rattle.flat_snap.proofs.lemmas.Rebuilding.{forest-whole}
 use Rattle.flat_snap.proofs.lemmas.Stretches.{IsFirst, stretch-first, stretch-whole, stretch-none, stretch-within}
-use Rattle.flat_topology.specs.declared.scope.Scope.{Scope}
+use Rattle.flat_join.specs.declared.scope.Scope.{Scope}
 use Rattle.flat_topology.specs.Fit.{greatest_opacity}
 use Rattle.flat_topology.specs.Place.{Space, seen_through, node_space}
 use Rattle.flat_topology.specs.Shown.{nodes_of}
-use Rattle.flat_topology.specs.Walking.{space_of}
-use Rattle.flat_topology.proofs.lemmas.Rooted.{rooted-alone}
+use Rattle.flat_join.specs.Walking.{space_of}
+use Rattle.flat_join.proofs.lemmas.Rooted.{rooted-alone}
 use Rattle.flat_reuse.specs.declared.trace.Span.{Span}
 use Rattle.flat_reuse.specs.declared.trace.Trace.{Trace}
 use Rattle.flat_reuse.specs.Parts.{laid_out, appended}

@@ -3,7 +3,7 @@ use Rattle.std.specs.Prelude.{ℕ, suc, ◌≡◌, ◌⊎◌, false, List, Optio
 use Rattle.flat_scene.specs.declared.frames.SessionSet.{SessionSet}
 use Rattle.flat_scene.specs.declared.trees.Tree.{Tree}
 use Rattle.flat_topology.specs.Shown.{Shown, nodes_of}
-use Rattle.flat_topology.specs.Walking.{space_of}
+use Rattle.flat_join.specs.Walking.{space_of}
 use Rattle.flat_reuse.specs.declared.slots.Kept.{Kept}
 use Rattle.flat_reuse.specs.Parts.{laid_out}
 use Rattle.flat_reuse.specs.Pieces.{pieces}

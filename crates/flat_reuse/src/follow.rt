@@ -6,9 +6,9 @@ ghost use Rattle.flat_reuse.specs.Keeping.{AreFitted};
 
 use crate::slots::Slots;
 use flat_base::{NoMemory, SESSIONS_MAX, SessionNo};
+use flat_join::Shown;
 use flat_scene::SessionSet;
 use flat_snap::Snapshot;
-use flat_topology::Shown;
 use std::alloc::Global;
 use std::sync::Arc;
 

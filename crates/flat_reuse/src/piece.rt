@@ -4,16 +4,17 @@ ghost use Rattle.flat_snap.specs.Flat.{lent};
 ghost use Rattle.flat_snap.specs.Forest.{as_node};
 ghost use Rattle.flat_topology.specs.Draw.{node_item};
 ghost use Rattle.flat_topology.specs.Place.{placed_node};
-ghost use Rattle.flat_topology.specs.Walking.{space_of};
+ghost use Rattle.flat_join.specs.Walking.{space_of};
 ghost use Rattle.flat_reuse.specs.Parts.{appended, laid_out};
 ghost use Rattle.flat_reuse.specs.Pieces.{Drawn, Linked, link_of, node_pieces};
 
 use flat_base::{Items, NoMemory, OPACITY_MAX, Rect, Roomy, SessionNo};
 use flat_compose::item;
 use flat_geom::{map_rect, sized};
+use flat_join::Scope;
 use flat_scene::{Content, DrawItem, ItemList};
 use flat_snap::FlatNode;
-use flat_topology::{Placed, Scope};
+use flat_topology::Placed;
 use std::alloc::Global;
 
 /// Where the child view of a pair is shown.

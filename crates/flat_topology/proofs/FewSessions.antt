@@ -8,7 +8,7 @@ use Rattle.flat_topology.specs.Fit.{FitsSetup}
 use Rattle.flat_topology.specs.Join.{led_from, sessions_in, joined_sessions}
 use Rattle.flat_topology.proofs.lemmas.Distinct.{In, Distinct}
 use Rattle.flat_topology.proofs.Standing.{in-led, reached-connected, distinct-from}
-use Rattle.flat_topology.proofs.Whole.{few-below, connected-within}
+use Rattle.flat_topology.proofs.lemmas.Whole.{few-below, connected-within}
 
 -- who stands in the joined tree is connected
 pub standing_connected : (setup : Setup) (shown : Shown) → FitsSetup setup shown → (s : ℕ) (display : Option ℕ) → display_pair setup ≡ display

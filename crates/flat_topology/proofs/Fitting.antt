@@ -9,7 +9,7 @@ use Rattle.flat_topology.specs.Shown.{Shown, state_of, view_of, nodes_of, pairs_
 use Rattle.flat_topology.specs.Owners.{OwnsView, OwnsViewport}
 use Rattle.flat_topology.specs.Fit.{FitsSetup, greatest_opacity}
 use Rattle.flat_topology.proofs.lemmas.Distinct.{In, Distinct, in-contains, pairs-distinct}
-use Rattle.flat_topology.proofs.Samples.{display_over, over, shell_setup, shell_shown, alone_setup, pair}
+use Rattle.flat_topology.proofs.lemmas.Samples.{display_over, over, shell_setup, shell_shown, alone_setup, pair}
 
 views_fit : (s p : ℕ) → view_of (state_of shell_shown s) ≡ Some p → OwnsView shell_setup s p
 views_fit zero p e = absurd (cc)

@@ -16,10 +16,8 @@ use Rattle.flat_topology.specs.Shown.{Shown}
 use Rattle.flat_topology.specs.Fit.{FitsSetup, greatest_opacity, image_opacity}
 use Rattle.flat_topology.specs.Join.{JoinedTree, Viewer, viewer_from, linked_to, joined_nodes, viewed, led_to}
 use Rattle.flat_topology.specs.Place.{Space, seen_through, node_space, linked_space, placed_node, placed_in}
+use Rattle.flat_topology.specs.Laws.{HasLowOpacity}
 use Rattle.flat_topology.proofs.lemmas.Distances.{viewer-state}
-
-abbrev pub HasLowOpacity : Placed → Type 0
-HasLowOpacity at = (at.opacity ≤ OPACITY_MAX) × (image_opacity at.content ≤ OPACITY_MAX)
 
 abbrev pub AllLow : List Placed → Type 0
 AllLow = All HasLowOpacity

@@ -1,5 +1,6 @@
 -- Lemmas that other crates may cite.
 pub mod Distances
 pub mod Distinct
-pub mod Rooted
 pub mod Ratios
+pub mod Samples
+pub mod Whole

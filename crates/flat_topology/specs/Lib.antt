@@ -1,6 +1,5 @@
 pub mod Changes
 pub mod Connected
-pub mod Distances
 pub mod Draw
 pub mod Fit
 pub mod Hits
@@ -14,4 +13,3 @@ pub mod Place
 pub mod Preorder
 pub mod Shown
 pub mod Views
-pub mod Walking

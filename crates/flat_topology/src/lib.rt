@@ -7,12 +7,13 @@
 //! `specs/`: which sessions are connected, where each node is placed, what is
 //! drawn, the view tree, and what a point hits.
 //!
-//! `join` (joining, walk, scope) answers `joined_lists` (specs/Connected), and
-//! `Shown::find_connected` (distances) `AreDistances` (specs/Distances).
+//! This crate says what the joined tree is, and which laws hold of it; flat_join
+//! computes it.
 //!
 //! Other crates may cite the lemmas of proofs/lemmas/: lists without repeats,
-//! distances from the display, the nodes of a state, and what a pixel ratio plays
-//! no part in (Distances, Distinct, Rooted, Ratios).
+//! distances from the display, that the tree is whole, what a pixel ratio plays no
+//! part in (Distinct, Distances, Whole, Ratios), and the scenes of the examples
+//! (Samples).
 #![tactic(auto)]
 
 ghost use Rattle.flat_topology.specs.Laws.{JoinsTheConnected, JoinsEachOnce, ReachesNoCycle};
@@ -21,16 +22,6 @@ ghost use Rattle.flat_topology.specs.Laws.{PlacesLowOpacities, ParentsDecide, Dr
 ghost use Rattle.flat_topology.specs.Laws.{ViewsTheJoined, ViewsBelowParents, ViewsTheConnected};
 ghost use Rattle.flat_topology.specs.Laws.{HitsEachOnce};
 
-mod distances;
-mod joining;
-mod scope;
-mod shown;
-mod walk;
-
-pub use crate::joining::join;
-pub use crate::scope::{Scope, outermost, through};
-pub use crate::shown::Shown;
-pub use crate::walk::{pair_of_display, viewer};
 use flat_base::{Items, Rect, SessionNo};
 use flat_geom::Matrix;
 use flat_scene::{Content, RegionList};

@@ -11,7 +11,7 @@ use Rattle.flat_scene.specs.declared.trees.Tree.{Tree}
 use Rattle.flat_scene.specs.Trees.{first, node_count}
 use Rattle.flat_snap.specs.Flat.{FlatNode, flat_from, flat_nodes, rooted}
 use Rattle.flat_topology.specs.Shown.{nodes_of}
-use Rattle.flat_topology.proofs.lemmas.Rooted.{rooted-alone}
+use Rattle.flat_join.proofs.lemmas.Rooted.{rooted-alone}
 use Rattle.flat_why.specs.Blanks.{paints, some_paint}
 
 any-paints : (next : ℕ) (all : Children) → list_any (λ n. paints n.content) (flat_from next all) ≡ some_paint all

@@ -16,10 +16,10 @@ use Rattle.flat_scene.specs.declared.trees.Content.TheVariants as content
 use Rattle.flat_scene.specs.declared.trees.Tree.{Tree}
 use Rattle.flat_scene.specs.Trees.{first, node_count}
 use Rattle.flat_snap.specs.Flat.{FlatNode, flat_from, flat_nodes, is_viewport, rooted, viewport_places}
-use Rattle.flat_topology.specs.Distances.{leads_to}
+use Rattle.flat_join.specs.Distances.{leads_to}
 use Rattle.flat_topology.specs.Shown.{is_shown_by, Shown, nodes_of, pair_in, pairs_in, state_of}
 use Rattle.flat_topology.proofs.lemmas.Distinct.{In}
-use Rattle.flat_topology.proofs.lemmas.Rooted.{rooted-alone}
+use Rattle.flat_join.proofs.lemmas.Rooted.{rooted-alone}
 
 -- ---- a search
 

@@ -11,9 +11,10 @@ ghost use Rattle.flat_why.specs.Blanks.{some_node, some_paint, unseen_of, blank_
 use crate::causes::Blank;
 use flat_base::{NoMemory, SESSIONS_MAX, SessionNo};
 use flat_geom::{Matrix, is_empty, map_rect, sized};
+use flat_join::{Shown, join};
 use flat_scene::{Content, Setup};
 use flat_snap::Snapshot;
-use flat_topology::{Placed, Shown, join};
+use flat_topology::Placed;
 use std::alloc::Global;
 
 /// The size at which a content is painted.

@@ -7,7 +7,7 @@ ghost use Rattle.flat_scene.specs.Frames.{taken};
 ghost use Rattle.flat_scene.specs.Setups.{is_declared};
 ghost use Rattle.flat_scene.specs.Heads.{owners_declared};
 ghost use Rattle.flat_snap.specs.Flat.{flat_nodes};
-ghost use Rattle.flat_topology.specs.Distances.{leads_to};
+ghost use Rattle.flat_join.specs.Distances.{leads_to};
 ghost use Rattle.flat_topology.specs.Shown.{is_shown_by, state_of};
 ghost use Rattle.flat_rules.specs.Ends.{viewport_owner};
 ghost use Rattle.flat_why.specs.Causes.{has_viewport, parting_of, hanging_by, viewed_by, standing_in, nothing_by};
@@ -17,9 +17,9 @@ ghost use Rattle.flat_why.specs.Noted.{uses_in};
 use crate::causes::{Cause, Closing, Parting, Standing, Waiting};
 use flat_base::{Actor, PairNo, SessionNo};
 use flat_core::Board;
+use flat_join::Shown;
 use flat_scene::{Cond, Content, Setup};
 use flat_snap::Snapshot;
-use flat_topology::Shown;
 
 /// How many presents of a session frames have taken.
 pub fn taken(board: &Board, s: SessionNo) -> u32

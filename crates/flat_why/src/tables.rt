@@ -9,7 +9,7 @@ use crate::causes::{Cause, Closing, Standing, Waiting};
 use crate::standings::{nothing, standing_at};
 use flat_base::{NoMemory, SessionNo};
 use flat_core::Board;
-use flat_topology::Shown;
+use flat_join::Shown;
 use std::alloc::Global;
 
 /// Notes where each session hangs.

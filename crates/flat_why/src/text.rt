@@ -21,10 +21,10 @@ use crate::counts::count_items;
 use crate::hidden::{hidden_in, node_of};
 use crate::words::{push_hold, push_shown, push_why};
 use flat_base::{FrameNo, NoMemory, SESSIONS_MAX, SessionNo};
+use flat_join::Shown;
 use flat_page::{Page, session_name};
 use flat_places::Script;
 use flat_scene::FrameOut;
-use flat_topology::Shown;
 use std::alloc::Global;
 
 /// The number of a frame, and a session.

@@ -35,10 +35,10 @@ use crate::tables::{no_closings, no_standings, no_uses, note_standings};
 use crate::text::{Scene, push_sessions, push_waits};
 use flat_base::{Actor, NoMemory, PairNo, SessionNo};
 use flat_core::{Board, shown_states_fit};
+use flat_join::Shown;
 use flat_page::Page;
 use flat_places::Script;
 use flat_scene::{Cond, Entry, FrameOut, Kind};
-use flat_topology::Shown;
 use std::alloc::Global;
 use std::collections::VecDeque;
 

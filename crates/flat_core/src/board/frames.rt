@@ -17,10 +17,10 @@ use crate::entries::enter;
 use crate::start::FrameStart;
 use flat_base::{Actor, FrameNo};
 use flat_gets::telling::Telling;
+use flat_join::Shown;
 use flat_scene::{CallList, DisplayLine, Entry, Kind, Reply, SessionSet};
 use flat_states::clock::Clock;
 use flat_states::port::port_of;
-use flat_topology::Shown;
 
 impl Board {
     ghost use Rattle.flat_base.specs.declared.ids.Actor.TheVariants.{Display};

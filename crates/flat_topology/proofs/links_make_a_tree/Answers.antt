@@ -12,9 +12,10 @@ use Rattle.flat_topology.proofs.lemmas.Distinct.{In, pairs-distinct}
 use Rattle.flat_topology.proofs.FewSessions.{standing_connected, few_sessions}
 use Rattle.flat_topology.proofs.lemmas.Distances.{no-cycle}
 use Rattle.flat_topology.proofs.Standing.{distinct-from, connected-reached, led-in}
-use Rattle.flat_topology.proofs.Whole.{found-in, in-found, distance-low, led-whole}
+use Rattle.flat_topology.proofs.lemmas.Whole.{found-in, in-found, distance-low, led-whole}
 use Rattle.flat_topology.proofs.Few.{few-joined}
-use Rattle.flat_topology.proofs.Opacities.{HasLowOpacity, AllLow, low-led}
+use Rattle.flat_topology.specs.Laws.{HasLowOpacity}
+use Rattle.flat_topology.proofs.Opacities.{AllLow, low-led}
 use Rattle.std.proofs.lemmas.List.Elements.{All-nil}
 use Rattle.flat_topology.proofs.Viewing.{length-placed}
 use Rattle.flat_topology.proofs.Parents.{connected-in-both}

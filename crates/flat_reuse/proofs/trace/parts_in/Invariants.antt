@@ -1,7 +1,7 @@
 use Rattle.std.proofs.Common.{Some}
 use Rattle.flat_snap.specs.Flat.{flat_nodes}
 use Rattle.flat_topology.specs.Shown.{nodes_of}
-use Rattle.flat_topology.specs.Walking.{space_of}
+use Rattle.flat_join.specs.Walking.{space_of}
 use Rattle.flat_reuse.specs.Pieces.{pieces}
 use Rattle.flat_reuse.specs.Tracing.{work, IsTracing}
 use Rattle.flat_reuse.proofs.trace.parts_in.Given as goal

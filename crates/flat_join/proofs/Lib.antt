@@ -1,0 +1,5 @@
+pub mod Stating
+pub mod Walking
+mod Walks
+pub mod Finding
+pub mod lemmas
