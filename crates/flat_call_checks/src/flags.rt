@@ -10,7 +10,7 @@ const TURNS_OF_AN_ASK: u32 = 100;
 /// What a gate answers that is open or shut, which takes a while if it is shut. A race asks a
 /// gate a million times for a line and then goes on. If each answer came at once, a thread that
 /// stands still for a fraction of a second would find others let in out of their turn.
-pub(crate) fn answered(is_open: bool) -> bool {
+pub fn answered(is_open: bool) -> bool {
     if is_open {
         return true;
     }
@@ -22,26 +22,26 @@ pub(crate) fn answered(is_open: bool) -> bool {
 
 /// A flag that threads share, not set at first.
 #[derive(Drop)]
-pub(crate) struct Flag(AtomicBool);
+pub struct Flag(AtomicBool);
 
 impl Flag {
     /// One that isn't set.
-    pub(crate) fn new() -> Flag {
+    pub fn new() -> Flag {
         Flag(AtomicBool::new(false))
     }
 
     /// Sets it.
-    pub(crate) fn set(&self) {
+    pub fn set(&self) {
         self.0.store(true, Ordering::SeqCst);
     }
 
     /// Whether it is set.
-    pub(crate) fn is_set(&self) -> bool {
+    pub fn is_set(&self) -> bool {
         self.0.load(Ordering::SeqCst)
     }
 
     /// Waits until it is set, for so many turns at most. Whether it is.
-    pub(crate) fn is_set_in_time(&self) -> bool {
+    pub fn is_set_in_time(&self) -> bool {
         for _ in 0..TURNS {
             if self.is_set() {
                 return true;
@@ -54,21 +54,21 @@ impl Flag {
 
 /// A count that threads share, from 0 on.
 #[derive(Drop)]
-pub(crate) struct Count(AtomicU32);
+pub struct Count(AtomicU32);
 
 impl Count {
     /// Nothing was counted.
-    pub(crate) fn new() -> Count {
+    pub fn new() -> Count {
         Count(AtomicU32::new(0))
     }
 
     /// Counts once more, and answers what was counted before.
-    pub(crate) fn add(&self) -> u32 {
+    pub fn add(&self) -> u32 {
         self.0.fetch_add(1, Ordering::SeqCst)
     }
 
     /// What was counted.
-    pub(crate) fn number(&self) -> u32 {
+    pub fn number(&self) -> u32 {
         self.0.load(Ordering::SeqCst)
     }
 }

@@ -1,10 +1,10 @@
 use crate::flags::{Count, answered};
-use flat_race::Gate;
+use flat_actors::Gate;
 use flat_scene::Reply;
 
 /// Whether the entry or line of an actor stands at a place of an order, or all that have an
 /// order stand before it.
-pub(crate) fn is_at(order: &[(u32, u32)], place: u32, actor: u32, line: u32) -> bool {
+pub fn is_at(order: &[(u32, u32)], place: u32, actor: u32, line: u32) -> bool {
     match order.get(place as usize) {
         Some(entry) => *entry == (actor, line),
         None => true,

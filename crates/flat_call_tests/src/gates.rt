@@ -1,8 +1,11 @@
+use crate::call::race;
+use crate::composing::presents_while_composed;
+use crate::counting::asked_for;
+use crate::holding::race_held;
 use flat_call_checks::{
     AWAIT, AWAIT_REPORTED, DISPLAY_WAIT, DISPLAY_WAIT_ORDER, DISPLAY_WAIT_REPORTED, FILL,
     FILL_REPORTED, Hearing, HearsBegin, Looking, NEVER, PROBED_ORDER, SORTS, SORTS_REPORTED,
-    SORTS_TOLD, WAIT, WAIT_ORDER, WAIT_REPORTED, asked_for, presents_while_composed, race,
-    race_held,
+    SORTS_TOLD, WAIT, WAIT_ORDER, WAIT_REPORTED,
 };
 use std::test::Fail;
 

@@ -1,6 +1,8 @@
+use crate::call::play;
+use crate::displays::{FRAMES, frames_before, play_six, report_with};
+use crate::faults::{Fault, first_spared};
 use flat_call_checks::{
-    FRAMES, Fault, SHELL, SHELL_REPORTED, first_spared, frames_before, has_answer, has_line,
-    is_fault, is_report, mail_leaves_before, moved, play, play_six, report_with,
+    SHELL, SHELL_REPORTED, has_answer, has_line, is_fault, is_report, mail_leaves_before, moved,
 };
 use std::test::Fail;
 

@@ -1,4 +1,4 @@
-use flat_call_checks::play_slice;
+use crate::slices::play_slice;
 use flat_display::{Display, Tally};
 use flat_io::{StdSource, SteadySink};
 use flat_race::OpenGate;

@@ -58,49 +58,47 @@ fn sink_of(alloc: Global, faults: Faults) -> Result<MemSink, NoMemory> {
     Ok(MemSink::new(alloc, ROOM, write, stall)?)
 }
 
-/// Calls the service with one word, and answers its status.
-fn serve<T: Threads + Wait + Sync, G: Gate>(
-    rt: &T,
-    alloc: Global,
-    word: &str,
-    source: &mut MemSource,
-    sink: &mut MemSink,
-    displays: &mut Vec<Box<dyn Display>>,
-    gate: &G,
-) -> Result<u8, NoMemory>
-    requires { length displays.old.items < 2 ^ 32 }
-{
-    let word = String::from_str(alloc, word)?;
-    let words = slice::from_ref(&word);
-    Ok(flatland(rt, alloc, words, source, sink, displays, gate))
+/// What the service is called with.
+#[derive(Clone, Copy)]
+pub struct Asked<'a> {
+    /// Its one command word.
+    pub word: &'a str,
+    pub text: &'a [u8],
+    /// What fails of its source and sink.
+    pub faults: Faults,
 }
 
-/// Calls the service with one word on a text, and hands out what it wrote.
-pub(crate) fn call<T: Threads + Wait + Sync, G: Gate>(
+impl<'a> Asked<'a> {
+    /// A word on a text, where nothing fails.
+    pub fn of(word: &'a str, text: &'a [u8]) -> Asked<'a> {
+        Asked {
+            word,
+            text,
+            faults: NONE,
+        }
+    }
+}
+
+/// Calls the service, and hands out what it wrote.
+pub fn call<T: Threads + Wait + Sync, G: Gate>(
     rt: &T,
     alloc: Global,
-    word: &str,
-    text: &[u8],
-    faults: Faults,
+    asked: Asked<'_>,
     displays: &mut Vec<Box<dyn Display>>,
     gate: &G,
 ) -> Result<Called, NoMemory>
     requires { length displays.old.items < 2 ^ 32 }
 {
-    let mut source = source_of(alloc, text, faults)?;
-    let Ok(mut sink) = sink_of(alloc, faults) else {
+    let word = String::from_str(alloc, asked.word)?;
+    let words = slice::from_ref(&word);
+    let mut source = source_of(alloc, asked.text, asked.faults)?;
+    let Ok(mut sink) = sink_of(alloc, asked.faults) else {
         drop(source);
         return Err(NoMemory);
     };
-    let served = serve(rt, alloc, word, &mut source, &mut sink, displays, gate);
+    let status = flatland(rt, alloc, words, &mut source, &mut sink, displays, gate);
     drop(source);
-    match served {
-        Ok(status) => Ok(Called { status, sink }),
-        Err(NoMemory) => {
-            drop(sink);
-            Err(NoMemory)
-        }
-    }
+    Ok(Called { status, sink })
 }
 
 /// Plays a script, in written order, on no display.
@@ -109,15 +107,8 @@ pub fn play<T: Threads + Wait + Sync>(
     alloc: Global,
     text: &[u8],
 ) -> Result<Called, NoMemory> {
-    call(
-        rt,
-        alloc,
-        "play",
-        text,
-        NONE,
-        &mut Vec::new(alloc),
-        &OpenGate,
-    )
+    let displays = &mut Vec::new(alloc);
+    call(rt, alloc, Asked::of("play", text), displays, &OpenGate)
 }
 
 /// Races a script under a gate, on no display.
@@ -128,5 +119,5 @@ pub fn race<T: Threads + Wait + Sync, G: Gate>(
     gate: &G,
 ) -> Result<Called, NoMemory> {
     let displays = &mut Vec::new(alloc);
-    call(rt, alloc, "race", text, NONE, displays, gate)
+    call(rt, alloc, Asked::of("race", text), displays, gate)
 }

@@ -2,8 +2,8 @@ use Rattle.std.proofs.Common.{rules, ◌≡◌, [], ◌∷◌, map, arith}
 use Rattle.std.specs.String.{string_bytes}
 use Rattle.flat_words.specs.declared.form.Form.TheVariants.{Play}
 use Rattle.flat_words.specs.Forms.{words_of}
-use Rattle.flat_call_checks.proofs.Told.{play_told}
-use Rattle.flat_call_checks.proofs.slices.play_slice.Goals as goal
+use Rattle.flat_call_tests.proofs.Told.{play_told}
+use Rattle.flat_call_tests.proofs.slices.play_slice.Goals as goal
 
 pub returns : goal.returns
 returns g c = λ is_0.

@@ -1,9 +1,6 @@
-use crate::call::{Called, call};
-use crate::faults::NONE;
-use crate::flags::{Count, Flag, answered};
-use crate::order::is_at;
-use crate::texts::PROBED;
+use crate::call::{Asked, Called, call};
 use flat_base::NoMemory;
+use flat_call_checks::{Count, Flag, PROBED, answered, is_at};
 use flat_display::Display;
 use flat_io::Failed;
 use flat_race::Gate;
@@ -74,5 +71,5 @@ pub fn race_asked<T: Threads + Wait + Sync>(rt: &T, alloc: Global) -> Result<Cal
         gate: gate.clone()?,
     };
     displays.push(Box::new(alloc, slow)?)?;
-    call(rt, alloc, "race", PROBED, NONE, &mut displays, &*gate)
+    call(rt, alloc, Asked::of("race", PROBED), &mut displays, &*gate)
 }

@@ -1,8 +1,8 @@
 ghost use Rattle.std.specs.Prelude.{◌<◌, ◌≤◌, IfOk};
 
-use crate::call::{Called, call};
-use crate::shell::SHELL;
+use crate::call::{Asked, Called, call};
 use flat_base::NoMemory;
+use flat_call_checks::SHELL;
 use flat_race::OpenGate;
 use std::alloc::Global;
 use std::sync::Wait;
@@ -25,10 +25,10 @@ pub enum Fault {
 /// At which calls, from 1, a source fails, and a sink fails or takes nothing (0: at
 /// none).
 #[derive(Clone, Copy)]
-pub(crate) struct Faults {
-    pub(crate) read: u32,
-    pub(crate) write: u32,
-    pub(crate) stall: u32,
+pub struct Faults {
+    pub read: u32,
+    pub write: u32,
+    pub stall: u32,
 }
 
 /// Nothing fails.
@@ -66,15 +66,12 @@ fn play_failing<T: Threads + Wait + Sync>(
     number: u32,
 ) -> Result<Called, NoMemory> {
     let faults = Faults::at(fault, number);
-    call(
-        rt,
-        alloc,
-        "play",
-        SHELL,
+    let asked = Asked {
+        word: "play",
+        text: SHELL,
         faults,
-        &mut Vec::new(alloc),
-        &OpenGate,
-    )
+    };
+    call(rt, alloc, asked, &mut Vec::new(alloc), &OpenGate)
 }
 
 /// Plays the shell's script again and again, and at each play the next call fails, from

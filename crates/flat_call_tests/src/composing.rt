@@ -1,7 +1,6 @@
-use crate::call::call;
-use crate::faults::NONE;
-use crate::flags::{Count, Flag};
+use crate::call::{Asked, call};
 use flat_base::NoMemory;
+use flat_call_checks::{Count, Flag};
 use flat_display::Display;
 use flat_io::Failed;
 use flat_race::Gate;
@@ -150,15 +149,8 @@ fn presents_in_race<T: Threads + Wait + Sync>(rt: &T, alloc: Global) -> Result<b
     };
     displays.push(Box::new(alloc, counting)?)?;
     let text = script(alloc)?;
-    let called = call(
-        rt,
-        alloc,
-        "race",
-        text.as_slice(),
-        NONE,
-        &mut displays,
-        &*gate,
-    )?;
+    let asked = Asked::of("race", text.as_slice());
+    let called = call(rt, alloc, asked, &mut displays, &*gate)?;
     drop(called);
     Ok(gate.presented.is_set())
 }

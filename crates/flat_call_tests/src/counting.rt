@@ -1,6 +1,6 @@
 use crate::call::race;
-use crate::flags::Count;
 use flat_base::NoMemory;
+use flat_call_checks::Count;
 use flat_race::Gate;
 use flat_scene::Reply;
 use std::alloc::Global;

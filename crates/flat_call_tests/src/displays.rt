@@ -1,8 +1,7 @@
 ghost use Rattle.std.specs.Prelude.{◌≡◌, ◌≢◌, ◌-◌};
 ghost use Rattle.flat_io.specs.Counts.{count_end};
 
-use crate::call::{Called, call};
-use crate::faults::NONE;
+use crate::call::{Asked, Called, call};
 use crate::six::{SIX_FRAMES, SIX_REPORTED};
 use flat_base::NoMemory;
 use flat_display::{Display, MemDisplay};
@@ -58,15 +57,8 @@ pub fn play_six<T: Threads + Wait + Sync>(
     let mut displays: Vec<Box<dyn Display>> = Vec::new(alloc);
     displays.push(Box::new(alloc, Shared(one.clone()?))?)?;
     displays.push(Box::new(alloc, Shared(other.clone()?))?)?;
-    let called = call(
-        rt,
-        alloc,
-        "play",
-        SIX_FRAMES,
-        NONE,
-        &mut displays,
-        &OpenGate,
-    )?;
+    let asked = Asked::of("play", SIX_FRAMES);
+    let called = call(rt, alloc, asked, &mut displays, &OpenGate)?;
     Ok((called, [frames_had(&one), frames_had(&other)]))
 }
 

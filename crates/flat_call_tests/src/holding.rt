@@ -1,8 +1,6 @@
-use crate::call::{Called, call};
-use crate::faults::NONE;
-use crate::flags::{Flag, answered};
-use crate::texts::FILL;
+use crate::call::{Asked, Called, call};
 use flat_base::NoMemory;
+use flat_call_checks::{FILL, Flag, answered};
 use flat_display::Display;
 use flat_io::Failed;
 use flat_race::Gate;
@@ -111,6 +109,6 @@ pub fn race_held<T: Threads + Wait + Sync>(
         gate: gate.clone()?,
     };
     displays.push(Box::new(alloc, slow)?)?;
-    let called = call(rt, alloc, "race", FILL, NONE, &mut displays, &*gate)?;
+    let called = call(rt, alloc, Asked::of("race", FILL), &mut displays, &*gate)?;
     Ok((called, gate))
 }
