@@ -1,11 +1,12 @@
 ghost use Rattle.std.specs.Prelude.{◌≡◌, ◌<◌, ◌≤◌, ℕ, IsTrue, false, true};
 ghost use Rattle.flat_geom.specs.Rectangles.{has_point};
-ghost use Rattle.flat_render.specs.Areas.{has_pixel};
+ghost use Rattle.flat_ink.specs.Areas.{has_pixel};
 ghost use Rattle.flat_render.specs.Damaged.{is_in_any};
-ghost use Rattle.flat_render.specs.Pixels.{centre};
+ghost use Rattle.flat_ink.specs.Pixels.{centre};
 
 use flat_base::Rect;
-use flat_render::{Area, PIXELS_MAX};
+use flat_ink::area::Area;
+use flat_render::PIXELS_MAX;
 
 /// The pixels of a display of `w` by `h` whose centre is in a rectangle, as one of the
 /// damage. If there are none, the area has no columns or no rows.
@@ -19,7 +20,7 @@ pub fn area_of(rect: Rect, w: u32, h: u32) -> Area
     ensures pixels { (px py : ℕ) → px < w → py < h → has_pixel result px py
         ≡ has_point rect (centre px) (centre py) }
 {
-    let area = flat_render::area_of(rect);
+    let area = flat_ink::area::area_of(rect);
     let (x0, y0) = (area.x0.min(w as usize), area.y0.min(h as usize));
     Area {
         x0,

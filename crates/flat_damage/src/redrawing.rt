@@ -2,7 +2,7 @@ ghost use Rattle.std.specs.Prelude.{◌≡◌, All, IfOk, OnOk, OnErr};
 ghost use Rattle.flat_drawable.specs.Drawable.{IsDrawable};
 ghost use Rattle.flat_damage.specs.Damage.{IsDamage};
 ghost use Rattle.flat_render.specs.Pictures.{Shows, width_of, height_of};
-ghost use Rattle.flat_render.specs.Pixels.{pixel};
+ghost use Rattle.flat_ink.specs.Pixels.{pixel};
 
 use crate::{damage, damage_laws};
 use flat_base::NoMemory;

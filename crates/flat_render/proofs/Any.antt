@@ -7,15 +7,15 @@ use Rattle.std.proofs.lemmas.Nat.{mod_below, div_below}
 use Rattle.flat_base.specs.declared.shapes.Rect.{Rect}
 use Rattle.flat_geom.specs.Rectangles.{has_point}
 use Rattle.flat_scene.specs.declared.frames.DrawItem.{DrawItem}
-use Rattle.flat_render.specs.Areas.{has_pixel}
+use Rattle.flat_ink.specs.Areas.{has_pixel}
 use Rattle.flat_render.specs.Damaged.{is_in_any}
-use Rattle.flat_render.specs.Pixels.{centre}
-use Rattle.flat_render.specs.Tiles.{x_at, y_at, pixels_of, IsTile}
+use Rattle.flat_ink.specs.Pixels.{centre}
+use Rattle.flat_tile.specs.Tiles.{x_at, y_at, pixels_of, IsTile}
 use Rattle.flat_render.specs.Grids.{tile_of, tile_bytes, tile_count, grid_bytes, IsGrid}
 use Rattle.flat_render.specs.Stored.{stored_x, stored_y, drawn_at}
-use Rattle.flat_render.specs.declared.area.Area.{Area}
+use Rattle.flat_ink.specs.declared.area.Area.{Area}
 use Rattle.flat_render.specs.declared.grid.Grid.{Grid}
-use Rattle.flat_render.specs.declared.tile.Tile.{Tile}
+use Rattle.flat_tile.specs.declared.tile.Tile.{Tile}
 use Rattle.flat_render.proofs.Chunks.{redrawn}
 use Rattle.flat_render.proofs.Places.{tile-is, some-pixel, some-byte}
 

@@ -5,18 +5,20 @@ use Rattle.std.proofs.lemmas.Grind.{fold-append}
 use Rattle.std.proofs.lemmas.Nat.{div-mul-add, mod-mul-add, mul-add-lt, mul-le, row_fits}
 use Rattle.flat_drawable.specs.Drawable.{IsDrawable}
 use Rattle.flat_scene.specs.declared.frames.DrawItem.{DrawItem}
-use Rattle.flat_render.specs.Areas.{has_pixel}
-use Rattle.flat_render.specs.Bands.{IsSeenIn}
-use Rattle.flat_render.specs.Channels.{channel_step, channel_after}
+use Rattle.flat_ink.specs.Areas.{has_pixel}
+use Rattle.flat_tile.specs.Chosen.{IsSeenIn}
+use Rattle.flat_ink.specs.Channels.{channel_step, channel_after}
 use Rattle.flat_render.specs.Grids.{tile_bytes, tile_count, band_bytes, grid_bytes, tile_of, IsGrid}
-use Rattle.flat_render.specs.Pixels.{covers}
-use Rattle.flat_render.specs.Stored.{drawn_in, drawn_at}
-use Rattle.flat_render.specs.Tiles.{channel_at, x_at, y_at, tile_area, IsTile}
-use Rattle.flat_render.specs.declared.area.Area.{Area}
+use Rattle.flat_ink.specs.Pixels.{covers}
+use Rattle.flat_tile.specs.Chosen.{drawn_in}
+use Rattle.flat_render.specs.Stored.{drawn_at}
+use Rattle.flat_tile.specs.Tiles.{channel_at, x_at, y_at, tile_area, IsTile}
+use Rattle.flat_ink.specs.declared.area.Area.{Area}
 use Rattle.flat_render.specs.declared.grid.Grid.{Grid}
-use Rattle.flat_render.specs.declared.tile.Tile.{Tile}
-use Rattle.flat_render.proofs.Items.{after-more, tile-has-byte}
-use Rattle.flat_render.proofs.Planes.{some-pixels}
+use Rattle.flat_tile.specs.declared.tile.Tile.{Tile}
+use Rattle.flat_tile.proofs.lemmas.Items.{after-more, tile-has-byte}
+use Rattle.flat_tile.proofs.lemmas.Planes.{some-pixels}
+use Rattle.flat_tile.proofs.lemmas.Lists.{some-item}
 
 step-none : (c : ℕ) (item : DrawItem) (px py was : ℕ) → covers item px py ≡ false → channel_step c item px py was ≡ was
 step-none c item px py was e = rw e refl
@@ -65,11 +67,6 @@ module _ (area : Area) (all seen : List DrawItem) (item : DrawItem) where
         ∙ sym (step-none c item px py (channel_after c all px py old) (unseen px py there))
         ∙ sym (fold-append (λ was it. channel_step c it px py was) old all (item ∷ []));
   }
-
--- an item of a list that has one
-pub some-item : (items : List DrawItem) (i : ℕ) → i < length items → DrawItem
-some-item [] i within = absurd (omega arith)
-some-item (item ∷ items) i within = item
 
 -- the bytes of a tile in its row
 module _ (g : Grid) (is : IsGrid g) (row n : ℕ) (column : n < g.across) where

@@ -2,8 +2,8 @@
 use Rattle.std.proofs.Common.{ℕ, ◌≡◌, refl, ap, ◌∙◌, Bool, true, false, if◌then◌else◌, List, [], ◌∷◌}
 use Rattle.std.specs.Prelude.{fold}
 use Rattle.flat_scene.specs.declared.frames.DrawItem.{DrawItem}
-use Rattle.flat_render.specs.Channels.{channel_painted, channel_step, channel_after}
-use Rattle.flat_render.specs.Pixels.{covers, painted, step, pixel}
+use Rattle.flat_ink.specs.Channels.{channel_painted, channel_step, channel_after}
+use Rattle.flat_ink.specs.Pixels.{covers, painted, step, pixel}
 
 step-channels : (item : DrawItem) (px py a b c : ℕ)
     → step item px py (a ∷ b ∷ c ∷ []) ≡ channel_step 0 item px py a ∷ channel_step 1 item px py b ∷ channel_step 2 item px py c ∷ []

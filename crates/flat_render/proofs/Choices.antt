@@ -11,21 +11,17 @@ use Rattle.std.proofs.lemmas.Nat.{div_below, div-mul-add, mod-mul-add, mul-le}
 use Rattle.flat_base.proofs.lemmas.Tests.{and-left, and-right}
 use Rattle.flat_drawable.specs.Drawable.{IsDrawable}
 use Rattle.flat_scene.specs.declared.frames.DrawItem.{DrawItem}
-use Rattle.flat_render.specs.Areas.{is_among, has_pixel}
-use Rattle.flat_render.specs.Bands.{chosen, AreChoices, AreEmpty, AreParts, AreRows, IsChoice, IsNoted, IsPart, IsSeenIn, ServesRow}
+use Rattle.flat_ink.specs.Areas.{is_among, has_pixel}
+use Rattle.flat_tile.specs.Chosen.{chosen, IsSeenIn}
+use Rattle.flat_render.specs.Bands.{AreChoices, AreEmpty, AreParts, AreRows, IsChoice, IsNoted, IsPart, ServesRow}
 use Rattle.flat_render.specs.Grids.{tile_of}
-use Rattle.flat_render.specs.Pixels.{covers}
-use Rattle.flat_render.specs.Tiles.{tile_area}
-use Rattle.flat_render.specs.declared.area.Area.{Area}
+use Rattle.flat_ink.specs.Pixels.{covers}
+use Rattle.flat_tile.specs.Tiles.{tile_area}
+use Rattle.flat_ink.specs.declared.area.Area.{Area}
 use Rattle.flat_render.specs.declared.grid.Grid.{Grid}
 use Rattle.flat_render.proofs.Bands.{seen-both, seen-first, seen-more, seen-past}
-use Rattle.flat_render.proofs.Rows.{among, among-low, among-high, either}
-
--- the item with a number, as a list
-pub one-there : (items : List DrawItem) (p : ℕ) (d : DrawItem) → p < length items → take 1 (drop p items) ≡ get_or items p d ∷ []
-one-there [] p d h = absurd (omega arith)
-one-there (item ∷ items) zero d h = refl
-one-there (item ∷ items) (suc p) d h = one-there items p d (omega arith)
+use Rattle.flat_ink.proofs.lemmas.Ranges.{among, among-low, among-high, either}
+use Rattle.flat_tile.proofs.lemmas.Lists.{one-there}
 
 chosen-one : (items : List DrawItem) (places : List ℕ) (p : ℕ) (d : DrawItem) → p < length items
     → chosen items (places ++ p ∷ []) ≡ chosen items places ++ get_or items p d ∷ []

@@ -6,11 +6,13 @@ use Rattle.std.proofs.lemmas.Nat.{div-mul-add, mod-mul-add}
 use borrow.Rule.Slice.PartMut.{put_mid}
 use Rattle.flat_scene.specs.declared.frames.DrawItem.{DrawItem}
 use Rattle.flat_render.specs.Grids.{tile_of, tile_bytes}
-use Rattle.flat_render.specs.Stored.{stored_x, stored_y, drawn_in, drawn_at}
-use Rattle.flat_render.specs.Tiles.{x_at, y_at}
+use Rattle.flat_render.specs.Stored.{stored_x, stored_y, drawn_at}
+use Rattle.flat_tile.specs.Chosen.{drawn_in}
+use Rattle.flat_tile.specs.Tiles.{x_at, y_at}
 use Rattle.flat_render.specs.declared.grid.Grid.{Grid}
-use Rattle.flat_render.specs.declared.tile.Tile.{Tile}
-use Rattle.flat_render.proofs.Rows.{either, put-before, put-inside, put-after}
+use Rattle.flat_tile.specs.declared.tile.Tile.{Tile}
+use Rattle.flat_ink.proofs.lemmas.Ranges.{either, put-before, put-inside, put-after}
+use Rattle.flat_ink.proofs.lemmas.Ranges.{part-there}
 
 -- the pixels of the first n tiles are changed by h, and the others are as they were
 pub record IsRepaintedTo (h : ℕ → ℕ → ℕ) (s : ℕ) (old pixels : List ℕ) (n : ℕ) : Type 0 where
@@ -44,10 +46,6 @@ repainted-more h s old pixels line n z fits zs len so_far tile =
 pub repainted-all : (h : ℕ → ℕ → ℕ) (s : ℕ) (old pixels : List ℕ) (n m : ℕ) → IsRepaintedTo h s old pixels n → n ≡ m → length old ≡ m * s
     → (i : ℕ) → i < length old → get_or pixels i 0 ≡ h i (get_or old i 0)
 repainted-all h s old pixels n m done same all i small = let e : n * s ≡ m * s = ap (λ (k : ℕ). k * s) same in done.below i (omega (arith, e))
-
--- a part of a list, read at a place
-pub part-there : (a z : ℕ) (xs : List ℕ) (k : ℕ) → k < z → get_or (take z (drop a xs)) k 0 ≡ get_or xs (a + k) 0
-part-there a z xs k small = get_or-take z (drop a xs) k 0 small ∙ get_or-drop a xs k 0
 
 -- the part that is one tile's
 pub tile-part : (s : ℕ) (pixels : List ℕ) (n z : ℕ) → n * s + s ≤ length pixels → z ≡ s → length (take z (drop (n * s) pixels)) ≡ s

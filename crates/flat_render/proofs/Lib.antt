@@ -1,24 +1,9 @@
-pub mod Bounds
-pub mod Lines
-pub mod Rows
-pub mod Tables
-pub mod Planes
-pub mod Windows
 pub mod Channels
-pub mod CoveredUp
-pub mod Covered
-pub mod Items
-pub mod Cuts
 pub mod Places
 pub mod Chunks
 pub mod Any
 pub mod Seen
 pub mod lemmas
-pub mod Brushing
-pub mod Preparing
-pub mod ThreePlanes
-pub mod PreparedLists
-pub mod Fresh
 pub mod Bands
 pub mod Runs
 pub mod Rendered
@@ -26,9 +11,6 @@ pub mod RowsOf
 pub mod StripSteps
 pub mod SpanSteps
 pub mod RowWords
-pub mod Wholes
-pub mod Steps
 pub mod Choices
-pub mod ByNumber
 pub mod Colours
 mod Examples

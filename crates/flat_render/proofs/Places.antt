@@ -3,10 +3,10 @@ use Rattle.std.proofs.Common.{ℕ, zero, suc, ◌+◌, ◌*◌, ◌/◌, ◌%◌
 use Rattle.std.proofs.lemmas.Nat.{div-mul-add, mod-mul-add, div-add-mod', mod_below, div_below, mul-add-lt, row_fits, mul-le}
 use Rattle.std.proofs.lemmas.Grind.{div_ceil_times}
 use Rattle.flat_scene.specs.declared.frames.DrawItem.{DrawItem}
-use Rattle.flat_render.specs.Channels.{channel_after}
+use Rattle.flat_ink.specs.Channels.{channel_after}
 use Rattle.flat_render.specs.Grids.{tile_size, tile_bytes, tile_count, grid_bytes, tile_of, tile_with, place_in_tile, run_of, place_of, IsGrid}
 use Rattle.flat_render.specs.Stored.{stored_x, stored_y, drawn_at}
-use Rattle.flat_render.specs.Tiles.{channel_at, IsTile}
+use Rattle.flat_tile.specs.Tiles.{channel_at, IsTile}
 use Rattle.flat_render.specs.declared.grid.Grid.{Grid}
 
 -- a place by tile, channel, row and column, read back

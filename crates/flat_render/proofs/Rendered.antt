@@ -4,9 +4,9 @@ use Rattle.std.specs.Vec.{with_items}
 use Rattle.std.specs.declared.alloc.Global.{Global}
 use Rattle.std.proofs.lemmas.List.{with_items_is}
 use Rattle.flat_scene.specs.declared.frames.DrawItem.{DrawItem}
-use Rattle.flat_render.specs.Channels.{channel_after}
+use Rattle.flat_ink.specs.Channels.{channel_after}
 use Rattle.flat_render.specs.Grids.{grid_bytes, place_of, IsGrid}
-use Rattle.flat_render.specs.Pixels.{pixel}
+use Rattle.flat_ink.specs.Pixels.{pixel}
 use Rattle.flat_render.specs.Stored.{drawn_at}
 use Rattle.flat_render.specs.declared.grid.Grid.{Grid}
 use Rattle.flat_render.proofs.Channels.{pixel-channels}

@@ -6,9 +6,9 @@ use Rattle.flat_render.specs.Grids.{tile_size, run_of}
 use Rattle.flat_render.specs.Pictures.{pixel_of}
 use Rattle.flat_render.specs.Words.{xrgb}
 use Rattle.flat_render.specs.declared.picture.Picture.{Picture}
-use Rattle.flat_render.proofs.Chunks.{part-there}
-use Rattle.flat_render.proofs.Lines.{IsChangedTo}
-use Rattle.flat_render.proofs.Rows.{either, put-before, put-inside, put-after}
+use Rattle.flat_ink.proofs.lemmas.Ranges.{part-there}
+use Rattle.flat_ink.proofs.lemmas.Lines.{IsChangedTo}
+use Rattle.flat_ink.proofs.lemmas.Ranges.{either, put-before, put-inside, put-after}
 use Rattle.flat_render.proofs.Runs.{run-pixel}
 
 -- a part of a line more

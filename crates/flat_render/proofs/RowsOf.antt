@@ -3,9 +3,9 @@ use Rattle.std.proofs.Common.{ℕ, ◌+◌, ◌-◌, ◌*◌, ◌/◌, ◌%◌, 
 use Rattle.std.proofs.lemmas.List.{get_or-take, get_or-drop}
 use Rattle.std.proofs.lemmas.Nat.{div-mul-add, mod-mul-add, row_fits}
 use Rattle.flat_scene.specs.declared.frames.DrawItem.{DrawItem}
-use Rattle.flat_render.specs.Channels.{channel_after}
+use Rattle.flat_ink.specs.Channels.{channel_after}
 use Rattle.flat_render.specs.Grids.{tile_size, tile_bytes, band_bytes, grid_bytes, place_of, IsGrid}
-use Rattle.flat_render.specs.Pixels.{pixel}
+use Rattle.flat_ink.specs.Pixels.{pixel}
 use Rattle.flat_render.specs.Ppm.{row_bytes}
 use Rattle.flat_render.specs.Rows.{band_of, colour_in, rows_bytes}
 use Rattle.flat_render.specs.Stored.{drawn_at}

@@ -4,7 +4,7 @@ use Rattle.std.proofs.lemmas.Bool.{cases_lt}
 use Rattle.std.proofs.lemmas.List.{get_or_append_left, get_or-append_right}
 use Rattle.flat_render.specs.declared.grid.Grid.{Grid}
 use Rattle.flat_render.specs.Grids.{IsGrid}
-use Rattle.flat_render.proofs.Rows.{either}
+use Rattle.flat_ink.proofs.lemmas.Ranges.{either}
 
 -- how many bytes two spans have, of b in each row of tiles
 pub cut-size : (from cut b : ℕ) → from ≤ cut → (cut - from) * b + from * b ≡ cut * b

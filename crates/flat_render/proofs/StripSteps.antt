@@ -5,7 +5,7 @@ use Rattle.std.specs.List.{flat_map}
 use Rattle.flat_scene.specs.declared.frames.DrawItem.{DrawItem}
 use Rattle.flat_render.specs.declared.grid.Grid.{Grid}
 use Rattle.flat_render.specs.Grids.{band_bytes, IsGrid}
-use Rattle.flat_render.specs.Pixels.{pixel}
+use Rattle.flat_ink.specs.Pixels.{pixel}
 use Rattle.flat_render.specs.Rows.{band_of, colour_in, rows_bytes}
 use Rattle.flat_render.specs.Stored.{drawn_at}
 use Rattle.flat_render.specs.Strips.{rows_above, strip_in}

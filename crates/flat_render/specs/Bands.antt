@@ -5,22 +5,13 @@ use Rattle.std.specs.List.{All}
 use Rattle.std.specs.declared.alloc.Global.{Global}
 use Rattle.flat_drawable.specs.Drawable.{IsDrawable}
 use Rattle.flat_scene.specs.declared.frames.DrawItem.{DrawItem}
-use Rattle.flat_render.specs.declared.area.Area.{Area}
+use Rattle.flat_ink.specs.declared.area.Area.{Area}
 use Rattle.flat_render.specs.declared.grid.Grid.{Grid}
-use Rattle.flat_render.specs.Areas.{is_among, has_pixel}
-use Rattle.flat_render.specs.Channels.{channel_after}
+use Rattle.flat_ink.specs.Areas.{is_among, has_pixel}
+use Rattle.flat_ink.specs.Channels.{channel_after}
 use Rattle.flat_render.specs.Grids.{tile_of}
-use Rattle.flat_render.specs.Tiles.{tile_area}
-
--- some of the items give each pixel of an area what all of them give it
-pub record IsSeenIn (area : Area) (items seen : List DrawItem) : Type 0 where
-  pub drawable : All IsDrawable seen
-  pub same : (c px py old : ℕ) → has_pixel area px py ≡ true
-      → channel_after c seen px py old ≡ channel_after c items px py old
-
--- the items with some numbers
-abbrev pub chosen : List DrawItem → List ℕ → List DrawItem
-chosen items places = flat_map (λ p. take 1 (drop p items)) places
+use Rattle.flat_tile.specs.Tiles.{tile_area}
+use Rattle.flat_tile.specs.Chosen.{chosen, IsSeenIn}
 
 -- of the first n items, the numbers of some that give each pixel of an area what all of these give it
 pub record IsChoice (area : Area) (items : List DrawItem) (places : List ℕ) (n : ℕ) : Type 0 where

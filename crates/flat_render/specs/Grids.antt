@@ -1,7 +1,7 @@
 -- Grids: how a picture is cut into tiles, which are stored one after another.
 use Rattle.std.specs.Prelude.{ℕ, ◌+◌, ◌*◌, ◌/◌, ◌%◌, ◌<◌, ◌≤◌, ◌^◌}
 use Rattle.flat_render.specs.declared.grid.Grid.{Grid}
-use Rattle.flat_render.specs.declared.tile.Tile.{Tile}
+use Rattle.flat_tile.specs.declared.tile.Tile.{Tile}
 
 -- how many pixels a tile has
 abbrev pub tile_size : Grid → ℕ

@@ -1,17 +1,8 @@
-pub mod Areas
-pub mod Colours
-pub mod Pixels
-pub mod Channels
-pub mod Textures
 pub mod Damaged
 pub mod Pictures
-pub mod Hiding
 pub mod Ppm
 pub mod Words
 pub mod Grids
-pub mod Tiles
-pub mod Inks
-pub mod Preparing
 pub mod Plans
 pub mod Stored
 pub mod Strips

@@ -3,7 +3,7 @@ use Rattle.std.specs.Prelude.{◌≡◌, ℕ, ◌-◌, ◌*◌, ◌<◌, ◌≤�
 use Rattle.flat_drawable.specs.Drawable.{IsDrawable}
 use Rattle.flat_render.specs.Bands.{AreRows}
 use Rattle.flat_render.specs.Grids.{band_bytes, IsGrid}
-use Rattle.flat_render.specs.Preparing.{ArePrepared}
+use Rattle.flat_tile.specs.Preparing.{ArePrepared}
 use Rattle.flat_render.specs.declared.plan.Plan.{Plan}
 use Rattle.flat_render.specs.declared.plan.Span.{Span}
 

@@ -2,10 +2,11 @@
 use Rattle.std.specs.Prelude.{ℕ, ◌/◌, ◌%◌, List}
 use Rattle.flat_scene.specs.declared.frames.DrawItem.{DrawItem}
 use Rattle.flat_render.specs.declared.grid.Grid.{Grid}
-use Rattle.flat_render.specs.declared.tile.Tile.{Tile}
-use Rattle.flat_render.specs.Channels.{channel_after}
+use Rattle.flat_tile.specs.declared.tile.Tile.{Tile}
+use Rattle.flat_ink.specs.Channels.{channel_after}
 use Rattle.flat_render.specs.Grids.{tile_of, tile_bytes}
-use Rattle.flat_render.specs.Tiles.{channel_at, x_at, y_at}
+use Rattle.flat_tile.specs.Tiles.{channel_at, x_at, y_at}
+use Rattle.flat_tile.specs.Chosen.{drawn_in}
 
 -- where the pixel of the i-th stored byte lies
 abbrev pub stored_x : Grid → ℕ → ℕ
@@ -13,10 +14,6 @@ stored_x grid i = x_at (tile_of grid (i / tile_bytes grid)) (i % tile_bytes grid
 
 abbrev pub stored_y : Grid → ℕ → ℕ
 stored_y grid i = y_at (tile_of grid (i / tile_bytes grid)) (i % tile_bytes grid)
-
--- the m-th byte of a tile on which items were drawn, from black
-abbrev pub drawn_in : Tile → List DrawItem → ℕ → ℕ
-drawn_in tile items m = channel_after (channel_at tile m) items (x_at tile m) (y_at tile m) 0
 
 -- the i-th stored byte of such tiles
 abbrev pub drawn_at : Grid → List DrawItem → ℕ → ℕ

@@ -8,7 +8,7 @@ use Rattle.flat_scene.specs.declared.frames.DrawItem.{DrawItem}
 use Rattle.flat_render.specs.declared.grid.Grid.{Grid}
 use Rattle.flat_render.specs.declared.plan.Plan.{Plan}
 use Rattle.flat_render.specs.declared.plan.Span.{Span}
-use Rattle.flat_render.specs.Pixels.{pixel}
+use Rattle.flat_ink.specs.Pixels.{pixel}
 use Rattle.flat_render.specs.Rows.{band_of, colour_in, rows_bytes}
 
 -- the bytes of the rows above the n-th row of tiles

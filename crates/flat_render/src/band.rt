@@ -3,17 +3,18 @@ ghost use Rattle.flat_drawable.specs.Drawable.{IsDrawable};
 ghost use Rattle.flat_render.specs.Bands.{AreChoices, IsChoice};
 ghost use Rattle.flat_render.specs.Grids.{band_bytes, IsGrid};
 ghost use Rattle.flat_render.specs.Plans.{IsPlan};
-ghost use Rattle.flat_render.specs.Preparing.{ArePrepared};
-ghost use Rattle.flat_render.specs.Stored.{drawn_at, drawn_in};
-ghost use Rattle.flat_render.specs.Tiles.{pixels_of, tile_area, IsTile};
+ghost use Rattle.flat_tile.specs.Preparing.{ArePrepared};
+ghost use Rattle.flat_render.specs.Stored.{drawn_at};
+ghost use Rattle.flat_tile.specs.Chosen.{drawn_in};
+ghost use Rattle.flat_tile.specs.Tiles.{pixels_of, tile_area, IsTile};
 
-use crate::chosen::{draw, draw_chosen};
 use crate::grid::{Grid, bytes_of_tiles, tile};
 use crate::plan::Plan;
-use crate::prepared::Prepared;
 use crate::sorting::sorted;
-use crate::tile::Tile;
 use flat_scene::DrawItem;
+use flat_tile::chosen::{draw, draw_chosen};
+use flat_tile::prepared::Prepared;
+use flat_tile::tile::Tile;
 
 /// Draws a tile by the items with some numbers, which are those that may be seen there.
 fn draw_tile(items: &[DrawItem], list: &[Prepared], places: &[usize], tile: Tile, bytes: &mut [u8])

@@ -2,16 +2,16 @@ ghost use Rattle.std.specs.Prelude.{◌≡◌, ◌<◌, ℕ, All};
 ghost use Rattle.std.specs.Prelude.{if◌then◌else◌, length};
 ghost use Rattle.std.specs.Prelude.{slice_index};
 ghost use Rattle.flat_drawable.specs.Drawable.{IsDrawable};
-ghost use Rattle.flat_render.specs.Areas.{has_pixel};
+ghost use Rattle.flat_ink.specs.Areas.{has_pixel};
 ghost use Rattle.flat_render.specs.Damaged.{is_in_any};
 ghost use Rattle.flat_render.specs.Grids.{grid_bytes, IsGrid};
 ghost use Rattle.flat_render.specs.Stored.{stored_x, stored_y, drawn_at};
 
-use crate::area::{Area, area_of};
 use crate::grid::{Grid, bytes_of_tiles, count_of_tiles, tile};
-use crate::tile::draw_anew;
 use flat_base::Rect;
+use flat_ink::area::{Area, area_of};
 use flat_scene::DrawItem;
+use flat_tile::tile::draw_anew;
 
 /// Draws what is in a window anew, on all tiles.
 fn redraw_tiles(items: &[DrawItem], grid: &Grid, window: Area, bytes: &mut [u8])

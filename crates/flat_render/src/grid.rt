@@ -2,9 +2,10 @@ ghost use Rattle.std.specs.Prelude.{◌≡◌, ◌+◌, ◌*◌, ◌<◌, ◌≤
 ghost use Rattle.flat_render.specs.Grids.{tile_of, tile_count, tile_size, tile_bytes, band_bytes};
 ghost use Rattle.flat_render.specs.Grids.{grid_bytes, place_of, run_of, IsGrid};
 ghost use Rattle.flat_render.specs.Rows.{band_of};
-ghost use Rattle.flat_render.specs.Tiles.{IsTile};
+ghost use Rattle.flat_tile.specs.Tiles.{IsTile};
 
-use crate::tile::{CHANNELS, TILE_SIDE, Tile};
+use flat_ink::ink::TILE_SIDE;
+use flat_tile::tile::{CHANNELS, Tile};
 
 /// How a picture is cut into tiles. They are 64 pixels wide, or as wide as the picture if that
 /// is less, and at most 64 high; the last ones may go beyond the picture.

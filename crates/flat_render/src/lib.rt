@@ -1,44 +1,28 @@
 //! The software renderer: the picture of a draw list, computed in tiles.
 //!
-//! `render` (rendering) gives each pixel the colour of specs/Pixels, and `render_into` does so in
-//! the memory of an old picture. Neither tiles (tile, grid, drawing) nor which items are left out
-//! (sorting) show in an answer.
+//! `render` (rendering) gives each pixel the colour of flat_ink's specs/Pixels, and `render_into`
+//! does so in the memory of an old picture. Neither tiles (grid, drawing) nor which items are left
+//! out (sorting) show in an answer.
 //!
 //! A picture is drawn by rows of tiles (band), each tile by the items that may be seen there
-//! (chosen). What an item gives all tiles is found once (prepared) and laid on each (laying,
-//! stamp). Any other image is drawn channel by channel (brush, texture, ink), row by row (plane).
-//! Threads share the rows of tiles out by their work (plan, spans). `Picture::write_row` (words)
-//! and `ppm_of` (ppm) hand the colours out; `render_strips` (rendering) makes the bytes without a
-//! picture (strips, parts). proofs/lemmas speaks of these bytes.
+//! (flat_tile). Threads share the rows of tiles out by their work (plan, spans).
+//! `Picture::write_row` (words) and `ppm_of` (ppm) hand the colours out; `render_strips` (rendering)
+//! makes the bytes without a picture (strips, parts). proofs/lemmas speaks of these bytes.
 #![tactic(auto)]
 
-mod area;
-mod axis;
 mod band;
-mod brush;
-mod chosen;
-mod colour;
 mod drawing;
 mod grid;
-mod ink;
-mod laying;
 mod parts;
 mod picture;
 mod plan;
-mod plane;
 mod ppm;
-mod prepared;
 mod rendering;
 mod sorting;
 mod spans;
-mod stamp;
 mod strips;
-mod texture;
-mod tile;
 mod words;
 
-pub use area::{Area, area_of};
-pub use colour::texel;
 pub use grid::PIXELS_MAX;
 pub use picture::Picture;
 pub use ppm::{ppm_head, ppm_of, ppm_rows};

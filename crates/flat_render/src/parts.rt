@@ -23,7 +23,7 @@ fn joined(mut strips: Vec<Strip>, mut more: Vec<Strip>) -> Part
     Ok(strips)
 }
 
-/// The strips of a span, made in at most its number of threads.
+/// The strips of a span, for which at most its number of threads are started.
 #[cycle(parts)]
 fn span_strips<R: Threads + Sync>(rt: &R, plan: &Plan<'_>, span: Span) -> Part
     requires plan { IsPlan plan.now }
@@ -36,7 +36,7 @@ fn span_strips<R: Threads + Sync>(rt: &R, plan: &Plan<'_>, span: Span) -> Part
         upto,
         threads,
     } = span;
-    if threads <= 1 || upto - from <= 1 {
+    if threads == 0 || upto - from <= 1 {
         return draw_strips(plan, from, upto);
     }
     let low = first_share(threads);
@@ -44,7 +44,7 @@ fn span_strips<R: Threads + Sync>(rt: &R, plan: &Plan<'_>, span: Span) -> Part
     let before = Span {
         from,
         upto: cut,
-        threads: low,
+        threads: 0,
     };
     let after = Span {
         from: cut,
@@ -67,7 +67,7 @@ fn span_strips<R: Threads + Sync>(rt: &R, plan: &Plan<'_>, span: Span) -> Part
     joined(strips, more)
 }
 
-/// All strips, made in at most so many threads.
+/// All strips, for which at most so many threads are started.
 pub fn all_strips<R: Threads + Sync>(rt: &R, plan: &Plan<'_>, threads: usize) -> Part
     requires { IsPlan plan.now }
     ensures { IfOk result (λ strips. rows_above plan.now.items.now plan.now.grid plan.now.grid.down

@@ -22,7 +22,7 @@ pub struct Picture {
 impl Picture {
     ghost use Rattle.flat_render.specs.Damaged.{is_in_any};
     ghost use Rattle.flat_drawable.specs.Drawable.{IsDrawable};
-    ghost use Rattle.flat_render.specs.Pixels.{pixel};
+    ghost use Rattle.flat_ink.specs.Pixels.{pixel};
     ghost use Rattle.flat_render.specs.Words.{xrgb};
     ghost use Rattle.flat_render.specs.Pictures.{width_of, height_of, channel_of, pixel_of};
 

@@ -3,10 +3,10 @@
 ghost use Rattle.std.specs.Prelude.{◌+◌, ◌<◌, ◌≤◌};
 
 use crate::grid::Grid;
-use crate::ink::Mix;
-use crate::prepared::Prepared;
 use flat_base::NoMemory;
+use flat_ink::ink::Mix;
 use flat_scene::DrawItem;
+use flat_tile::prepared::Prepared;
 use rayon::current_num_threads;
 use std::alloc::Global;
 use std::thread::Threads;
@@ -42,12 +42,12 @@ pub struct Plan<'a> {
     pub works: &'a [usize],
 }
 
-/// Some rows of tiles, from a first one up to a last one, which isn't among them, and the most
-/// threads that draw them.
+/// Some rows of tiles, from a first one up to a last one, which isn't among them.
 #[derive(Clone, Copy)]
 pub struct Span {
     pub from: usize,
     pub upto: usize,
+    /// The most threads that are started to draw them, beside the one that is asked to.
     pub threads: usize,
 }
 
@@ -82,13 +82,16 @@ pub fn most_threads(rt: &(impl Threads + Sync)) -> usize
     current_num_threads(rt).clamp(1, THREADS_MAX)
 }
 
-/// In how many threads a picture is drawn, of at most so many: in one if there is little work.
+/// How many threads are started to draw a picture, of at most so many: none if there is little
+/// work, or one processor.
 pub fn threads_for(list: &[Prepared], most: usize) -> usize
-    requires some { 0 < most }
-    ensures some { 0 < result }
-    ensures few { result ≤ most }
+    ensures { result ≤ most }
 {
-    if work_of(list) <= LIGHT { 1 } else { most }
+    if most <= 1 || work_of(list) <= LIGHT {
+        0
+    } else {
+        most
+    }
 }
 
 /// Adds what an item, and so many like it, cost in each row of tiles.
@@ -117,7 +120,7 @@ pub fn works_for(
     grid: &Grid,
     threads: usize,
 ) -> Result<Vec<usize>, NoMemory> {
-    if threads <= 1 {
+    if threads == 0 {
         return Ok(Vec::new(alloc));
     }
     let mut works = vec![in alloc; grid.width; grid.down]?;
@@ -130,14 +133,14 @@ pub fn works_for(
     Ok(works)
 }
 
-/// How many of some threads take the first part of what these share: one that is started for it,
-/// if there are more. The caller goes on with the others, so it starts all of them one right after
-/// the other. Some kernels spread such threads over the processors sooner than those that start
-/// each other.
+/// How many of some threads draw the first part of what these share: the one that is started next,
+/// if there is one. The caller goes on with the others, and so starts all of them one right after
+/// the other. It draws but the last row of tiles, and waits: some kernels put the first thread that
+/// is started on the caller's own processor, and leave it there until the caller waits.
 pub fn first_share(threads: usize) -> usize
     ensures { result ≤ threads }
 {
-    if threads > 1 { 1 } else { 0 }
+    threads.min(1)
 }
 
 /// How much work all rows of tiles are.

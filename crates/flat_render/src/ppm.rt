@@ -8,8 +8,9 @@ ghost use Rattle.flat_render.specs.Rows.{band_of, colour_in, rows_bytes};
 
 use crate::grid::{Grid, band_grid, bytes_of_bands, run_start, size_of_tiles};
 use crate::picture::Picture;
-use crate::tile::{CHANNELS, TILE_SIDE};
 use flat_base::NoMemory;
+use flat_ink::ink::TILE_SIDE;
+use flat_tile::tile::CHANNELS;
 use std::alloc::Global;
 
 /// The most bytes that the colours of a row of a tile have.

@@ -2,7 +2,7 @@ ghost use Rattle.std.specs.Prelude.{◌≡◌, ◌*◌, ◌<◌, ◌≤◌, ◌�
 ghost use Rattle.std.specs.Arc.{arc_value};
 ghost use Rattle.std.specs.List.{flat_map};
 ghost use Rattle.flat_drawable.specs.Drawable.{IsDrawable};
-ghost use Rattle.flat_render.specs.Pixels.{pixel};
+ghost use Rattle.flat_ink.specs.Pixels.{pixel};
 ghost use Rattle.flat_render.specs.Pictures.{Shows, height_of, width_of};
 ghost use Rattle.flat_render.specs.Ppm.{ppm_bytes};
 
@@ -11,12 +11,12 @@ use crate::parts::all_strips;
 use crate::picture::Picture;
 use crate::plan::{Plan, THREADS_MAX, most_threads, threads_for, works_for};
 use crate::ppm::ppm_head;
-use crate::prepared::prepare_all;
 use crate::sorting::sorted_rows;
 use crate::spans::draw_rows;
 use crate::strips::Strip;
 use flat_base::{Items, NoMemory};
 use flat_scene::ItemList;
+use flat_tile::prepared::prepare_all;
 use std::alloc::Global;
 use std::sync::Arc;
 use std::thread::Threads;
@@ -31,18 +31,16 @@ const ITEMS_ON_LOW_TILES: usize = 32;
 /// Of which number the rows of tiles are a multiple. Many items lie on fewer tiles where these are
 /// high.
 fn step_for(threads: usize) -> usize
-    requires some { 0 < threads }
-    requires few { threads ≤ THREADS_MAX }
+    requires { threads ≤ THREADS_MAX }
     ensures some { 0 < result }
     ensures small { result ≤ 64 }
 {
-    if threads == 1 { 1 } else { ROWS_EACH * threads }
+    if threads == 0 { 1 } else { ROWS_EACH * threads }
 }
 
 /// The same if bytes are made.
 fn step_for_strips(items: usize, threads: usize) -> usize
-    requires some { 0 < threads }
-    requires few { threads ≤ THREADS_MAX }
+    requires { threads ≤ THREADS_MAX }
     ensures some { 0 < result }
     ensures small { result ≤ 64 }
 {

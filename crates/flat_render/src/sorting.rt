@@ -1,17 +1,17 @@
 ghost use Rattle.std.specs.Prelude.{◌≡◌, ◌+◌, ◌*◌, ◌/◌, ◌<◌, ◌≤◌, ◌++◌, ◌∷◌, [], ℕ, false, All, IfOk};
 ghost use Rattle.std.specs.Prelude.{OnOk, length, if◌then◌else◌, slice_index_or};
 ghost use Rattle.flat_drawable.specs.Drawable.{IsDrawable};
-ghost use Rattle.flat_render.specs.Areas.{has_pixel, is_among};
+ghost use Rattle.flat_ink.specs.Areas.{has_pixel, is_among};
 ghost use Rattle.flat_render.specs.Bands.{AreChoices, AreEmpty, AreRows, IsNoted, ServesRow};
 ghost use Rattle.flat_render.specs.Grids.{IsGrid};
-ghost use Rattle.flat_render.specs.Preparing.{ArePrepared};
+ghost use Rattle.flat_tile.specs.Preparing.{ArePrepared};
 
-use crate::area::Area;
 use crate::grid::Grid;
-use crate::prepared::Prepared;
-use crate::tile::TILE_SIDE;
 use flat_base::NoMemory;
+use flat_ink::area::Area;
+use flat_ink::ink::TILE_SIDE;
 use flat_scene::DrawItem;
+use flat_tile::prepared::Prepared;
 use std::alloc::Global;
 
 /// So many items are asked for each tile sooner than they are chosen for it.
@@ -72,13 +72,18 @@ fn rows_of(grid: &Grid, area: Area) -> Run
     }
 }
 
-/// So many lists without numbers.
-fn empties(alloc: Global, count: usize) -> Result<Vec<Vec<usize>>, NoMemory>
+/// Room for the numbers of items that lie evenly on so many parts, each on two of them.
+fn room_for(items: usize, parts: usize) -> usize {
+    items.saturating_mul(2) / parts.max(1)
+}
+
+/// So many lists without numbers, each with room for some.
+fn empties(alloc: Global, count: usize, room: usize) -> Result<Vec<Vec<usize>>, NoMemory>
     ensures { IfOk result (λ lists. AreEmpty count lists.items) }
 {
     let mut lists = Vec::with_capacity(alloc, count)?;
     for _ in 0..count {
-        lists.push(Vec::new(alloc))?;
+        lists.push(Vec::with_capacity(alloc, room)?)?;
     }
     Ok(lists)
 }
@@ -113,7 +118,7 @@ pub fn sorted_rows(
     if items.len() <= ITEMS_ON_EACH_TILE {
         return Ok(Vec::new(alloc));
     }
-    let mut lists = empties(alloc, grid.down)?;
+    let mut lists = empties(alloc, grid.down, room_for(items.len(), grid.down))?;
     for n in 0..items.len() {
         let rows = rows_of(grid, list[n].area);
         note(lists.as_mut_slice(), n, rows)?;
@@ -139,7 +144,7 @@ pub fn sorted(
     ensures { IfOk result (λ lists. AreChoices grid.now row items.now lists.items
         (length items.now)) }
 {
-    let mut lists = empties(alloc, grid.across)?;
+    let mut lists = empties(alloc, grid.across, room_for(places.len(), grid.across))?;
     for k in 0..places.len() {
         let n = places[k];
         let columns = columns_of(grid, row, list[n].area);

@@ -10,7 +10,7 @@ use crate::grid::bytes_of_bands;
 use crate::plan::{Plan, Span, cut_of, first_share};
 use std::thread::{Threads, join_mut};
 
-/// Draws the rows of tiles of a span in at most its number of threads.
+/// Draws the rows of tiles of a span, for which it starts at most its number of threads.
 #[cycle(spans)]
 pub fn draw_span<R: Threads + Sync>(rt: &R, plan: &Plan<'_>, span: Span, bytes: &mut [u8])
     requires plan { IsPlan plan.now }
@@ -42,7 +42,8 @@ pub fn draw_span<R: Threads + Sync>(rt: &R, plan: &Plan<'_>, span: Span, bytes: 
     draw_both(rt, plan, before, after, front, back);
 }
 
-/// Draws two spans: side by side if each has a thread, and else one after the other.
+/// Draws two spans: one after the other, or, if the first has a thread, this draws the first while
+/// the caller goes on with the second.
 #[cycle(spans)]
 fn draw_both<R: Threads + Sync>(
     rt: &R,
@@ -65,6 +66,10 @@ fn draw_both<R: Threads + Sync>(
         draw_span(rt, plan, after, back);
         return;
     }
+    let before = Span {
+        threads: before.threads - 1,
+        ..before
+    };
     let mut first = ||
         requires { IsSync R.row × IsPlan plan.now × IsSpan plan.now before front.now }
         ensures { (i : ℕ) → i < length front.entry.now → slice_index front.exit.now i
@@ -80,7 +85,7 @@ fn draw_both<R: Threads + Sync>(
     join_mut(rt, &mut first, &mut second);
 }
 
-/// Draws all rows of tiles in at most so many threads.
+/// Draws all rows of tiles, for which it starts at most so many threads.
 pub fn draw_rows<R: Threads + Sync>(rt: &R, plan: &Plan<'_>, threads: usize, bytes: &mut [u8])
     requires plan { IsPlan plan.now }
     requires size { length bytes.old ≡ grid_bytes plan.now.grid }

@@ -2,7 +2,7 @@ ghost use Rattle.std.specs.Prelude.{◌<◌};
 
 use crate::scenes::{BLACK, Pixel, WHITE, Wrong, repainted, turned, white, wrong, wrong_in};
 use flat_base::{BufferNo, IntRect, NoMemory, ONE, Orientation, Rect};
-use flat_render::texel;
+use flat_ink::colour::texel;
 use flat_scene::{ImageFlip, Paint};
 use std::alloc::Global;
 use std::process::Abort;

@@ -1,6 +1,6 @@
 use crate::scenes::{Wrong, turned, wrong};
 use flat_base::{BufferNo, IntRect, NoMemory, Orientation};
-use flat_render::texel;
+use flat_ink::colour::texel;
 use flat_scene::{ImageFlip, Paint};
 use std::alloc::Global;
 use std::process::Abort;

@@ -1,7 +1,7 @@
 ghost use Rattle.std.specs.Prelude.{All, IfOk};
 ghost use Rattle.flat_drawable.specs.Drawable.{IsDrawable};
 ghost use Rattle.flat_render.specs.Pictures.{Shows, width_of, height_of};
-ghost use Rattle.flat_render.specs.Pixels.{pixel};
+ghost use Rattle.flat_ink.specs.Pixels.{pixel};
 
 use flat_base::{Items, NoMemory, Orientation, Rect, SessionNo};
 use flat_drawable::{are_drawable, full_rect};

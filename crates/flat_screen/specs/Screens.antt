@@ -2,7 +2,7 @@
 use Rattle.std.specs.Prelude.{ℕ, ◌*◌, Bool, ◌&&◌, nat_lt, nat_le, cond, List, Option, None, Some}
 use Rattle.flat_io.specs.Kept.{counted}
 use Rattle.flat_render.specs.declared.grid.TheConstants.{PIXELS_MAX}
-use Rattle.flat_render.specs.Pixels.{pixel}
+use Rattle.flat_ink.specs.Pixels.{pixel}
 use Rattle.flat_scene.specs.declared.frames.DrawItem.{DrawItem}
 
 -- its sides in pixels, the draw list that it shows, and how many shows failed

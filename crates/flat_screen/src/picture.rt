@@ -2,7 +2,7 @@ ghost use Rattle.std.specs.Prelude.{◌≡◌, ◌*◌, ◌<◌, ◌≤◌, ◌�
 ghost use Rattle.flat_drawable.specs.Drawable.{IsDrawable};
 ghost use Rattle.flat_io.specs.Kept.{counted};
 ghost use Rattle.flat_render.specs.Pictures.{Shows};
-ghost use Rattle.flat_render.specs.Pixels.{pixel};
+ghost use Rattle.flat_ink.specs.Pixels.{pixel};
 ghost use Rattle.flat_screen.specs.Screens.{after_failure, colour_at, has_pixels};
 ghost use Rattle.flat_screen.specs.declared.fault.ScreenFault.TheVariants.{BadSize};
 
@@ -33,7 +33,7 @@ pub struct PictureDisplay {
 
 impl Model for PictureDisplay {
     ghost use Rattle.flat_render.specs.Pictures.{Shows, height_of, width_of};
-    ghost use Rattle.flat_render.specs.Pixels.{pixel};
+    ghost use Rattle.flat_ink.specs.Pixels.{pixel};
     ghost use Rattle.flat_screen.specs.Screens.{Screen};
 
     ghost Value = { Screen };

@@ -9,7 +9,7 @@ use Rattle.flat_damage.specs.Damage.{IsDamage}
 use Rattle.flat_damage.specs.Unchanged.{DamageCovers}
 use Rattle.flat_render.specs.declared.picture.Picture.{Picture}
 use Rattle.flat_render.specs.Pictures.{Shows, width_of, height_of, pixel_of}
-use Rattle.flat_render.specs.Pixels.{pixel}
+use Rattle.flat_ink.specs.Pixels.{pixel}
 use Rattle.flat_render.specs.Ppm.{header, row_bytes, ppm_bytes}
 use Rattle.flat_render.specs.Rows.{rows_bytes}
 use Rattle.flat_render.proofs.lemmas.Bytes.{pieces-same, run-more, shown-bytes}

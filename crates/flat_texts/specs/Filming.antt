@@ -6,7 +6,7 @@ use Rattle.flat_scene.specs.declared.frames.FrameOut.{FrameOut}
 use Rattle.flat_scene.specs.declared.setup.Setup.{Setup}
 use Rattle.flat_render.specs.declared.grid.TheConstants.{PIXELS_MAX}
 use Rattle.flat_render.specs.Pictures.{Shows}
-use Rattle.flat_render.specs.Pixels.{pixel}
+use Rattle.flat_ink.specs.Pixels.{pixel}
 use Rattle.flat_texts.specs.declared.film.Film.{Film}
 use Rattle.flat_texts.specs.Pictures.{list_of}
 use Rattle.flat_texts.specs.Films.{pictures_of}

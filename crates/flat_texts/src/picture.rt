@@ -5,7 +5,7 @@ ghost use Rattle.std.specs.Option.{option_copied};
 ghost use Rattle.flat_drawable.specs.Drawable.{IsDrawable};
 ghost use Rattle.flat_render.specs.declared.grid.TheConstants.{PIXELS_MAX};
 ghost use Rattle.flat_render.specs.Pictures.{Shows};
-ghost use Rattle.flat_render.specs.Pixels.{pixel};
+ghost use Rattle.flat_ink.specs.Pixels.{pixel};
 ghost use Rattle.flat_render.specs.Ppm.{ppm_bytes};
 ghost use Rattle.flat_texts.specs.Pictures.{list_of, picture_of};
 

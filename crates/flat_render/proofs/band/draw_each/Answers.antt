@@ -2,9 +2,10 @@ use Rattle.std.proofs.Common.{ℕ, ◌+◌, ◌*◌, ◌≤◌, ◌≡◌, ◌�
 use Rattle.std.proofs.lemmas.List.{length-take, length-drop}
 use Rattle.std.proofs.lemmas.Nat.{row_fits}
 use Rattle.flat_render.specs.Grids.{band_bytes}
-use Rattle.flat_render.specs.Stored.{drawn_in, drawn_at}
-use Rattle.flat_render.specs.Tiles.{pixels_of}
-use Rattle.flat_render.specs.declared.tile.Tile.{Tile}
+use Rattle.flat_tile.specs.Chosen.{drawn_in}
+use Rattle.flat_render.specs.Stored.{drawn_at}
+use Rattle.flat_tile.specs.Tiles.{pixels_of}
+use Rattle.flat_tile.specs.declared.tile.Tile.{Tile}
 use Rattle.flat_render.proofs.Bands.{tile-in-band, tile-of-band, tile-of-row}
 use Rattle.flat_render.proofs.Chunks.{repainted-more, tile-part}
 use Rattle.flat_render.proofs.Places.{count-most}

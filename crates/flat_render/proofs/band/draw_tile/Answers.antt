@@ -1,6 +1,6 @@
 use Rattle.std.proofs.Common.{◌∙◌}
-use Rattle.flat_render.specs.Bands.{chosen}
-use Rattle.flat_render.specs.Tiles.{tile_area}
+use Rattle.flat_tile.specs.Chosen.{chosen}
+use Rattle.flat_tile.specs.Tiles.{tile_area}
 use Rattle.flat_render.proofs.Bands.{seen-drawn-in}
 use Rattle.flat_render.proofs.Choices.{choice-all}
 use Rattle.flat_render.proofs.band.draw_tile.Goals as goal

@@ -1,10 +1,10 @@
 use Rattle.std.proofs.Common.{ℕ, ◌∙◌, ◌≡◌, ◌≤◌, ◌+◌, ◌*◌, length, ap, sym, arith}
 use Rattle.std.proofs.lemmas.List.{length-take, length-drop}
 use Rattle.std.proofs.lemmas.Nat.{row_fits}
-use Rattle.flat_render.specs.Areas.{has_pixel}
+use Rattle.flat_ink.specs.Areas.{has_pixel}
 use Rattle.flat_render.specs.Grids.{tile_count}
-use Rattle.flat_render.specs.Tiles.{pixels_of}
-use Rattle.flat_render.specs.declared.tile.Tile.{Tile}
+use Rattle.flat_tile.specs.Tiles.{pixels_of}
+use Rattle.flat_tile.specs.declared.tile.Tile.{Tile}
 use Rattle.flat_render.proofs.Bands.{tile-in-grid}
 use Rattle.flat_render.proofs.Chunks.{redrawn, repainted-all, repainted-more, tile-drawn, tile-part}
 use Rattle.flat_render.proofs.drawing.redraw_tiles.Goals as goal

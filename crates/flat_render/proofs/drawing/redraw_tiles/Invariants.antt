@@ -1,4 +1,4 @@
-use Rattle.flat_render.specs.Areas.{has_pixel}
+use Rattle.flat_ink.specs.Areas.{has_pixel}
 use Rattle.flat_render.proofs.Chunks.{IsRepaintedTo, redrawn}
 use Rattle.flat_render.proofs.drawing.redraw_tiles.Given as goal
 

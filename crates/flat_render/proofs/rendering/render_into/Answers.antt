@@ -4,8 +4,8 @@ use Rattle.std.specs.declared.alloc.Global.{Global}
 use Rattle.flat_drawable.specs.Drawable.{IsDrawable}
 use Rattle.flat_scene.specs.declared.frames.DrawItem.{DrawItem}
 use Rattle.flat_render.specs.Bands.{AreRows}
-use Rattle.flat_render.specs.Preparing.{ArePrepared}
-use Rattle.flat_render.specs.declared.prepared.Prepared.{Prepared}
+use Rattle.flat_tile.specs.Preparing.{ArePrepared}
+use Rattle.flat_tile.specs.declared.prepared.Prepared.{Prepared}
 use Rattle.flat_render.proofs.Rendered.{rendered}
 use Rattle.flat_render.proofs.rendering.render_into.Goals as goal
 

@@ -1,9 +1,9 @@
 use Rattle.std.proofs.Common.{ℕ, ◌∙◌, ap, sym, arith}
 use Rattle.std.specs.Prelude.{min}
 use Rattle.std.proofs.lemmas.Nat.{row_fits}
-use Rattle.flat_render.specs.Areas.{is_among}
+use Rattle.flat_ink.specs.Areas.{is_among}
 use Rattle.flat_render.proofs.Choices.{beyond-columns}
-use Rattle.flat_render.proofs.Windows.{not-left}
+use Rattle.flat_ink.proofs.lemmas.Windows.{not-left}
 use Rattle.flat_render.proofs.sorting.columns_of.Goals as goal
 
 pub returns-clause-others : goal.returns-clause-others

@@ -1,8 +1,8 @@
 use Rattle.std.proofs.Common.{ℕ, ◌∙◌, ap, arith}
 use Rattle.std.specs.Prelude.{min}
-use Rattle.flat_render.specs.Areas.{is_among}
+use Rattle.flat_ink.specs.Areas.{is_among}
 use Rattle.flat_render.proofs.Choices.{beyond-columns}
-use Rattle.flat_render.proofs.Windows.{not-right}
+use Rattle.flat_ink.proofs.lemmas.Windows.{not-right}
 use Rattle.flat_render.proofs.sorting.rows_of.Goals as goal
 
 pub returns-clause-others : goal.returns-clause-others

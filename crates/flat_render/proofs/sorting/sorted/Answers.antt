@@ -4,9 +4,9 @@ use Rattle.std.proofs.lemmas.List.{take_all, take_more, with_items_is}
 use Rattle.std.proofs.lemmas.Nat.{row_fits}
 use Rattle.flat_scene.specs.declared.frames.DrawItem.{DrawItem}
 use Rattle.flat_render.specs.Bands.{AreParts, IsNoted}
-use Rattle.flat_render.proofs.Bands.{some-item}
+use Rattle.flat_tile.proofs.lemmas.Lists.{some-item}
 use Rattle.flat_render.proofs.Choices.{parts-more, parts-serve}
-use Rattle.flat_render.proofs.PreparedLists.{not-covered}
+use Rattle.flat_tile.proofs.lemmas.PreparedLists.{not-covered}
 use Rattle.flat_render.proofs.sorting.sorted.Goals as goal
 
 pub bounds-list-n : goal.bounds-list-n

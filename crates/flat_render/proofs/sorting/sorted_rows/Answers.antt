@@ -4,9 +4,9 @@ use Rattle.std.proofs.lemmas.List.{with_items_is}
 use Rattle.std.proofs.lemmas.Nat.{row_fits}
 use Rattle.flat_scene.specs.declared.frames.DrawItem.{DrawItem}
 use Rattle.flat_render.specs.Bands.{AreRows, IsNoted}
-use Rattle.flat_render.proofs.Bands.{some-item}
+use Rattle.flat_tile.proofs.lemmas.Lists.{some-item}
 use Rattle.flat_render.proofs.Choices.{rows-more}
-use Rattle.flat_render.proofs.PreparedLists.{not-covered}
+use Rattle.flat_tile.proofs.lemmas.PreparedLists.{not-covered}
 use Rattle.flat_render.proofs.sorting.sorted_rows.Goals as goal
 
 pub bounds-list-n : goal.bounds-list-n

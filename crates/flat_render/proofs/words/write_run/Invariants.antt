@@ -1,6 +1,6 @@
 use Rattle.std.proofs.Common.{[], ◌∷◌, get_or}
 use Rattle.flat_render.specs.Words.{xrgb}
-use Rattle.flat_render.proofs.Lines.{IsChangedTo}
+use Rattle.flat_ink.proofs.lemmas.Lines.{IsChangedTo}
 use Rattle.flat_render.proofs.words.write_run.Given as goal
 
 abbrev pub invariant-loop-i : goal.invariant-loop-i

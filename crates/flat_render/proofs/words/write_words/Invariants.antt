@@ -1,7 +1,7 @@
 use Rattle.std.proofs.Common.{◌*◌, min}
 use Rattle.flat_render.specs.Pictures.{pixel_of}
 use Rattle.flat_render.specs.Words.{xrgb}
-use Rattle.flat_render.proofs.Lines.{IsChangedTo}
+use Rattle.flat_ink.proofs.lemmas.Lines.{IsChangedTo}
 use Rattle.flat_render.proofs.words.write_words.Given as goal
 
 abbrev pub invariant-loop-n : goal.invariant-loop-n

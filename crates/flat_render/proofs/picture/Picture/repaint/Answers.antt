@@ -3,7 +3,7 @@ use Rattle.std.specs.Vec.{with_items}
 use Rattle.flat_drawable.specs.Drawable.{IsDrawable}
 use Rattle.std.proofs.lemmas.List.{with_items_is}
 use Rattle.flat_scene.specs.declared.frames.DrawItem.{DrawItem}
-use Rattle.flat_render.specs.Channels.{channel_after}
+use Rattle.flat_ink.specs.Channels.{channel_after}
 use Rattle.flat_render.specs.Damaged.{is_in_any}
 use Rattle.flat_render.specs.Grids.{place_of}
 use Rattle.flat_render.specs.Stored.{stored_x, stored_y, drawn_at}

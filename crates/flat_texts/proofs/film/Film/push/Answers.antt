@@ -5,7 +5,7 @@ use Rattle.flat_scene.specs.declared.setup.Setup.{Setup}
 use Rattle.flat_page.proofs.lemmas.LastItems.{last-more}
 use Rattle.flat_render.specs.declared.picture.Picture.{Picture}
 use Rattle.flat_render.specs.Pictures.{Shows}
-use Rattle.flat_render.specs.Pixels.{pixel}
+use Rattle.flat_ink.specs.Pixels.{pixel}
 use Rattle.flat_render.specs.Ppm.{ppm_bytes}
 use Rattle.flat_texts.specs.Pictures.{list_of}
 use Rattle.flat_texts.proofs.Filming.{any-more, pictures-more}

@@ -1,6 +1,0 @@
-use Rattle.flat_render.specs.Colours.{covered}
-use Rattle.flat_render.proofs.Rows.{IsChangedIn}
-use Rattle.flat_render.proofs.plane.veil_rows.Given as goal
-
-abbrev pub invariant-loop-py : goal.invariant-loop-py
-invariant-loop-py l = IsChangedIn (λ px py old. covered l.weight l.s old) l.tile (record l.cut { y1 = l.py }) l.initial.plane l.plane

@@ -1,9 +1,0 @@
-use Rattle.std.proofs.Common.{◌-◌, get_or, arith}
-use Rattle.flat_render.proofs.Rows.{row-step}
-use Rattle.flat_render.proofs.plane.wash_down_by.Goals as goal
-
-pub loop-py-preserved : goal.loop-py-preserved
-loop-py-preserved c =
-    row-step c.args.tile c.args.cut c.loop-py.py c.requires.tile.width c.requires.cut c.requires.some.columns (omega arith) c.loop-py-test.true
-    (λ px py old. get_or c.args.values.now (py - c.args.cut.y0) 0) c.args.plane.now c.loop-py.plane c.wash_ends.new.line
-    c.requires.size c.loop-py.auto.plane c.wash_ends.auto.line c.wash_ends.ensures c.loop-py.invariant

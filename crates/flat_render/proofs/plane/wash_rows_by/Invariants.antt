@@ -1,5 +1,0 @@
-use Rattle.flat_render.proofs.Rows.{IsChangedIn}
-use Rattle.flat_render.proofs.plane.wash_rows_by.Given as goal
-
-abbrev pub invariant-loop-py : goal.invariant-loop-py
-invariant-loop-py l = IsChangedIn (λ px py old. l.s) l.tile (record l.cut { y1 = l.py }) l.initial.plane l.plane

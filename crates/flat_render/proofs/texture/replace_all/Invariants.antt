@@ -1,9 +1,0 @@
-use Rattle.std.proofs.Common.{ℕ, ◌≡◌, ◌<◌, length, get_or}
-use Rattle.flat_render.specs.Colours.{replaced}
-use Rattle.flat_render.proofs.texture.replace_all.Given as goal
-
-abbrev pub invariant-loop-i : goal.invariant-loop-i
-invariant-loop-i l = record {
-  size : length l.table ≡ 64;
-  values : (k : ℕ) → k < l.i → get_or l.table k 0 ≡ replaced l.opacity (get_or l.values k 0);
-}

@@ -1,7 +1,0 @@
-use Rattle.std.proofs.Common.{take}
-use Rattle.flat_render.specs.Channels.{channel_after}
-use Rattle.flat_render.proofs.Items.{IsDrawnIn}
-use Rattle.flat_render.proofs.tile.paint_all.Given as goal
-
-abbrev pub invariant-loop-n : goal.invariant-loop-n
-invariant-loop-n l = IsDrawnIn (λ c px py was. channel_after c (take l.n l.items) px py was) l.tile l.window l.initial.bytes l.bytes

@@ -1,0 +1,4 @@
+pub mod Tiles
+pub mod Hiding
+pub mod Preparing
+pub mod Chosen
