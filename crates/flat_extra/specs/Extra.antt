@@ -22,7 +22,8 @@ has_call set words = option_map_or (is_call set) (slice_get words 1) false
 
 -- whether a line behind `run` is extra: short enough, plain, not skipped, and its second word is a call of the set
 abbrev pub is_extra : ExtraSet → List ℕ → Bool
-is_extra set line = nat_le (length line) LINE_BYTES_MAX && (list_all is_plain line && (not (is_skipped line) && has_call set (words_of line)))
+is_extra set line = nat_le (length line) LINE_BYTES_MAX
+    && (list_all is_plain line && (not (is_skipped line) && has_call set (words_of line)))
 
 abbrev pub is_run : List ℕ → Bool
 is_run line = bytes_eq line (codes "run")
@@ -36,7 +37,8 @@ rest_line extra line = cond extra (codes "#") line
 -- the lines of the rest, where this says whether a line `run` stands before them
 abbrev pub rest_lines : ExtraSet → Bool → List (List ℕ) → List (List ℕ)
 rest_lines set begun [] = []
-rest_lines set begun (line ∷ lines) = rest_line (begun && is_extra set line) line ∷ rest_lines set (begun || is_run line) lines
+rest_lines set begun (line ∷ lines) = rest_line (begun && is_extra set line) line
+    ∷ rest_lines set (begun || is_run line) lines
 
 -- the text with `#` in place of each extra line
 abbrev pub rest_of : ExtraSet → List ℕ → List ℕ
@@ -50,7 +52,8 @@ if_extra extra n line = cond extra (record { number = n; text = line } ∷ []) [
 -- those of lines that are numbered from n on
 abbrev pub extra_from : ExtraSet → Bool → ℕ → List (List ℕ) → List ExtraLine
 extra_from set begun n [] = []
-extra_from set begun n (line ∷ lines) = if_extra (begun && is_extra set line) n line ++ extra_from set (begun || is_run line) (n + 1) lines
+extra_from set begun n (line ∷ lines) = if_extra (begun && is_extra set line) n line
+    ++ extra_from set (begun || is_run line) (n + 1) lines
 
 -- the extra lines of a text
 abbrev pub extra_of : ExtraSet → List ℕ → List ExtraLine

@@ -49,13 +49,19 @@ nobody = record { 0 = 0 }
 -- the tests of a line that so many stand before: the first word is a session, there are three, the third is a session
 abbrev pub focus_tests : Script → ℕ → List (List ℕ) → List (FaultKind × Bool)
 focus_tests script before words =
-    (UnknownActor, is_some (session_at script words 0)) ∷ (WrongCount, length words == 3) ∷ (UnknownName, is_some (session_at script words 2)) ∷ (Limit, has_room before) ∷ []
+    (UnknownActor, is_some (session_at script words 0)) ∷ (WrongCount, length words == 3)
+    ∷ (UnknownName, is_some (session_at script words 2)) ∷ (Limit, has_room before) ∷ []
 
 abbrev pub focus_value : Script → ℕ → List (List ℕ) → FocusLine
-focus_value script number words = record { number = number; by = unwrap_or (session_at script words 0) nobody; of = unwrap_or (session_at script words 2) nobody }
+focus_value script number words = record {
+  number = number;
+  by = unwrap_or (session_at script words 0) nobody;
+  of = unwrap_or (session_at script words 2) nobody;
+}
 
 abbrev pub focus_line : Script → ℕ → ExtraLine → Result FocusLine FaultKind
-focus_line script before line = tested (focus_tests script before (words_of line.text)) (focus_value script line.number (words_of line.text))
+focus_line script before line =
+    tested (focus_tests script before (words_of line.text)) (focus_value script line.number (words_of line.text))
 
 -- ---- pointers: `display Down P X Y`, `display Move P X Y`, `display Up P`
 
@@ -102,10 +108,12 @@ pointer_call words =
     else Move (unwrap_or (units_at words 3) (pos 0)) (unwrap_or (units_at words 4) (pos 0)))
 
 abbrev pub pointer_value : ℕ → List (List ℕ) → PointerLine
-pointer_value number words = record { number = number; pointer = unwrap_or (pointer_at words) 0; call = pointer_call words }
+pointer_value number words =
+    record { number = number; pointer = unwrap_or (pointer_at words) 0; call = pointer_call words }
 
 abbrev pub pointer_line : ℕ → ExtraLine → Result PointerLine FaultKind
-pointer_line before line = tested (pointer_tests before (words_of line.text)) (pointer_value line.number (words_of line.text))
+pointer_line before line =
+    tested (pointer_tests before (words_of line.text)) (pointer_value line.number (words_of line.text))
 
 -- ---- all lines
 
@@ -116,6 +124,7 @@ then_read n (Ok value) (Ok values) = Ok (value ∷ values)
 then_read n (Ok value) (Err fault) = Err fault
 
 -- the values of the lines that so many stand before
-abbrev pub all_read : {A : Type 0} → (ℕ → ExtraLine → Result A FaultKind) → ℕ → List ExtraLine → Result (List A) ScriptFault
+abbrev pub all_read : {A : Type 0} → (ℕ → ExtraLine → Result A FaultKind) → ℕ → List ExtraLine
+    → Result (List A) ScriptFault
 all_read read before [] = Ok []
 all_read read before (line ∷ lines) = then_read line.number (read before line) (all_read read (before + 1) lines)

@@ -19,18 +19,23 @@ and_then (Err fault) next = Err fault
 
 -- a text that is too long is at fault as a whole
 abbrev pub unless_long : {A : Type 0} → List ℕ → Result A ScriptFault → Result A ScriptFault
-unless_long bytes read = if nat_lt SCRIPT_BYTES_MAX (length bytes) then Err (record { line = 0; kind = TooLong }) else read
+unless_long bytes read =
+    if nat_lt SCRIPT_BYTES_MAX (length bytes) then Err (record { line = 0; kind = TooLong }) else read
 
 -- ---- both sets: the script of a text without its extra lines, and then what is read of these
 
 abbrev pub focus_of : List ℕ → List ExtraLine → Result WithFocus ScriptFault
-focus_of rest extra = and_then (text_read rest) (λ script. and_then (all_read (focus_line script) 0 extra) (λ lines. Ok (record { script = script; lines = lines })))
+focus_of rest extra =
+    and_then (text_read rest) (λ script. and_then (all_read (focus_line script) 0 extra)
+    (λ lines. Ok (record { script = script; lines = lines })))
 
 abbrev pub focus_read : List ℕ → Result WithFocus ScriptFault
 focus_read bytes = unless_long bytes (focus_of (rest_of Focus bytes) (extra_of Focus bytes))
 
 abbrev pub pointers_of : List ℕ → List ExtraLine → Result WithPointers ScriptFault
-pointers_of rest extra = and_then (text_read rest) (λ script. and_then (all_read pointer_line 0 extra) (λ lines. Ok (record { script = script; lines = lines })))
+pointers_of rest extra =
+    and_then (text_read rest) (λ script. and_then (all_read pointer_line 0 extra)
+    (λ lines. Ok (record { script = script; lines = lines })))
 
 abbrev pub pointers_read : List ℕ → Result WithPointers ScriptFault
 pointers_read bytes = unless_long bytes (pointers_of (rest_of Pointer bytes) (extra_of Pointer bytes))

@@ -18,7 +18,9 @@ root_of (node ∷ later) = Some node.session
 -- the list from the root to a session, where the nodes stand last first: that to its parent, and then itself
 abbrev pub path_in : List ViewNode → SessionNo → List SessionNo
 path_in [] s = []
-path_in (node ∷ earlier) s = if node.session.0 == s.0 then option_map_or (λ p. path_in earlier p) node.parent [] ++ node.session ∷ [] else path_in earlier s
+path_in (node ∷ earlier) s =
+    if node.session.0 == s.0 then option_map_or (λ p. path_in earlier p) node.parent [] ++ node.session ∷ []
+    else path_in earlier s
 
 -- the list from the root to a session in which each one's parent is the one before it; nothing where it is no node
 abbrev pub path_to : List ViewNode → SessionNo → List SessionNo

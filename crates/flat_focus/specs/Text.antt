@@ -40,11 +40,14 @@ event_of (said line) = ask line.by line.of
 -- what is written of one thing that happens, where these events were before, the newest first
 abbrev pub lines_at : List Word → List FocusEvent → Happening FocusLine → List (List Word)
 lines_at names before (finished out) = frame_line names out.frame.0 (chain_after (frame out.tree.nodes ∷ before)) ∷ []
-lines_at names before (said line) = ask_line names line (answer_to (nodes_after before) line.by line.of) (chain_after (ask line.by line.of ∷ before)) ∷ []
+lines_at names before (said line) =
+    ask_line names line (answer_to (nodes_after before) line.by line.of) (chain_after (ask line.by line.of ∷ before))
+    ∷ []
 
 -- the text of finished frames, of the numbers of the lines that finished them, and of the lines that ask
 abbrev pub focus_text : List Word → List ℕ → List FrameOut → List FocusLine → List ℕ
 focus_text names dones frames lines =
-    text_of (all_lines (lines_at names) (λ one before. event_of one ∷ before) [] (merged (λ line. line.number) dones frames lines) ++ end_line (length lines) ∷ [])
+    text_of (all_lines (lines_at names) (λ one before. event_of one ∷ before) []
+    (merged (λ line. line.number) dones frames lines) ++ end_line (length lines) ∷ [])
 
 -- ---- over what is kept

@@ -86,7 +86,9 @@ other_line s a = named s.version UnknownCall (
 -- a line of a session: a call, or one of the other lines
 abbrev pub session_line : Script → SessionNo → List Word → Reading Line
 session_line s a [] = Err UnknownCall
-session_line s a (w ∷ words) = option_map_or (λ n. mapped line.Call (whole (call_form s a n) words)) (call_named s.version w) (other_line s a (w ∷ words))
+session_line s a (w ∷ words) =
+    option_map_or (λ n. mapped line.Call (whole (call_form s a n) words)) (call_named s.version w)
+    (other_line s a (w ∷ words))
 
 -- the display
 
@@ -172,7 +174,9 @@ with_line s n a b = record s { lines = s.lines ++ record { number = n; actor = a
 
 -- an actor has at most so many lines
 abbrev pub counted_line : Script → ℕ → Actor → List Word → Reading Script
-counted_line s n a words = unless_kind Limit (nat_lt (lines_of_actor s a) LINES_PER_ACTOR_MAX) (mapped (with_line s n a) (actor_line s a words))
+counted_line s n a words =
+    unless_kind Limit (nat_lt (lines_of_actor s a) LINES_PER_ACTOR_MAX)
+    (mapped (with_line s n a) (actor_line s a words))
 
 -- an actor and its line
 abbrev pub body_line : Script → ℕ → List Word → Reading Script

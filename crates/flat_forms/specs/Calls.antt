@@ -59,9 +59,10 @@ text Clear = codes "Clear"
 
 -- all calls
 abbrev pub call_names : List CallName
-call_names = CreateView ∷ ReleaseView ∷ CreateTransform ∷ ReleaseTransform ∷ SetTranslation ∷ SetOrientation ∷ SetScale ∷ SetOpacity ∷ SetClipBoundary
-    ∷ AddChild ∷ RemoveChild ∷ ReplaceChildren ∷ SetRootTransform ∷ CreateViewport ∷ SetViewportProperties ∷ ReleaseViewport ∷ CreateImage ∷ SetImageSampleRegion
-    ∷ SetImageDestinationSize ∷ SetImageBlendingFunction ∷ SetImageFlip ∷ SetImageOpacity ∷ ReleaseImage ∷ CreateFilledRect ∷ SetSolidFill
+call_names = CreateView ∷ ReleaseView ∷ CreateTransform ∷ ReleaseTransform ∷ SetTranslation ∷ SetOrientation ∷ SetScale
+    ∷ SetOpacity ∷ SetClipBoundary ∷ AddChild ∷ RemoveChild ∷ ReplaceChildren ∷ SetRootTransform ∷ CreateViewport
+    ∷ SetViewportProperties ∷ ReleaseViewport ∷ CreateImage ∷ SetImageSampleRegion ∷ SetImageDestinationSize
+    ∷ SetImageBlendingFunction ∷ SetImageFlip ∷ SetImageOpacity ∷ ReleaseImage ∷ CreateFilledRect ∷ SetSolidFill
     ∷ ReleaseFilledRect ∷ SetHitRegions ∷ SetInfiniteHitRegion ∷ SetContent ∷ Clear ∷ []
 
 -- the call that the word names
@@ -91,10 +92,13 @@ call_form s a AddChild = (λ p k. call.AddChild p k) <$> transform <*> transform
 call_form s a RemoveChild = (λ p k. call.RemoveChild p k) <$> transform <*> transform
 call_form s a ReplaceChildren = (λ p ks. call.ReplaceChildren p ks) <$> transform <*> (λ words. (transforms words, []))
 call_form s a SetRootTransform = call.SetRootTransform <$> transform
-call_form s a CreateViewport = (λ c p w h i. call.CreateViewport c p w h (inset_or_none i)) <$> content <*> viewport_end s a <*> u32 <*> u32 <*> optional inset
-call_form s a SetViewportProperties = (λ c w h i. call.SetViewportProperties c w h i) <$> content <*> u32 <*> u32 <*> optional inset
+call_form s a CreateViewport = (λ c p w h i. call.CreateViewport c p w h (inset_or_none i))
+    <$> content <*> viewport_end s a <*> u32 <*> u32 <*> optional inset
+call_form s a SetViewportProperties = (λ c w h i. call.SetViewportProperties c w h i)
+    <$> content <*> u32 <*> u32 <*> optional inset
 call_form s a ReleaseViewport = call.ReleaseViewport <$> content
-call_form s a CreateImage = (λ c b i w h. call.CreateImage c b i w h) <$> content <*> collection s a <*> u32 <*> u32 <*> u32
+call_form s a CreateImage = (λ c b i w h. call.CreateImage c b i w h)
+    <$> content <*> collection s a <*> u32 <*> u32 <*> u32
 call_form s a SetImageSampleRegion = (λ c r. call.SetImageSampleRegion c r) <$> content <*> int_rect
 call_form s a SetImageDestinationSize = (λ c w h. call.SetImageDestinationSize c w h) <$> content <*> u32 <*> u32
 call_form s a SetImageBlendingFunction = (λ c m. call.SetImageBlendingFunction c m) <$> content <*> blend
@@ -102,7 +106,8 @@ call_form s a SetImageFlip = (λ c f. call.SetImageFlip c f) <$> content <*> fli
 call_form s a SetImageOpacity = (λ c v. call.SetImageOpacity c v) <$> content <*> u32
 call_form s a ReleaseImage = call.ReleaseImage <$> content
 call_form s a CreateFilledRect = call.CreateFilledRect <$> content
-call_form s a SetSolidFill = (λ c r g b a w h. call.SetSolidFill c r g b a w h) <$> content <*> colour <*> colour <*> colour <*> colour <*> u32 <*> u32
+call_form s a SetSolidFill = (λ c r g b a w h. call.SetSolidFill c r g b a w h)
+    <$> content <*> colour <*> colour <*> colour <*> colour <*> u32 <*> u32
 call_form s a ReleaseFilledRect = call.ReleaseFilledRect <$> content
 call_form s a SetHitRegions = (λ t r. call.SetHitRegions t r) <$> transform <*> (λ words. (regions words, []))
 call_form s a SetInfiniteHitRegion = (λ t i. call.SetInfiniteHitRegion t i) <$> transform <*> interaction

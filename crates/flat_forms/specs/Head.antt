@@ -16,7 +16,8 @@ use Rattle.flat_places.specs.Places.{owners}
 abbrev pub empty : Script
 empty = record {
   version = 0;
-  setup = record { width = 0; height = 0; sessions = 0; probes = 0; pairs = []; buffers = []; fences = []; ratio = ONE };
+  setup =
+      record { width = 0; height = 0; sessions = 0; probes = 0; pairs = []; buffers = []; fences = []; ratio = ONE };
   sessions = [];
   probes = [];
   buffers = [];
@@ -43,19 +44,23 @@ abbrev pub with_display : Script → ℕ → ℕ → ℕ → Script
 with_display s w h q = record s { setup = record s.setup { width = w; height = h; ratio = q } }
 
 abbrev pub with_session : Script → Word → Script
-with_session s name = record s { setup = record s.setup { sessions = s.setup.sessions + 1 }; sessions = s.sessions ++ name ∷ [] }
+with_session s name =
+    record s { setup = record s.setup { sessions = s.setup.sessions + 1 }; sessions = s.sessions ++ name ∷ [] }
 
 abbrev pub with_probe : Script → Word → Script
 with_probe s name = record s { setup = record s.setup { probes = s.setup.probes + 1 }; probes = s.probes ++ name ∷ [] }
 
 abbrev pub with_buffers : Script → Word → BufferDecl → Script
-with_buffers s name d = record s { setup = record s.setup { buffers = s.setup.buffers ++ d ∷ [] }; buffers = s.buffers ++ name ∷ [] }
+with_buffers s name d =
+    record s { setup = record s.setup { buffers = s.setup.buffers ++ d ∷ [] }; buffers = s.buffers ++ name ∷ [] }
 
 abbrev pub with_pair : Script → Word → PairDecl → Script
-with_pair s name d = record s { setup = record s.setup { pairs = s.setup.pairs ++ d ∷ [] }; pairs = s.pairs ++ name ∷ [] }
+with_pair s name d =
+    record s { setup = record s.setup { pairs = s.setup.pairs ++ d ∷ [] }; pairs = s.pairs ++ name ∷ [] }
 
 abbrev pub with_fence : Script → Word → FenceDecl → Script
-with_fence s name d = record s { setup = record s.setup { fences = s.setup.fences ++ d ∷ [] }; fences = s.fences ++ name ∷ [] }
+with_fence s name d =
+    record s { setup = record s.setup { fences = s.setup.fences ++ d ∷ [] }; fences = s.fences ++ name ∷ [] }
 
 -- what a line declares
 
@@ -65,7 +70,8 @@ size version = (λ w h q. (w, h, q)) <$> side <*> side <*> first_ratio version
 
 -- a buffer collection: its name, its owner, how many buffers, and their size
 abbrev pub buffers : Script → Form (Word × BufferDecl)
-buffers s = (λ name a n x y. (name, record { owner = a; count = n; w = x; h = y })) <$> new_name s <*> session s <*> number_from 1 BUFFERS_PER_COLLECTION_MAX <*> side <*> side
+buffers s = (λ name a n x y. (name, record { owner = a; count = n; w = x; h = y }))
+    <$> new_name s <*> session s <*> number_from 1 BUFFERS_PER_COLLECTION_MAX <*> side <*> side
 
 -- a pair: its name, and who owns the viewport end and the view end
 abbrev pub pair : Script → Form (Word × PairDecl)
@@ -80,7 +86,8 @@ abbrev pub declared : {A : Type 0} → ℕ → List Word → (A → Script) → 
 declared most names with form words = mapped with (unless_kind Limit (nat_lt (length names) most) (whole form words))
 
 abbrev pub display_line : Script → List Word → Reading Script
-display_line s words = mapped (λ d. with_display s d.0 d.1 d.2) (unless_kind BadHead (not (has_display s)) (whole (size s.version) words))
+display_line s words =
+    mapped (λ d. with_display s d.0 d.1 d.2) (unless_kind BadHead (not (has_display s)) (whole (size s.version) words))
 
 abbrev pub session_line : Script → List Word → Reading Script
 session_line s = declared SESSIONS_MAX s.sessions (with_session s) (new_name s)

@@ -25,7 +25,8 @@ along_y item = record { entry = item.matrix.b; low = (full_rect item).y0; high =
 
 -- how far a pixel lies into the item, from the end at which the item begins: the low one where the entry is positive
 abbrev pub depth : Axis → ℕ → ℕ
-depth axis p = unsigned_abs (if int_lt (pos 0) axis.entry then centre p -ℤ axis.low else (axis.high -ℤ pos 1) -ℤ centre p)
+depth axis p =
+    unsigned_abs (if int_lt (pos 0) axis.entry then centre p -ℤ axis.low else (axis.high -ℤ pos 1) -ℤ centre p)
 
 -- in which of so many equal parts of the item a pixel lies
 abbrev pub part_of : Axis → ℕ → ℕ → ℕ

@@ -102,7 +102,8 @@ reply_words made (reply.Closed error reason) = codes "closed" ∷ closing_words 
 
 -- the sessions hit, each with its interaction
 abbrev pub hit_words : Script → List Hit → List Word
-hit_words script hits = flat_map (λ hit. session_name script.sessions hit.session ∷ number (interaction_number hit.interaction) ∷ []) hits
+hit_words script hits =
+    flat_map (λ hit. session_name script.sessions hit.session ∷ number (interaction_number hit.interaction) ∷ []) hits
 
 -- what is said of a point: it, the frame in which it was asked, and who is hit
 abbrev pub point_words : Script → ℤ → ℤ → ℕ → List Hit → List Word
@@ -124,4 +125,5 @@ said_words script frames hits line made answer = number line ∷ answer_words sc
 
 -- the line of an entry
 abbrev pub entry_line : Script → ℕ → (ℤ → ℤ → List Hit) → Entry → List Word
-entry_line script frames hits entry = actor_name script entry.actor ∷ said_words script frames hits entry.line entry.kind entry.reply
+entry_line script frames hits entry = actor_name script entry.actor
+    ∷ said_words script frames hits entry.line entry.kind entry.reply

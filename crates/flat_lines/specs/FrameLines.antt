@@ -62,4 +62,5 @@ lost_at n = filter (λ lost. lost.frame.0 == n)
 -- the lines of a frame: its items, its views, the sessions apart
 abbrev pub frame_lines : Script → FrameOut → List (List Word)
 frame_lines script frame =
-    map (item_line script) frame.items ++ map (view_line script) frame.tree.nodes ++ map (apart_line script) frame.tree.apart
+    map (item_line script) frame.items ++ map (view_line script) frame.tree.nodes
+    ++ map (apart_line script) frame.tree.apart

@@ -17,12 +17,14 @@ count_before number done lines = length (take_while (λ line. nat_lt (number lin
 -- what happens, in order: the lines, and the frames, each of which was finished by the line of its number
 abbrev pub merged : {A : Type 0} → (A → ℕ) → List ℕ → List FrameOut → List A → List (Happening A)
 merged number (done ∷ dones) (frame ∷ frames) lines =
-    map said (take (count_before number done lines) lines) ++ finished frame ∷ merged number dones frames (drop (count_before number done lines) lines)
+    map said (take (count_before number done lines) lines)
+    ++ finished frame ∷ merged number dones frames (drop (count_before number done lines) lines)
 merged number _ _ lines = map said lines
 
 -- ---- one after another
 
 -- the lines of all that happens, by those of one thing and what is kept after it
-abbrev pub all_lines : {A S : Type 0} → (S → Happening A → List (List Word)) → (Happening A → S → S) → S → List (Happening A) → List (List Word)
+abbrev pub all_lines : {A S : Type 0} → (S → Happening A → List (List Word)) → (Happening A → S → S) → S
+    → List (Happening A) → List (List Word)
 all_lines lines after now [] = []
 all_lines lines after now (one ∷ later) = lines now one ++ all_lines lines after (after one now) later

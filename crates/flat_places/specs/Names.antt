@@ -22,7 +22,8 @@ is_reserved w = list_any (bytes_eq w) (codes "display" ∷ codes "acquire" ∷ c
 
 -- at most 16 letters, digits or `_`, a letter first, and not reserved
 abbrev pub is_name : Word → Bool
-is_name w = is_ascii_alphabetic (slice_index w 0) && list_all is_name_byte w && nat_le (length w) NAME_BYTES_MAX && not (is_reserved w)
+is_name w = is_ascii_alphabetic (slice_index w 0) && list_all is_name_byte w && nat_le (length w) NAME_BYTES_MAX
+    && not (is_reserved w)
 
 -- the place of a name in the order of declaration, from 0
 abbrev pub place_of : List Word → Word → Option ℕ
@@ -30,7 +31,8 @@ place_of names w = position (λ n. bytes_eq n w) names
 
 -- the word is a declared name of any sort
 abbrev pub is_declared : Script → Word → Bool
-is_declared s w = list_any (λ names. is_some (place_of names w)) (s.sessions ∷ s.probes ∷ s.buffers ∷ s.pairs ∷ s.fences ∷ [])
+is_declared s w =
+    list_any (λ names. is_some (place_of names w)) (s.sessions ∷ s.probes ∷ s.buffers ∷ s.pairs ∷ s.fences ∷ [])
 
 -- the session of that name; sessions are numbered from 1
 abbrev pub session_named : Script → Word → Option SessionNo

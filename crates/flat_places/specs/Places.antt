@@ -39,11 +39,13 @@ use Rattle.std.specs.Str.{bytes_eq}
 
 -- a number below that one
 abbrev pub number_below : ℕ → Form ℕ
-number_below most = place (λ w. or_kind BadNumber (option_and_then (λ n. if nat_lt n most then Some n else None) (natural w)))
+number_below most = place (λ w. or_kind BadNumber
+    (option_and_then (λ n. if nat_lt n most then Some n else None) (natural w)))
 
 -- a number from one to another, both in the range
 abbrev pub number_from : ℕ → ℕ → Form ℕ
-number_from least most = place (λ w. or_kind BadNumber (option_and_then (λ n. if nat_le least n && nat_le n most then Some n else None) (natural w)))
+number_from least most = place (λ w. or_kind BadNumber
+    (option_and_then (λ n. if nat_le least n && nat_le n most then Some n else None) (natural w)))
 
 -- a number of 32 bits with a sign
 abbrev pub fits_i32 : ℤ → Bool
@@ -95,7 +97,8 @@ inset = (λ t r b l. record { top = t; right = r; bottom = b; left = l }) <$> si
 
 -- one of the values, which are numbered from first on
 abbrev pub choice : {A : Type 0} → ℕ → List A → Form A
-choice first values = place (λ w. or_kind BadNumber (option_and_then (λ n. if nat_le first n then slice_get values (n - first) else None) (natural w)))
+choice first values = place (λ w. or_kind BadNumber
+    (option_and_then (λ n. if nat_le first n then slice_get values (n - first) else None) (natural w)))
 
 -- 1 to 4
 abbrev pub orientation : Form Orientation
@@ -145,11 +148,14 @@ session s = place (λ w. or_kind UnknownName (session_named s w))
 
 -- the place of the declared thing of that name, whose owners the test looks at
 abbrev pub owned : {D : Type 0} → List Word → List D → (D → Bool) → Word → Reading ℕ
-owned names declared owns w = option_map_or (λ i. unless_kind NotOwner (option_map_or owns (slice_get declared i) false) (Ok i)) (place_of names w) (Err UnknownName)
+owned names declared owns w =
+    option_map_or (λ i. unless_kind NotOwner (option_map_or owns (slice_get declared i) false) (Ok i))
+    (place_of names w) (Err UnknownName)
 
 -- a fence of the actor, as a word
 abbrev pub fence_word : Script → Actor → Word → Reading FenceNo
-fence_word s a w = mapped (λ i. record { 0 = i }) (owned s.fences s.setup.fences (λ d. list_any (is_actor a) d.owners) w)
+fence_word s a w =
+    mapped (λ i. record { 0 = i }) (owned s.fences s.setup.fences (λ d. list_any (is_actor a) d.owners) w)
 
 -- a fence of the actor
 abbrev pub fence : Script → Actor → Form FenceNo
@@ -157,15 +163,18 @@ fence s a = place (fence_word s a)
 
 -- a pair whose view end the session owns
 abbrev pub view_end : Script → SessionNo → Form PairNo
-view_end s a = place (λ w. mapped (λ i. record { 0 = i }) (owned s.pairs s.setup.pairs (λ d. is_actor (Session a) (Session d.view)) w))
+view_end s a = place (λ w. mapped (λ i. record { 0 = i })
+    (owned s.pairs s.setup.pairs (λ d. is_actor (Session a) (Session d.view)) w))
 
 -- a pair whose viewport end the session owns
 abbrev pub viewport_end : Script → SessionNo → Form PairNo
-viewport_end s a = place (λ w. mapped (λ i. record { 0 = i }) (owned s.pairs s.setup.pairs (λ d. is_actor (Session a) d.viewport) w))
+viewport_end s a = place (λ w. mapped (λ i. record { 0 = i })
+    (owned s.pairs s.setup.pairs (λ d. is_actor (Session a) d.viewport) w))
 
 -- a buffer collection of the session
 abbrev pub collection : Script → SessionNo → Form BufferNo
-collection s a = place (λ w. mapped (λ i. record { 0 = i }) (owned s.buffers s.setup.buffers (λ d. is_actor (Session a) (Session d.owner)) w))
+collection s a = place (λ w. mapped (λ i. record { 0 = i })
+    (owned s.buffers s.setup.buffers (λ d. is_actor (Session a) (Session d.owner)) w))
 
 -- the places of the head
 

@@ -14,7 +14,8 @@ use Rattle.flat_pointer.specs.declared.text.Touch.{Touch}
 -- how many frames were finished by lines before that of a number
 abbrev pub frames_before : ℕ → List Entry → ℕ
 frames_before number [] = 0
-frames_before number (before ▹ entry) = cond (is_finish entry.kind && nat_lt entry.line number) 1 0 + frames_before number before
+frames_before number (before ▹ entry) =
+    cond (is_finish entry.kind && nat_lt entry.line number) 1 0 + frames_before number before
 
 -- whom a call hits by the states at a begin: a Down those at its point, and another call nobody
 abbrev pub call_hits : Setup → List Entry → PointerCall → List Hit
@@ -23,7 +24,8 @@ call_hits setup begun _ = []
 
 -- a line of a pointer, with whom it hits in the frame that was finished last before it
 abbrev pub touch_of : Setup → List Entry → PointerLine → Touch
-touch_of setup history line = record { line = line; hits = call_hits setup (begin_of (frames_before line.number history) history) line.call }
+touch_of setup history line =
+    record { line = line; hits = call_hits setup (begin_of (frames_before line.number history) history) line.call }
 
 -- ---- how a history goes on
 

@@ -16,7 +16,8 @@ pub data PointerEvent : Type 0 where
 abbrev pub stream_after : ℕ → List PointerEvent → Option SessionNo
 stream_after p [] = None
 stream_after p (frame nodes ∷ before) = kept_in nodes (stream_after p before)
-stream_after p (down q hits ∷ before) = if q == p then after_down (stream_after p before) hits else stream_after p before
+stream_after p (down q hits ∷ before) =
+    if q == p then after_down (stream_after p before) hits else stream_after p before
 stream_after p (move q ∷ before) = stream_after p before
 stream_after p (up q ∷ before) = if q == p then None else stream_after p before
 

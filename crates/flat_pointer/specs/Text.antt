@@ -73,12 +73,14 @@ call_answer stream hits Up = up_answer stream
 -- what is written of one thing that happens, where these events were before, the newest first
 abbrev pub lines_at : List Word → List PointerEvent → Happening Touch → List (List Word)
 lines_at names before (finished out) = frame_lines names out.frame.0 (λ p. cancel_at p before (frame out.tree.nodes))
-lines_at names before (said touch) = touch_line names touch.line (call_answer (stream_after touch.line.pointer before) touch.hits touch.line.call) ∷ []
+lines_at names before (said touch) =
+    touch_line names touch.line (call_answer (stream_after touch.line.pointer before) touch.hits touch.line.call) ∷ []
 
 -- the text of finished frames, of the numbers of the lines that finished them, and of the pointers' lines
 abbrev pub pointer_text : List Word → List ℕ → List FrameOut → List Touch → List ℕ
 pointer_text names dones frames touches =
-    text_of (all_lines (lines_at names) (λ one before. event_of one ∷ before) [] (merged (λ touch. touch.line.number) dones frames touches) ++ end_line (length touches) ∷ [])
+    text_of (all_lines (lines_at names) (λ one before. event_of one ∷ before) []
+    (merged (λ touch. touch.line.number) dones frames touches) ++ end_line (length touches) ∷ [])
 
 -- ---- over the streams
 

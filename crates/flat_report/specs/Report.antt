@@ -44,12 +44,14 @@ frame_at setup n begun = record {
 -- the history up to and with the begin of the finished frame of a number
 abbrev pub begin_of : ℕ → List Entry → List Entry
 begin_of n [] = []
-begin_of n (before ▹ entry) = cond (is_finish entry.kind && (suc (frames before) == n)) (to_begin before) (begin_of n before)
+begin_of n (before ▹ entry) =
+    cond (is_finish entry.kind && (suc (frames before) == n)) (to_begin before) (begin_of n before)
 
 -- all finished frames, in order
 abbrev pub finished : Setup → List Entry → List FrameOut
 finished setup [] = []
-finished setup (before ▹ entry) = finished setup before ++ cond (is_finish entry.kind) (frame_at setup (suc (frames before)) (to_begin before) ∷ []) []
+finished setup (before ▹ entry) = finished setup before
+    ++ cond (is_finish entry.kind) (frame_at setup (suc (frames before)) (to_begin before) ∷ []) []
 
 -- who is hit at a point, by the states and the pixel ratio at a begin
 abbrev pub hits_at : Setup → List Entry → ℤ → ℤ → List Hit
@@ -60,7 +62,8 @@ hits_at setup begun = hit_list (setup_at setup begun) (shown_states setup begun)
 -- what stands between a done line and its events: the frame, and the displays lost at it
 abbrev pub shown_lines : Script → List Lost → List Entry → List (List Word)
 shown_lines script lost before =
-    frame_lines script (frame_at script.setup (suc (frames before)) (to_begin before)) ++ map lost_line (lost_at (suc (frames before)) lost)
+    frame_lines script (frame_at script.setup (suc (frames before)) (to_begin before))
+    ++ map lost_line (lost_at (suc (frames before)) lost)
 
 -- the lines of an entry: its own, its frame's, and those of its events
 abbrev pub entry_lines : Script → List Lost → List Entry → Entry → List (List Word)
@@ -88,12 +91,14 @@ probe_lines script = flat_map (λ n. probe_lines_of n script.lines) (range_with_
 
 -- what is said of a probe's line, by the frame that it saw
 abbrev pub seen_words : Script → List Entry → ℕ → Body → List Word
-seen_words script history frame (body.Probe (probe.Hit x y)) = point_words script x y frame (hits_at script.setup (begin_of frame history) x y)
+seen_words script history frame (body.Probe (probe.Hit x y)) =
+    point_words script x y frame (hits_at script.setup (begin_of frame history) x y)
 seen_words script history frame (body.Probe (probe.Await n)) = codes "await" ∷ codes "frame" ∷ number frame ∷ []
 seen_words script history frame _ = []
 
 abbrev pub seen_line : Script → List Entry → ScriptLine × ℕ → List Word
-seen_line script history (line, frame) = actor_name script line.actor ∷ number line.number ∷ seen_words script history frame line.body
+seen_line script history (line, frame) = actor_name script line.actor ∷ number line.number
+    ∷ seen_words script history frame line.body
 
 -- ---- the whole
 
@@ -118,7 +123,8 @@ is_lost_before a b = nat_lt a.frame.0 b.frame.0 || (a.frame.0 == b.frame.0 && na
 abbrev pub is_loss : List Entry → List Lost → Bool
 is_loss history [] = true
 is_loss history (a ∷ later) =
-    nat_lt 0 a.frame.0 && nat_le a.frame.0 (frames history) && list_all (λ b. is_lost_before a b && not (b.display == a.display)) later && is_loss history later
+    nat_lt 0 a.frame.0 && nat_le a.frame.0 (frames history)
+    && list_all (λ b. is_lost_before a b && not (b.display == a.display)) later && is_loss history later
 
 -- whether two lines are of one probe
 abbrev pub same_probe : Actor → Actor → Bool
@@ -128,9 +134,11 @@ same_probe _ _ = false
 -- the frames that one probe's lines saw never fall
 abbrev pub never_falls : List (ScriptLine × ℕ) → Bool
 never_falls [] = true
-never_falls ((line, frame) ∷ later) = list_all (λ next. not (same_probe line.actor next.0.actor) || nat_le frame next.1) later && never_falls later
+never_falls ((line, frame) ∷ later) =
+    list_all (λ next. not (same_probe line.actor next.0.actor) || nat_le frame next.1) later && never_falls later
 
 -- each probe's line saw a finished frame or none
 abbrev pub is_seeing : Script → List Entry → List ℕ → Bool
 is_seeing script history seen =
-    (length seen == length (probe_lines script)) && list_all (λ frame. nat_le frame (frames history)) seen && never_falls (zip (probe_lines script) seen)
+    (length seen == length (probe_lines script)) && list_all (λ frame. nat_le frame (frames history)) seen
+    && never_falls (zip (probe_lines script) seen)

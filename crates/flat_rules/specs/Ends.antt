@@ -68,7 +68,8 @@ count_if _ = 0
 -- at how many calls this holds of the draft before the call
 abbrev pub times : Setup → (Draft → Call → Bool) → Result Draft Reason → List Call → ℕ
 times setup test draft [] = 0
-times setup test draft (call ∷ calls) = count_if (option_map (λ d. test d call) (result_ok draft)) + times setup test (after_call setup draft call) calls
+times setup test draft (call ∷ calls) =
+    count_if (option_map (λ d. test d call) (result_ok draft)) + times setup test (after_call setup draft call) calls
 
 -- whether it holds at some call of a session
 abbrev pub happens : Setup → (Draft → Call → Bool) → List Call → Bool
@@ -84,7 +85,8 @@ is_viewport_of p draft serial = unwrap_or (option_map (is_made_of p) (of_serial 
 
 -- the call releases a viewport of the pair, clears one, or ends the pair's view
 abbrev pub releases_viewport : PairNo → Draft → Call → Bool
-releases_viewport p draft (ReleaseViewport c) = unwrap_or (option_map (is_viewport_of p draft) (content_of draft c)) false
+releases_viewport p draft (ReleaseViewport c) =
+    unwrap_or (option_map (is_viewport_of p draft) (content_of draft c)) false
 releases_viewport p draft _ = false
 
 abbrev pub clears_viewport : PairNo → Draft → Call → Bool
@@ -104,12 +106,14 @@ props_in _ = None
 -- the serials of the viewports of a pair, where the first of the contents has that serial
 abbrev pub serials_of : PairNo → ℕ → List Made → List ℕ
 serials_of p next [] = []
-serials_of p next (made ∷ more) = cond (is_made_of p made) (next ∷ serials_of p (next + 1) more) (serials_of p (next + 1) more)
+serials_of p next (made ∷ more) =
+    cond (is_made_of p made) (next ∷ serials_of p (next + 1) more) (serials_of p (next + 1) more)
 
 -- the properties of a viewport that is neither released nor cleared
 abbrev pub live_props : Draft → ℕ → Option ViewportProps
 live_props draft serial =
-    cond (list_any (λ live. live == serial) draft.viewports) (option_and_then props_in (of_serial draft.contents serial)) None
+    cond (list_any (λ live. live == serial) draft.viewports)
+    (option_and_then props_in (of_serial draft.contents serial)) None
 
 -- the same of the n-th viewport of a pair, counted from 1
 abbrev pub props_of : PairNo → ℕ → Draft → Option ViewportProps
@@ -118,7 +122,9 @@ props_of p n draft = option_and_then (live_props draft) (of_serial (serials_of p
 -- the pairs of which this holds, by number
 abbrev pub pairs_where : (PairDecl → Bool) → ℕ → List PairDecl → List PairNo
 pairs_where test number [] = []
-pairs_where test number (pair ∷ pairs) = cond (test pair) ((record { 0 = number }) ∷ pairs_where test (number + 1) pairs) (pairs_where test (number + 1) pairs)
+pairs_where test number (pair ∷ pairs) =
+    cond (test pair) ((record { 0 = number }) ∷ pairs_where test (number + 1) pairs)
+    (pairs_where test (number + 1) pairs)
 
 module _ (setup : Setup) where
   -- the pairs whose view end a session owns, and those whose viewport end it owns
@@ -163,4 +169,6 @@ module _ (setup : Setup) where
 
   -- a session is open and has used a view end that isn't lost
   abbrev pub has_view : List Entry → SessionNo → Bool
-  has_view history s = not (is_closed s history) && list_any (λ p. nat_lt 0 (length (view_uses p history)) && not (is_view_lost history p)) (views_of s)
+  has_view history s =
+      not (is_closed s history)
+      && list_any (λ p. nat_lt 0 (length (view_uses p history)) && not (is_view_lost history p)) (views_of s)

@@ -18,7 +18,8 @@ pub record Moment : Type 0 where
 -- all entries, each with its events to a session
 abbrev pub moments : Setup → SessionNo → List Entry → List Moment
 moments setup s [] = []
-moments setup s (before ▹ entry) = (record { entry = entry; events = events_to setup before entry s }) ∷ moments setup s before
+moments setup s (before ▹ entry) = (record { entry = entry; events = events_to setup before entry s })
+    ∷ moments setup s before
 
 -- the moments of the kept entries
 abbrev pub kept_moments : (SessionNo → Bool) → List Moment → List Moment
@@ -33,5 +34,6 @@ is_quiet of_family moment = is_kept of_family moment.entry || length moment.even
 -- The other entries post nothing to them.
 pub record IsFamilyLaw (setup : Setup) (of_family : SessionNo → Bool) (history : List Entry) : Type 0 where
   pub legal : Legal setup (only of_family history)
-  pub events : (t : SessionNo) → of_family t ≡ true → moments setup t (only of_family history) ≡ kept_moments of_family (moments setup t history)
+  pub events : (t : SessionNo) → of_family t ≡ true
+      → moments setup t (only of_family history) ≡ kept_moments of_family (moments setup t history)
   pub quiet : (t : SessionNo) → of_family t ≡ true → list_all (is_quiet of_family) (moments setup t history) ≡ true

@@ -73,7 +73,8 @@ number_if b = cond b 1 0
 
 -- no entry of the actor after its End, and none but an End after it was closed
 abbrev pub goes_on : List Entry → Kind → Actor → Bool
-goes_on before kind (Session s) = not (list_any (λ entry. is_end entry.kind) (own s before)) && (is_end kind || not (is_closed s before))
+goes_on before kind (Session s) = not (list_any (λ entry. is_end entry.kind) (own s before))
+    && (is_end kind || not (is_closed s before))
 goes_on before kind _ = true
 
 -- the time of a begin
@@ -110,7 +111,8 @@ makes_view p (Some (CreateView q)) = q.0 == p.0
 makes_view p _ = false
 
 abbrev pub makes_viewport : PairNo → ViewportProps → Option Call → Bool
-makes_viewport p props (Some (CreateViewport c q w h inset)) = q.0 == p.0 && w == props.w && h == props.h && same_inset inset props.inset
+makes_viewport p props (Some (CreateViewport c q w h inset)) = q.0 == p.0 && w == props.w && h == props.h
+    && same_inset inset props.inset
 makes_viewport p props _ = false
 
 -- the last call of a View or a Viewport is its own
@@ -202,7 +204,8 @@ module _ (setup : Setup) where
   -- the events posted to a session since its last Poll, the oldest first
   abbrev pub unread_events : SessionNo → List Entry → List Event
   unread_events s [] = []
-  unread_events s (before ▹ entry) = cond (is_session s entry.actor && is_poll entry.kind) [] (unread_events s before) ++ events_to setup before entry s
+  unread_events s (before ▹ entry) = cond (is_session s entry.actor && is_poll entry.kind) [] (unread_events s before)
+      ++ events_to setup before entry s
 
   -- how many they are
   abbrev pub unread : SessionNo → List Entry → ℕ
@@ -211,7 +214,8 @@ module _ (setup : Setup) where
   -- the answers that a session has had from its watchers
   abbrev pub answers : SessionNo → List Entry → ℕ
   answers s [] = 0
-  answers s (before ▹ entry) = answers s before + number_if (is_session s entry.actor && is_now entry.reply) + sent_to s is_told before entry
+  answers s (before ▹ entry) =
+      answers s before + number_if (is_session s entry.actor && is_now entry.reply) + sent_to s is_told before entry
 
   -- the value of a condition
   abbrev pub value_of : List Entry → Actor → Cond → ℕ
@@ -225,13 +229,16 @@ module _ (setup : Setup) where
 
   -- the reply to a get: refused while another is held, the news at once, or held
   abbrev pub reply_to_get : List Entry → Option Watcher → Reply
-  reply_to_get before (Some watcher) = got (is_some (watching setup watcher before).waits) (news (told setup before watcher) (watching setup watcher before).last)
+  reply_to_get before (Some watcher) =
+      got (is_some (watching setup watcher before).waits)
+      (news (told setup before watcher) (watching setup watcher before).last)
   reply_to_get before None = Held
 
   -- the reply to a present: its number and the credits left, or refused where there is none
   abbrev pub reply_to_present : List Entry → Actor → Reply
   reply_to_present before (Session s) =
-      cond (nat_lt 0 (credits setup before s)) (Presented (length (presents s before) + 1) (credits setup before s - 1)) (Closed (Some NoPresentsRemaining) None)
+      cond (nat_lt 0 (credits setup before s)) (Presented (length (presents s before) + 1) (credits setup before s - 1))
+      (Closed (Some NoPresentsRemaining) None)
   reply_to_present before _ = Done
 
   -- how many events a Poll hands over
@@ -269,7 +276,8 @@ module _ (setup : Setup) where
   -- unless the session was closed: then it carries no calls, and may say any number. Only a session has calls.
   abbrev pub has_draft : List Entry → Actor → List Call → Kind → Bool
   has_draft before (Session s) carries (Close why) =
-      is_some (draft_with before (Session s) (all_but_last carries)) && may_close carries (draft_of setup (calls s before ++ carries)) why
+      is_some (draft_with before (Session s) (all_but_last carries))
+      && may_close carries (draft_of setup (calls s before ++ carries)) why
   has_draft before (Session s) carries (End refused) =
       cond (is_closed s before) (length carries == 0) (refused == 0 && is_some (draft_with before (Session s) carries))
   has_draft before (Session s) carries kind = is_closed s before || is_some (draft_with before (Session s) carries)
@@ -284,7 +292,8 @@ module _ (setup : Setup) where
   owns_viewport s p = unwrap_or (option_map (is_session s) (viewport_owner setup p)) false
 
   abbrev pub owns_fence : SessionNo → FenceNo → Bool
-  owns_fence s f = unwrap_or (option_map (λ fence. list_any (is_session s) fence.owners) (slice_get setup.fences f.0)) false
+  owns_fence s f =
+      unwrap_or (option_map (λ fence. list_any (is_session s) fence.owners) (slice_get setup.fences f.0)) false
 
   abbrev pub owns_buffers : SessionNo → BufferNo → Bool
   owns_buffers s b = unwrap_or (option_map (λ buffers. buffers.owner.0 == s.0) (slice_get setup.buffers b.0)) false

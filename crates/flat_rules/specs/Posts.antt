@@ -36,7 +36,8 @@ module _ (setup : Setup) where
   -- a held get that the entry answers
   abbrev pub told_event : PairNo → Watcher → List Entry → Entry → List Event
   told_event p watcher before entry =
-      event_of p (watching setup watcher before).waits (answer (told setup (before ▹ entry) watcher) (watching setup watcher before))
+      event_of p (watching setup watcher before).waits
+      (answer (told setup (before ▹ entry) watcher) (watching setup watcher before))
 
   -- how many presents of a session the frame begun last took
   abbrev pub frame_took : List Entry → SessionNo → ℕ
@@ -49,23 +50,27 @@ module _ (setup : Setup) where
   -- the tokens that came back because the frame begun last has seen releases
   abbrev pub tokens_back : List Entry → SessionNo → List Event
   tokens_back history s =
-      flat_map (λ p. replicate (releases_seen (to_begin history) s p - releases_seen (drop 1 (to_begin history)) s p) (event.TokenBack p)) (viewports_of setup s)
+      flat_map (λ p. replicate (releases_seen (to_begin history) s p - releases_seen (drop 1 (to_begin history)) s p)
+      (event.TokenBack p)) (viewports_of setup s)
 
   -- what the end of a frame tells a session of its presents and tokens
   abbrev pub at_finish : List Entry → SessionNo → List Event
-  at_finish before s = cond (nat_lt 0 (frame_took before s)) (event.FramePresented (frame_took before s) ∷ []) [] ++ tokens_back before s
+  at_finish before s = cond (nat_lt 0 (frame_took before s)) (event.FramePresented (frame_took before s) ∷ []) []
+      ++ tokens_back before s
 
   -- what the begin of a frame tells a session of its credits
   abbrev pub at_begin : List Entry → Entry → SessionNo → List Event
   at_begin before entry s =
-      cond (nat_lt (taken setup before s) (taken setup (before ▹ entry) s)) (event.Credits (credits setup (before ▹ entry) s - credits setup before s) ∷ []) []
+      cond (nat_lt (taken setup before s) (taken setup (before ▹ entry) s))
+      (event.Credits (credits setup (before ▹ entry) s - credits setup before s) ∷ []) []
 
   -- what an entry tells a session, in order: layouts, statuses, children, what was presented, tokens, credits
   abbrev pub news_for : List Entry → Entry → SessionNo → List Event
   news_for before entry s =
       flat_map (λ p. told_event p (layout_of p) before entry) (views_of setup s)
       ++ flat_map (λ p. told_event p (status_of p) before entry) (views_of setup s)
-      ++ flat_map (λ p. flat_map (λ n. told_event p (child_of p n) before entry) (up_to (length (viewport_uses p before)))) (viewports_of setup s)
+      ++ flat_map (λ p. flat_map (λ n. told_event p (child_of p n) before entry) (up_to (length (viewport_uses p before))))
+      (viewports_of setup s)
       ++ cond (is_finish entry.kind) (at_finish before s) []
       ++ cond (is_begin entry.kind) (at_begin before entry s) []
 
@@ -75,4 +80,6 @@ module _ (setup : Setup) where
 
   -- the events that an entry posts, by sessions
   abbrev pub posted : List Entry → Entry → List Sent
-  posted before entry = flat_map (λ s. map (λ event. record { to = s; event = event }) (events_to before entry s)) (sessions_to setup.sessions)
+  posted before entry =
+      flat_map (λ s. map (λ event. record { to = s; event = event }) (events_to before entry s))
+      (sessions_to setup.sessions)

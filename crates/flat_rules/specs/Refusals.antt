@@ -21,7 +21,9 @@ may_refuse_present draft reason = same_reason (unwrap_or (first_reason (tree_tes
 abbrev pub may_refuse_get : Draft → Reason → Bool
 may_refuse_get draft ZeroId = true
 may_refuse_get draft UnknownContent = true
-may_refuse_get draft WrongContent = list_any (λ name. not (name.id == 0) && not (is_viewport (made_of draft (record { 0 = name.id })))) draft.content_names
+may_refuse_get draft WrongContent =
+    list_any (λ name. not (name.id == 0) && not (is_viewport (made_of draft (record { 0 = name.id }))))
+    draft.content_names
 may_refuse_get draft NoView = is_none draft.view
 may_refuse_get draft _ = false
 

@@ -50,7 +50,8 @@ logical_side ratio side = max 1 (side * ONE / ratio)
 
 -- the display as a viewport, at its pixel ratio
 abbrev pub display_props : ℕ → Setup → ViewportProps
-display_props ratio setup = record { w = logical_side ratio setup.width; h = logical_side ratio setup.height; inset = no_inset }
+display_props ratio setup =
+    record { w = logical_side ratio setup.width; h = logical_side ratio setup.height; inset = no_inset }
 
 -- the properties with which an entry uses a viewport end
 abbrev pub props_at : Kind → Option ViewportProps
@@ -79,7 +80,8 @@ module _ (setup : Setup) where
   props_seen p n s [] = None
   props_seen p n s (before ▹ entry) =
       option_or
-      (cond (is_finish entry.kind) (option_and_then (props_of p n) (result_ok (draft_of setup (taken_calls setup (to_begin before) s)))) None)
+      (cond (is_finish entry.kind)
+      (option_and_then (props_of p n) (result_ok (draft_of setup (taken_calls setup (to_begin before) s)))) None)
       (props_seen p n s before)
 
   -- the pixel ratio that is told: that of the last finished frame's begin, or the head's
@@ -89,14 +91,16 @@ module _ (setup : Setup) where
   -- the properties of the last use: those that frames have seen last, or those given
   abbrev pub props_told : Option Actor → List Entry → PairNo → Option ViewportProps
   props_told (Some Display) history p = Some (display_props (ratio_told history) setup)
-  props_told (Some (Session s)) history p = option_or (props_seen p (length (viewport_uses p history)) s history) (props_given (viewport_uses p history))
+  props_told (Some (Session s)) history p =
+      option_or (props_seen p (length (viewport_uses p history)) s history) (props_given (viewport_uses p history))
   props_told _ history p = None
 
   -- the layout of a pair's view
   abbrev pub told_layout : List Entry → PairNo → Option Told
   told_layout history p =
       cond (is_viewport_lost setup (to_finished history) p) (Some tell.Gone)
-      (cond (are_joined history p) (option_map (layout_in (ratio_told history)) (props_told (viewport_owner setup p) history p)) None)
+      (cond (are_joined history p)
+      (option_map (layout_in (ratio_told history)) (props_told (viewport_owner setup p) history p)) None)
 
   -- whether the session that owns the view end shows that view
   abbrev pub shows_view : List Entry → PairNo → Bool
@@ -104,13 +108,15 @@ module _ (setup : Setup) where
 
   -- whether it shows that view and is connected
   abbrev pub is_connected_by : List Entry → PairNo → Bool
-  is_connected_by history p = shows_view history p && unwrap_or (option_map (is_connected setup history) (view_owner setup p)) false
+  is_connected_by history p = shows_view history p
+      && unwrap_or (option_map (is_connected setup history) (view_owner setup p)) false
 
   -- the status of a pair's view
   abbrev pub told_status : List Entry → PairNo → Option Told
   told_status history p =
       cond (is_viewport_lost setup (to_finished history) p) (Some tell.Gone)
-      (cond (are_joined history p) (Some (cond (is_connected_by (to_finished history) p) tell.Connected tell.Disconnected)) None)
+      (cond (are_joined history p)
+      (Some (cond (is_connected_by (to_finished history) p) tell.Connected tell.Disconnected)) None)
 
   -- whether the child of a pair has presented
   abbrev pub told_child : List Entry → PairNo → Option Told
@@ -139,7 +145,8 @@ module _ (setup : Setup) where
 
   -- the watcher of a get that an actor makes, with the calls that the get's entry carries
   abbrev pub watcher_of : List Entry → Actor → List Call → Watch → Option Watcher
-  watcher_of before (Session s) carries get = option_and_then (λ draft. watcher_in before draft get) (result_ok (draft_of setup (calls s before ++ carries)))
+  watcher_of before (Session s) carries get =
+      option_and_then (λ draft. watcher_in before draft get) (result_ok (draft_of setup (calls s before ++ carries)))
   watcher_of before _ carries get = None
 
   -- whether it is that watcher
@@ -148,7 +155,8 @@ module _ (setup : Setup) where
 
   -- the get of a watcher that an entry makes
   abbrev pub asked_in : Watcher → List Entry → Entry → Kind → Option Watch
-  asked_in watcher before entry (Get get) = cond (is_watcher watcher (watcher_of before entry.actor entry.calls get)) (Some get) None
+  asked_in watcher before entry (Get get) =
+      cond (is_watcher watcher (watcher_of before entry.actor entry.calls get)) (Some get) None
   asked_in watcher before entry _ = None
 
   -- the same of the entry's own kind
@@ -170,4 +178,5 @@ module _ (setup : Setup) where
   abbrev pub watching : Watcher → List Entry → Watching
   watching watcher [] = record { last = None; waits = None }
   watching watcher (before ▹ entry) =
-      settled (is_open (listener watcher) (before ▹ entry)) (told (before ▹ entry) watcher) (asking (asked watcher before entry) (watching watcher before))
+      settled (is_open (listener watcher) (before ▹ entry)) (told (before ▹ entry) watcher)
+      (asking (asked watcher before entry) (watching watcher before))

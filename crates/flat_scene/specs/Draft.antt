@@ -72,12 +72,28 @@ pub record Draft : Type 0 where
 
 -- a transform as it is made
 abbrev pub new_transform : Transform
-new_transform =
-    record { scale = (ONE, ONE); turn = Ccw0; place = (pos 0, pos 0); clip = None; opacity = OPACITY_MAX; hits = None; content = None; children = [] }
+new_transform = record {
+  scale = (ONE, ONE);
+  turn = Ccw0;
+  place = (pos 0, pos 0);
+  clip = None;
+  opacity = OPACITY_MAX;
+  hits = None;
+  content = None;
+  children = [];
+}
 
 -- the draft of a session that made no call
 abbrev pub empty_draft : Draft
-empty_draft = record { transforms = []; contents = []; transform_names = []; content_names = []; root = None; view = None; viewports = [] }
+empty_draft = record {
+  transforms = [];
+  contents = [];
+  transform_names = [];
+  content_names = [];
+  root = None;
+  view = None;
+  viewports = [];
+}
 
 -- the item of a serial
 abbrev pub of_serial : {A : Type 0} → List A → ℕ → Option A

@@ -61,7 +61,8 @@ held_but out (Some serial) = cond (is_serial out serial) None (Some serial)
 abbrev pub without_viewport : Option ℕ → Draft → Draft
 without_viewport viewport draft = record draft {
   viewports = filter (λ serial. not (is_serial viewport serial)) draft.viewports;
-  transforms = map (λ (transform : Transform). let t : Transform = record transform { content = held_but viewport transform.content } in t) draft.transforms;
+  transforms = map (λ (transform : Transform).
+      let t : Transform = record transform { content = held_but viewport transform.content } in t) draft.transforms;
 }
 
 -- a transform with one child more, behind the others, and with one less
@@ -69,7 +70,8 @@ abbrev pub with_child : Option ℕ → Transform → Transform
 with_child child transform = record transform { children = transform.children ++ option_to_list child }
 
 abbrev pub without_child : Option ℕ → Transform → Transform
-without_child child transform = record transform { children = filter (λ other. not (is_serial child other)) transform.children }
+without_child child transform =
+    record transform { children = filter (λ other. not (is_serial child other)) transform.children }
 
 -- a transform with these children in place of its own
 abbrev pub with_children : List ℕ → Transform → Transform
@@ -124,23 +126,27 @@ effect draft (RemoveChild p k) = with_transform draft p (without_child (transfor
 effect draft (ReplaceChildren p ks) = with_transform draft p (with_children (serials_of draft ks))
 effect draft (SetRootTransform t) = record draft { root = transform_of draft t }
 effect draft (CreateViewport c pair w h inset) =
-    record (with_made draft c (a_viewport pair (record { w = w; h = h; inset = inset }))) { viewports = draft.viewports ++ (length draft.contents + 1) ∷ [] }
+    record (with_made draft c (a_viewport pair (record { w = w; h = h; inset = inset })))
+    { viewports = draft.viewports ++ (length draft.contents + 1) ∷ [] }
 effect draft (SetViewportProperties c w h inset) =
     with_content draft c (on_viewport (λ props. record { w = w; h = h; inset = unwrap_or inset props.inset }))
 effect draft (ReleaseViewport c) = without_viewport (content_of draft c) (without_content_name draft c)
 effect draft (CreateImage c buffers i w h) = with_made draft c (new_image buffers i w h)
 effect draft (SetImageSampleRegion c rect) = with_content draft c (on_image (λ image. record image { sample = rect }))
-effect draft (SetImageDestinationSize c w h) = with_content draft c (on_image (λ image. record image { destination = (w, h) }))
+effect draft (SetImageDestinationSize c w h) =
+    with_content draft c (on_image (λ image. record image { destination = (w, h) }))
 effect draft (SetImageBlendingFunction c m) = with_content draft c (on_image (λ image. record image { blend = m }))
 effect draft (SetImageFlip c f) = with_content draft c (on_image (λ image. record image { flip = f }))
 effect draft (SetImageOpacity c v) = with_content draft c (on_image (λ image. record image { opacity = v }))
 effect draft (ReleaseImage c) = without_content_name draft c
 effect draft (CreateFilledRect c) = with_made draft c (a_fill None)
-effect draft (SetSolidFill c r g b a w h) = with_content draft c (on_fill (record { rgba = r ∷ g ∷ b ∷ a ∷ []; size = (w, h) }))
+effect draft (SetSolidFill c r g b a w h) =
+    with_content draft c (on_fill (record { rgba = r ∷ g ∷ b ∷ a ∷ []; size = (w, h) }))
 effect draft (ReleaseFilledRect c) = without_content_name draft c
 effect draft (SetHitRegions t regions) = with_transform draft t (λ transform. record transform { hits = Some regions })
 effect draft (SetInfiniteHitRegion t i) =
-    with_transform draft t (λ transform. record transform { hits = Some ((record { area = None; interaction = i }) ∷ []) })
+    with_transform draft t
+    (λ transform. record transform { hits = Some ((record { area = None; interaction = i }) ∷ []) })
 effect draft (SetContent t c) = with_transform draft t (λ transform. record transform { content = content_of draft c })
 effect draft Clear = record draft { view = None; transform_names = []; content_names = []; root = None; viewports = [] }
 

@@ -24,7 +24,8 @@ shares s t fence = list_any (is_session s) fence.owners && list_any (is_session 
 
 -- two sessions own the two ends of a pair, or own a fence
 abbrev pub is_linked : Setup → SessionNo → SessionNo → Bool
-is_linked setup s t = list_any (λ pair. joins s t pair || joins t s pair) setup.pairs || list_any (shares s t) setup.fences
+is_linked setup s t = list_any (λ pair. joins s t pair || joins t s pair) setup.pairs
+    || list_any (shares s t) setup.fences
 
 -- the family of s: s, and what is reached from it from link to link
 abbrev pub family : Setup → SessionNo → SessionNo → Bool

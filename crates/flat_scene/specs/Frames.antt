@@ -84,19 +84,22 @@ module _ (setup : Setup) where
     -- whether a fence is signalled
     pub is_signalled : List Entry → FenceNo → Bool
     is_signalled [] fence = false
-    is_signalled (before ▹ entry) fence = is_signalled before fence || signals (sessions_to setup.sessions) entry.kind (going before) fence
+    is_signalled (before ▹ entry) fence = is_signalled before fence
+        || signals (sessions_to setup.sessions) entry.kind (going before) fence
 
     -- how many presents of a session frames have taken
     pub taken : List Entry → SessionNo → ℕ
     taken [] s = 0
     taken (before ▹ entry) s =
-        taken before s + length (takes entry.kind (is_signalled before) (is_closed s before) (drop (taken before s) (presents s before)))
+        taken before s + length
+        (takes entry.kind (is_signalled before) (is_closed s before) (drop (taken before s) (presents s before)))
 
     -- the presents of a session that the end of the frame begun last lets go
     pub going : List Entry → SessionNo → List Published
     going [] s = []
     going (before ▹ entry) s =
-        lets_go entry.kind (is_signalled before) (is_closed s before) (drop (taken before s) (presents s before)) (going before s)
+        lets_go entry.kind (is_signalled before) (is_closed s before) (drop (taken before s) (presents s before))
+        (going before s)
 
   -- the presents of a session that no frame has taken
   abbrev pub waiting : List Entry → SessionNo → List Published

@@ -123,7 +123,8 @@ module _ (setup : Setup) (count : ℕ) where
   abbrev pub next_from : Draft → List Call → List (ℕ × Line) → Next
   next_from draft pending [] = record { line = count + 1; carries = pending; kind = End 0 }
   next_from draft pending ((number, text) ∷ lines) =
-      next_or (entry_of_line setup draft text) number (pending ++ calls_of_line text) (next_from (after_line draft text) (pending ++ calls_of_line text) lines)
+      next_or (entry_of_line setup draft text) number (pending ++ calls_of_line text)
+      (next_from (after_line draft text) (pending ++ calls_of_line text) lines)
 
   -- what comes after some entries of a session: where one of them closed it, the End with the number of the lines left
   abbrev pub next_of : List Entry → List (ℕ × Line) → Next
@@ -140,7 +141,8 @@ module _ (setup : Setup) (count : ℕ) where
 -- the first of some lines of the display makes the entry
 abbrev pub IsFirstLine : List (ℕ × DisplayLine) → Entry → Type 0
 IsFirstLine [] entry = ⊥
-IsFirstLine ((number, text) ∷ later) entry = IsNext (record { line = number; carries = []; kind = entry_of_display text }) entry
+IsFirstLine ((number, text) ∷ later) entry =
+    IsNext (record { line = number; carries = []; kind = entry_of_display text }) entry
 
 -- the display's entries, the newest first, are the reading of its lines so far: each line makes one entry
 abbrev pub FollowsDisplay : List (ℕ × DisplayLine) → List Entry → Type 0
@@ -163,7 +165,8 @@ by_display history = filter (λ entry. is_display entry.actor) history
 
 -- A history interleaves the lines of a script of that many lines.
 pub record Interleaves (setup : Setup) (count : ℕ) (lines : List ScriptLine) (history : List Entry) : Type 0 where
-  pub sessions : AllByRecursion (λ s. IsReading setup count (session_lines s lines) (own s history)) (sessions_to setup.sessions)
+  pub sessions : AllByRecursion (λ s. IsReading setup count (session_lines s lines) (own s history))
+      (sessions_to setup.sessions)
   pub display : FollowsDisplay (display_lines lines) (by_display history)
   pub all_read : unread_lines (by_display history) (display_lines lines) ≡ []
 

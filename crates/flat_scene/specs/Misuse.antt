@@ -97,11 +97,14 @@ has_twice (x ∷ xs) = list_any (λ y. x == y) xs || has_twice xs
 
 -- the serials of the children of the transform that an id names
 abbrev pub children_of : Draft → TransformId → List ℕ
-children_of draft t = unwrap_or (option_map (λ transform. transform.children) (option_and_then (of_serial draft.transforms) (transform_of draft t))) []
+children_of draft t = unwrap_or (option_map (λ transform. transform.children)
+    (option_and_then (of_serial draft.transforms) (transform_of draft t))) []
 
 -- whether k is a child of p
 abbrev pub is_child : Draft → TransformId → TransformId → Bool
-is_child draft p k = unwrap_or (option_map (λ serial. list_any (λ child. child == serial) (children_of draft p)) (transform_of draft k)) false
+is_child draft p k =
+    unwrap_or (option_map (λ serial. list_any (λ child. child == serial) (children_of draft p)) (transform_of draft k))
+    false
 
 -- what is asked of an id, before all else: that it names a transform, or a content of a sort
 abbrev pub names_transform : Draft → TransformId → List Test
@@ -109,7 +112,8 @@ names_transform draft t = (t.0 == 0, ZeroId) ∷ (is_none (transform_of draft t)
 
 abbrev pub names_content : Draft → (Option Made → Bool) → ContentId → List Test
 names_content draft sort c =
-    (c.0 == 0, ZeroId) ∷ (is_none (content_of draft c), UnknownContent) ∷ (not (sort (made_of draft c)), WrongContent) ∷ []
+    (c.0 == 0, ZeroId) ∷ (is_none (content_of draft c), UnknownContent)
+    ∷ (not (sort (made_of draft c)), WrongContent) ∷ []
 
 -- what is asked of an id that is to name something new
 abbrev pub is_new_transform : Draft → TransformId → List Test
@@ -126,7 +130,8 @@ is_full limit xs = nat_le limit (length xs)
 abbrev pub tests : Setup → Draft → Call → List Test
 tests setup draft (CreateView pair) = (is_some draft.view, HasView) ∷ []
 tests setup draft ReleaseView = (is_none draft.view, NoView) ∷ []
-tests setup draft (CreateTransform t) = is_new_transform draft t ++ (is_full NAMED_MAX draft.transform_names, TooManyNamed) ∷ []
+tests setup draft (CreateTransform t) = is_new_transform draft t
+    ++ (is_full NAMED_MAX draft.transform_names, TooManyNamed) ∷ []
 tests setup draft (ReleaseTransform t) = names_transform draft t
 tests setup draft (SetTranslation t x y) = names_transform draft t
 tests setup draft (SetOrientation t o) = names_transform draft t
@@ -134,37 +139,48 @@ tests setup draft (SetScale t sx sy) = names_transform draft t ++ (is_bad_scale 
 tests setup draft (SetOpacity t v) = names_transform draft t ++ (nat_lt OPACITY_MAX v, BadOpacity) ∷ []
 tests setup draft (SetClipBoundary t rect) = names_transform draft t ++ (is_bad_area rect, BadRect) ∷ []
 tests setup draft (AddChild p k) =
-    (p.0 == 0 || k.0 == 0, ZeroId) ∷ (is_none (transform_of draft p) || is_none (transform_of draft k), UnknownTransform)
+    (p.0 == 0 || k.0 == 0, ZeroId)
+    ∷ (is_none (transform_of draft p) || is_none (transform_of draft k), UnknownTransform)
     ∷ (is_child draft p k, AlreadyChild) ∷ (is_full CHILDREN_MAX (children_of draft p), TooManyChildren) ∷ []
 tests setup draft (RemoveChild p k) =
-    (p.0 == 0 || k.0 == 0, ZeroId) ∷ (is_none (transform_of draft p) || is_none (transform_of draft k), UnknownTransform)
+    (p.0 == 0 || k.0 == 0, ZeroId)
+    ∷ (is_none (transform_of draft p) || is_none (transform_of draft k), UnknownTransform)
     ∷ (not (is_child draft p k), NotChild) ∷ []
 tests setup draft (ReplaceChildren p ks) =
     (p.0 == 0 || list_any (λ k. k.0 == 0) ks, ZeroId)
     ∷ (is_none (transform_of draft p) || list_any (λ k. is_none (transform_of draft k)) ks, UnknownTransform)
-    ∷ (has_twice (map (λ (k : TransformId). k.0) ks), AlreadyChild) ∷ (nat_lt CHILDREN_MAX (length ks), TooManyChildren) ∷ []
+    ∷ (has_twice (map (λ (k : TransformId). k.0) ks), AlreadyChild)
+    ∷ (nat_lt CHILDREN_MAX (length ks), TooManyChildren) ∷ []
 tests setup draft (SetRootTransform t) = (not (t.0 == 0) && is_none (transform_of draft t), UnknownTransform) ∷ []
 tests setup draft (CreateViewport c pair w h inset) =
-    is_new_content draft c ++ (is_bad_side w || is_bad_side h, BadSize) ∷ (is_full NAMED_MAX draft.content_names, TooManyNamed) ∷ []
-tests setup draft (SetViewportProperties c w h inset) = names_content draft is_viewport c ++ (is_bad_side w || is_bad_side h, BadSize) ∷ []
+    is_new_content draft c
+    ++ (is_bad_side w || is_bad_side h, BadSize) ∷ (is_full NAMED_MAX draft.content_names, TooManyNamed) ∷ []
+tests setup draft (SetViewportProperties c w h inset) = names_content draft is_viewport c
+    ++ (is_bad_side w || is_bad_side h, BadSize) ∷ []
 tests setup draft (ReleaseViewport c) = names_content draft is_viewport c
 tests setup draft (CreateImage c buffers i w h) =
     is_new_content draft c ++ (is_bad_image (slice_get setup.buffers buffers.0) w h, BadSize)
-    ∷ (is_bad_index (slice_get setup.buffers buffers.0) i, BadBuffer) ∷ (is_full NAMED_MAX draft.content_names, TooManyNamed) ∷ []
+    ∷ (is_bad_index (slice_get setup.buffers buffers.0) i, BadBuffer)
+    ∷ (is_full NAMED_MAX draft.content_names, TooManyNamed) ∷ []
 tests setup draft (SetImageSampleRegion c rect) =
     names_content draft is_image c ++ (is_bad_rect rect || leaves_made rect (made_of draft c), BadRect) ∷ []
-tests setup draft (SetImageDestinationSize c w h) = names_content draft is_image c ++ (is_bad_side w || is_bad_side h, BadSize) ∷ []
+tests setup draft (SetImageDestinationSize c w h) = names_content draft is_image c
+    ++ (is_bad_side w || is_bad_side h, BadSize) ∷ []
 tests setup draft (SetImageBlendingFunction c m) = names_content draft is_image c
 tests setup draft (SetImageFlip c f) = names_content draft is_image c
 tests setup draft (SetImageOpacity c v) = names_content draft is_image c ++ (nat_lt OPACITY_MAX v, BadOpacity) ∷ []
 tests setup draft (ReleaseImage c) = names_content draft is_image c
-tests setup draft (CreateFilledRect c) = is_new_content draft c ++ (is_full NAMED_MAX draft.content_names, TooManyNamed) ∷ []
-tests setup draft (SetSolidFill c r g b a w h) = names_content draft is_fill c ++ (is_bad_side w || is_bad_side h, BadSize) ∷ []
+tests setup draft (CreateFilledRect c) = is_new_content draft c
+    ++ (is_full NAMED_MAX draft.content_names, TooManyNamed) ∷ []
+tests setup draft (SetSolidFill c r g b a w h) = names_content draft is_fill c
+    ++ (is_bad_side w || is_bad_side h, BadSize) ∷ []
 tests setup draft (ReleaseFilledRect c) = names_content draft is_fill c
 tests setup draft (SetHitRegions t regions) =
-    names_transform draft t ++ (list_any (λ region. is_bad_area region.area) regions, BadRect) ∷ (nat_lt HIT_REGIONS_MAX (length regions), TooManyRegions) ∷ []
+    names_transform draft t ++ (list_any (λ region. is_bad_area region.area) regions, BadRect)
+    ∷ (nat_lt HIT_REGIONS_MAX (length regions), TooManyRegions) ∷ []
 tests setup draft (SetInfiniteHitRegion t i) = names_transform draft t
-tests setup draft (SetContent t c) = names_transform draft t ++ (not (c.0 == 0) && is_none (content_of draft c), UnknownContent) ∷ []
+tests setup draft (SetContent t c) = names_transform draft t
+    ++ (not (c.0 == 0) && is_none (content_of draft c), UnknownContent) ∷ []
 tests setup draft Clear = []
 
 -- the reason by which a call is a misuse

@@ -21,14 +21,16 @@ use Rattle.flat_scene.specs.Trees.{more, nodes, node_count, viewports_in}
 
 -- a content as the tree shows it: a filled rectangle without a size isn't shown
 abbrev pub shown_content : ℕ → Made → Option Content
-shown_content serial (an_image i) = Some (content.Image serial i.buffers i.index i.sample i.destination.0 i.destination.1 i.blend i.flip i.opacity)
+shown_content serial (an_image i) =
+    Some (content.Image serial i.buffers i.index i.sample i.destination.0 i.destination.1 i.blend i.flip i.opacity)
 shown_content serial (a_fill (Some solid)) = Some (content.Fill serial solid.rgba solid.size.0 solid.size.1)
 shown_content serial (a_fill None) = None
 shown_content serial (a_viewport pair props) = Some (content.Viewport serial pair props)
 
 -- the content of a serial that a transform may hold
 abbrev pub content_held : Draft → Option ℕ → Option Content
-content_held draft held = option_and_then (λ serial. option_and_then (shown_content serial) (of_serial draft.contents serial)) held
+content_held draft held =
+    option_and_then (λ serial. option_and_then (shown_content serial) (of_serial draft.contents serial)) held
 
 -- the hit regions of a transform: of the root the infinite one, where none were ever set
 abbrev pub regions_of : Bool → Option (List HitRegion) → List HitRegion
@@ -58,7 +60,8 @@ each node_of (serial ∷ serials) = option_and_then (λ n. option_map (more n) (
 abbrev pub node_within : ℕ → Draft → Bool → ℕ → Option Node
 node_within zero draft is_root serial = None
 node_within (suc levels) draft is_root serial =
-    option_and_then (λ t. option_map (node draft is_root serial t) (each (node_within levels draft false) t.children)) (of_serial draft.transforms serial)
+    option_and_then (λ t. option_map (node draft is_root serial t) (each (node_within levels draft false) t.children))
+    (of_serial draft.transforms serial)
 
 -- the serials of a transform's children
 abbrev pub children_at : Draft → ℕ → List ℕ
@@ -90,11 +93,16 @@ shows_twice None = false
 -- what is asked of the tree at a present, in the order of the reasons
 abbrev pub tree_tests : Draft → List Test
 tree_tests draft =
-    (is_cyclic draft, Cycle) ∷ (is_too_large (all_nodes draft), TreeTooLarge) ∷ (shows_twice (all_nodes draft), ViewportTwice) ∷ []
+    (is_cyclic draft, Cycle) ∷ (is_too_large (all_nodes draft), TreeTooLarge)
+    ∷ (shows_twice (all_nodes draft), ViewportTwice) ∷ []
 
 -- and then of the present's fences
 abbrev pub present_tests : Draft → PresentArgs → List Test
-present_tests draft args = tree_tests draft ++ (nat_lt FENCES_PER_LIST_MAX (length args.acquire) || nat_lt FENCES_PER_LIST_MAX (length args.release), TooManyFences) ∷ []
+present_tests draft args = tree_tests draft
+    ++ (
+      nat_lt FENCES_PER_LIST_MAX (length args.acquire) || nat_lt FENCES_PER_LIST_MAX (length args.release),
+      TooManyFences,
+    ) ∷ []
 
 -- a viewport as it is used
 abbrev pub use_in : ℕ → Made → Option ViewportUse
@@ -111,7 +119,9 @@ head_of all = slice_get (nodes all) 0
 
 -- the tree to which a draft unfolds, where no path is too long
 abbrev pub unfolded : Draft → Option Tree
-unfolded draft = option_map (λ all. record { view = draft.view; root = head_of all; viewports = filter_map (use_of draft) draft.viewports }) (all_nodes draft)
+unfolded draft = option_map (λ all.
+    record { view = draft.view; root = head_of all; viewports = filter_map (use_of draft) draft.viewports })
+    (all_nodes draft)
 
 -- the tree that a draft presents: there is none where a test of the tree gives a reason
 abbrev pub tree : Draft → Option Tree

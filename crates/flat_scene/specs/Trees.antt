@@ -11,9 +11,11 @@ use Rattle.flat_scene.specs.declared.trees.Children.{end_of-Children}
 use Rattle.flat_scene.specs.declared.trees.Children.TheVariants.{Empty}
 
 -- children that begin with a node of these fields
-pattern abbrev pub first : ℕ → ℕ × ℕ → Orientation → ℤ × ℤ → Option IntRect → ℕ → List HitRegion → Option Content → Children → Children → Children
+pattern abbrev pub first : ℕ → ℕ × ℕ → Orientation → ℤ × ℤ → Option IntRect → ℕ → List HitRegion → Option Content
+    → Children → Children → Children
 first serial scale turn place clip opacity hits content children rest =
-    More' tt (more_of-Node serial scale turn place clip opacity hits content children end_of-Node) tt (more_of-Children rest end_of-Children)
+    More' tt (more_of-Node serial scale turn place clip opacity hits content children end_of-Node) tt
+    (more_of-Children rest end_of-Children)
 
 -- the same, of a node
 abbrev pub more : Node → Children → Children
@@ -25,7 +27,17 @@ abbrev pub fold_nodes : {A : Type 0} → (Node → A → A → A) → A → Chil
 fold_nodes step empty Empty = empty
 fold_nodes step empty (first serial scale turn place clip opacity hits content children rest) =
     step
-    (record { serial = serial; scale = scale; turn = turn; place = place; clip = clip; opacity = opacity; hits = hits; content = content; children = children })
+    (record {
+      serial = serial;
+      scale = scale;
+      turn = turn;
+      place = place;
+      clip = clip;
+      opacity = opacity;
+      hits = hits;
+      content = content;
+      children = children;
+    })
     (fold_nodes step empty children) (fold_nodes step empty rest)
 
 -- the children, in order

@@ -47,7 +47,8 @@ lines_read n sofar (line ∷ lines) = go_on (line_read n sofar line) n (λ next.
 -- has a script or a fault, and none has both.
 abbrev pub text_read : List ℕ → Result Script ScriptFault
 text_read bytes =
-    if nat_lt SCRIPT_BYTES_MAX (length bytes) then Err (record { line = 0; kind = TooLong }) else lines_read 1 (Start, empty) (lines_of bytes)
+    if nat_lt SCRIPT_BYTES_MAX (length bytes) then Err (record { line = 0; kind = TooLong })
+    else lines_read 1 (Start, empty) (lines_of bytes)
 
 -- the text has this script
 abbrev pub IsScript : List ℕ → Script → Type 0

@@ -54,7 +54,8 @@ abbrev pub host : List Line
 host = opening 1 ++ flat_map (λ i. node 1 i ++ viewport i) (from_to 2 8) ++ present 1 0 ∷ []
 
 abbrev pub guest : ℕ → List Line
-guest i = opening i ++ flat_map (λ j. node i j ++ move i j (3 * j) (2 * j) ∷ fill i j) (from_to 2 33) ++ present i 0 ∷ []
+guest i = opening i ++ flat_map (λ j. node i j ++ move i j (3 * j) (2 * j) ∷ fill i j) (from_to 2 33)
+    ++ present i 0 ∷ []
 
 abbrev pub frame : ℕ → List Line
 frame k = (codes "display" ∷ codes "begin" ∷ number k ∷ []) ∷ (codes "display" ∷ codes "done" ∷ []) ∷ []

@@ -14,7 +14,8 @@ use Rattle.flat_texts.specs.declared.damage.FrameDamages.{FrameDamages}
 -- The damage of each frame: from the draw list before it to its own. Before the first of them this one is shown.
 pub data AreDamaged : List DrawItem → List FrameOut → List Damaged → Type 0 where
   none : {before : List DrawItem} → AreDamaged before [] []
-  next : {before : List DrawItem} {frame : FrameOut} {frames : List FrameOut} {one : Damaged} {later : List Damaged} → one.frame ≡ frame.frame → IsDamage before frame.items one.rects
+  next : {before : List DrawItem} {frame : FrameOut} {frames : List FrameOut} {one : Damaged} {later : List Damaged}
+      → one.frame ≡ frame.frame → IsDamage before frame.items one.rects
       → AreDamaged frame.items frames later → AreDamaged before (frame ∷ frames) (one ∷ later)
 
 -- ---- the text

@@ -38,9 +38,23 @@ pub record Painting : Type 0 where
 -- what the content of a node of that opacity paints; a viewport paints nothing
 abbrev pub painting_of : ℕ → Option Content → Option Painting
 painting_of seen (Some (content.Fill serial rgba w h)) =
-    Some (record { serial = serial; paint = paint.Fill rgba; w = w; h = h; opacity = seen; blend = blend_of_colour rgba })
+    Some (record {
+      serial = serial;
+      paint = paint.Fill rgba;
+      w = w;
+      h = h;
+      opacity = seen;
+      blend = blend_of_colour rgba;
+    })
 painting_of seen (Some (content.Image serial buffers index sample w h blend flip opacity)) =
-    Some (record { serial = serial; paint = paint.Image buffers index sample flip; w = w; h = h; opacity = seen_through seen opacity; blend = blend })
+    Some (record {
+      serial = serial;
+      paint = paint.Image buffers index sample flip;
+      w = w;
+      h = h;
+      opacity = seen_through seen opacity;
+      blend = blend;
+    })
 painting_of seen _ = None
 
 -- the part of the display that a rectangle of that size covers at a node

@@ -33,7 +33,8 @@ is_view_of p (Some q) = q == p
 abbrev pub viewer_from : ℕ → Shown → ℕ → Option Viewer
 viewer_from s [] p = None
 viewer_from s (state ∷ states) p =
-    if is_view_of p (view_of state) then Some (record { session = s; nodes = nodes_of state }) else viewer_from (s + 1) states p
+    if is_view_of p (view_of state) then Some (record { session = s; nodes = nodes_of state })
+    else viewer_from (s + 1) states p
 
 -- below a viewport stands what its pair leads to; below another content nothing does
 abbrev pub linked_to : (ℕ → JoinedTree) → Option Content → JoinedTree

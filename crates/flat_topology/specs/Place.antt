@@ -56,7 +56,8 @@ viewport_rect matrix props = mapped_rect matrix (sized_rect props.w props.h)
 
 -- the space of the child view below a viewport, which is cut by the viewport's rectangle
 abbrev pub linked_space : Space → Option Content → Space
-linked_space here (Some (content.Viewport serial pair props)) = record here { clip = shared_part here.clip (viewport_rect here.matrix props) }
+linked_space here (Some (content.Viewport serial pair props)) =
+    record here { clip = shared_part here.clip (viewport_rect here.matrix props) }
 linked_space here _ = here
 
 -- a node of a session in its space

@@ -29,7 +29,8 @@ viewport_bounds at = content_bounds at at.content
 abbrev pub views_in : Option SessionNo → Rect → Space → JoinedTree → List ViewNode
 views_in parent bounds outer nothing = []
 views_in parent bounds outer (node s n linked below after) =
-    views_in (Some (record { 0 = s })) (viewport_bounds (placed_node s (node_space outer n) n)) (linked_space (node_space outer n) n.content) linked
+    views_in (Some (record { 0 = s })) (viewport_bounds (placed_node s (node_space outer n) n))
+    (linked_space (node_space outer n) n.content) linked
     ++ (views_in parent bounds (node_space outer n) below ++ views_in parent bounds outer after)
 views_in parent bounds outer (child_view s root) =
     record { session = record { 0 = s }; parent = parent; bounds = bounds } ∷ views_in parent bounds outer root
@@ -41,7 +42,8 @@ view_nodes setup shown = views_in None (display_rect setup) (display_space setup
 -- the sessions that have a view but are not connected, in order
 abbrev pub apart_sessions : Setup → Shown → (ℕ → Bool) → List SessionNo
 apart_sessions setup shown has_view =
-    map (λ s. record { 0 = s }) (filter (λ s. has_view s && not (is_joined setup shown s)) (range_with_len 1 setup.sessions))
+    map (λ s. record { 0 = s })
+    (filter (λ s. has_view s && not (is_joined setup shown s)) (range_with_len 1 setup.sessions))
 
 -- the view tree, where this tells which sessions are open and made a view whose end isn't lost
 abbrev pub view_tree : Setup → Shown → (ℕ → Bool) → ViewTree

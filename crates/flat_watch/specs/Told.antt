@@ -10,7 +10,8 @@ use Rattle.flat_scene.specs.declared.journal.Told.TheVariants as tell
 abbrev pub same_layout : Layout → Layout → Bool
 same_layout a b =
     a.w == b.w && a.h == b.h && a.ratio == b.ratio
-    && a.inset.top == b.inset.top && a.inset.right == b.inset.right && a.inset.bottom == b.inset.bottom && a.inset.left == b.inset.left
+    && a.inset.top == b.inset.top && a.inset.right == b.inset.right && a.inset.bottom == b.inset.bottom
+    && a.inset.left == b.inset.left
 
 abbrev pub same_told : Told → Told → Bool
 same_told (tell.Layout a) (tell.Layout b) = same_layout a b
