@@ -244,26 +244,6 @@ fn push_happenings(
     }
 }
 
-fn push_text(
-    page: &mut Page,
-    alloc: Global,
-    sessions: u32,
-    names: &NameList,
-    dones: &[u32],
-    frames: &[FrameOut],
-    lines: &[FocusLine],
-) -> Result<(), NoMemory>
-    requires { AreFew sessions frames.now }
-    ensures { OnOk result (WritesLines (all_lines (lines_with names.now) after (unfocused sessions)
-        (merged (λ line. line.number) dones.now frames.now lines.now) ++ end_line (length lines.now)
-        ∷ []) page.old page.new) }
-{
-    let mut focus = Focus::new(alloc, sessions)?;
-    push_happenings(page, names, &mut focus, dones, frames, lines)?;
-    page.ends(b"focus", b"requests", lines.len())?;
-    Ok(())
-}
-
 /// The focus text of finished frames and of lines that ask, in memory of its own.
 /// `dones` are the numbers of the lines that finished the frames, and `names` those
 /// of the sessions.
@@ -280,6 +260,8 @@ pub fn print_focus(
         ≡ focus_text names.now dones.now frames.now lines.now) }
 {
     let mut page = Page::new(alloc);
-    push_text(&mut page, alloc, sessions, names, dones, frames, lines)?;
+    let mut focus = Focus::new(alloc, sessions)?;
+    push_happenings(&mut page, names, &mut focus, dones, frames, lines)?;
+    page.ends(b"focus", b"requests", lines.len())?;
     Ok(page.into_text())
 }

@@ -3,7 +3,11 @@ ghost use Rattle.flat_base.specs.declared.ids.SessionNo.{SessionNo};
 ghost use Rattle.flat_text.specs.Pieces.{is_space};
 ghost use Rattle.flat_text.specs.Left.{pieces_left};
 ghost use Rattle.flat_places.specs.declared.script.Script.{Script};
-ghost use Rattle.flat_forms.specs.declared.calls.CallName.TheVariants.{SetTranslation, SetScale, CreateViewport};
+ghost use Rattle.flat_forms.specs.declared.calls.CallName.TheVariants.{SetTranslation, SetOrientation, SetScale};
+ghost use Rattle.flat_forms.specs.declared.calls.CallName.TheVariants.{SetOpacity, SetClipBoundary};
+ghost use Rattle.flat_forms.specs.declared.calls.CallName.TheVariants.{AddChild, RemoveChild};
+ghost use Rattle.flat_forms.specs.declared.calls.CallName.TheVariants.{SetInfiniteHitRegion, SetContent};
+ghost use Rattle.flat_forms.specs.declared.calls.CallName.TheVariants.{CreateViewport};
 ghost use Rattle.flat_forms.specs.declared.calls.CallName.TheVariants.{SetViewportProperties, CreateImage};
 ghost use Rattle.flat_forms.specs.declared.calls.CallName.TheVariants.{SetImageDestinationSize, SetSolidFill};
 ghost use Rattle.flat_places.specs.Forms.{whole};
@@ -64,27 +68,12 @@ fn fields(
             t: places.transform(),
         }),
         CallName::SetTranslation => Ok(set_translation(places)),
-        CallName::SetOrientation => Ok(Call::SetOrientation {
-            t: places.transform(),
-            o: places.orientation(),
-        }),
+        CallName::SetOrientation => Ok(set_orientation(places)),
         CallName::SetScale => Ok(set_scale(places)),
-        CallName::SetOpacity => Ok(Call::SetOpacity {
-            t: places.transform(),
-            v: places.u32(),
-        }),
-        CallName::SetClipBoundary => Ok(Call::SetClipBoundary {
-            t: places.transform(),
-            rect: places.clip(),
-        }),
-        CallName::AddChild => Ok(Call::AddChild {
-            p: places.transform(),
-            k: places.transform(),
-        }),
-        CallName::RemoveChild => Ok(Call::RemoveChild {
-            p: places.transform(),
-            k: places.transform(),
-        }),
+        CallName::SetOpacity => Ok(set_opacity(places)),
+        CallName::SetClipBoundary => Ok(set_clip_boundary(places)),
+        CallName::AddChild => Ok(add_child(places)),
+        CallName::RemoveChild => Ok(remove_child(places)),
         CallName::ReplaceChildren => Ok(Call::ReplaceChildren {
             p: places.transform(),
             children: places.transforms(alloc)?,
@@ -96,14 +85,8 @@ fn fields(
             t: places.transform(),
             regions: places.regions(alloc)?,
         }),
-        CallName::SetInfiniteHitRegion => Ok(Call::SetInfiniteHitRegion {
-            t: places.transform(),
-            i: places.interaction(),
-        }),
-        CallName::SetContent => Ok(Call::SetContent {
-            t: places.transform(),
-            c: places.content(),
-        }),
+        CallName::SetInfiniteHitRegion => Ok(set_infinite_hit_region(places)),
+        CallName::SetContent => Ok(set_content(places)),
         CallName::Clear => Ok(Call::Clear),
         _ => Ok(content_fields(places, script, session, name)),
     }
@@ -163,6 +146,15 @@ fn set_translation(places: &mut Places) -> Call
     Call::SetTranslation { t, x, y }
 }
 
+fn set_orientation(places: &mut Places) -> Call
+    ensures { (s : Script) (a : SessionNo) → Reads (call_form s a SetOrientation) places.old
+        places.new result }
+{
+    let t = places.transform();
+    let o = places.orientation();
+    Call::SetOrientation { t, o }
+}
+
 fn set_scale(places: &mut Places) -> Call
     ensures { (s : Script) (a : SessionNo) → Reads (call_form s a SetScale) places.old places.new
         result }
@@ -171,6 +163,60 @@ fn set_scale(places: &mut Places) -> Call
     let sx = places.u32();
     let sy = places.u32();
     Call::SetScale { t, sx, sy }
+}
+
+fn set_opacity(places: &mut Places) -> Call
+    ensures { (s : Script) (a : SessionNo) → Reads (call_form s a SetOpacity) places.old places.new
+        result }
+{
+    let t = places.transform();
+    let v = places.u32();
+    Call::SetOpacity { t, v }
+}
+
+fn set_clip_boundary(places: &mut Places) -> Call
+    ensures { (s : Script) (a : SessionNo) → Reads (call_form s a SetClipBoundary) places.old
+        places.new result }
+{
+    let t = places.transform();
+    let rect = places.clip();
+    Call::SetClipBoundary { t, rect }
+}
+
+fn add_child(places: &mut Places) -> Call
+    ensures { (s : Script) (a : SessionNo) → Reads (call_form s a AddChild) places.old places.new
+        result }
+{
+    let p = places.transform();
+    let k = places.transform();
+    Call::AddChild { p, k }
+}
+
+fn remove_child(places: &mut Places) -> Call
+    ensures { (s : Script) (a : SessionNo) → Reads (call_form s a RemoveChild) places.old places.new
+        result }
+{
+    let p = places.transform();
+    let k = places.transform();
+    Call::RemoveChild { p, k }
+}
+
+fn set_infinite_hit_region(places: &mut Places) -> Call
+    ensures { (s : Script) (a : SessionNo) → Reads (call_form s a SetInfiniteHitRegion) places.old
+        places.new result }
+{
+    let t = places.transform();
+    let i = places.interaction();
+    Call::SetInfiniteHitRegion { t, i }
+}
+
+fn set_content(places: &mut Places) -> Call
+    ensures { (s : Script) (a : SessionNo) → Reads (call_form s a SetContent) places.old places.new
+        result }
+{
+    let t = places.transform();
+    let c = places.content();
+    Call::SetContent { t, c }
 }
 
 fn create_viewport(places: &mut Places, script: &Indexed, session: SessionNo) -> Call

@@ -130,7 +130,7 @@ fn push_longer(page: &mut Page, script: &Script, call: &Call) -> Result<(), NoMe
             w,
             h,
             inset,
-        } => push_viewport(page, script, c.0, *pair, *w, *h, *inset),
+        } => push_viewport(page, script, c.0, *pair, (*w, *h), *inset),
         Call::SetViewportProperties { c, w, h, inset } => push_properties(
             page, c.0, *w, *h, *inset,
         ),
@@ -140,7 +140,7 @@ fn push_longer(page: &mut Page, script: &Script, call: &Call) -> Result<(), NoMe
             i,
             w,
             h,
-        } => push_image(page, script, c.0, *buffers, *i, *w, *h),
+        } => push_image(page, script, c.0, *buffers, *i, (*w, *h)),
         Call::SetImageSampleRegion { c, rect } => push_sample(page, c.0, *rect),
         Call::SetSolidFill {
             c,
@@ -150,7 +150,12 @@ fn push_longer(page: &mut Page, script: &Script, call: &Call) -> Result<(), NoMe
             a,
             w,
             h,
-        } => push_fill(page, c.0, *r, *g, *b, *a, *w, *h),
+        } => push_numbers(
+            page,
+            &[
+                c.0, *r as u64, *g as u64, *b as u64, *a as u64, *w as u64, *h as u64,
+            ],
+        ),
         Call::SetHitRegions { t, regions } => push_hit_regions(page, t.0, regions.as_slice()),
         _ => unreachable!(),
     }
@@ -174,21 +179,21 @@ fn push_clip(page: &mut Page, t: u64, rect: Option<IntRect>) -> Result<(), NoMem
     Ok(())
 }
 
+/// The fields of CreateViewport, whose `size` is its width and its height.
 fn push_viewport(
     page: &mut Page,
     script: &Script,
     c: u64,
     pair: PairNo,
-    w: u32,
-    h: u32,
+    size: (u32, u32),
     inset: Inset,
 ) -> Result<(), NoMemory>
-    ensures { OnOk result (Writes (decimal c ∷ pair_word script.now pair ∷ numbers (w ∷ h ∷ [])
-        ++ inset_unless_none inset) page.old page.new) }
+    ensures { OnOk result (Writes (decimal c ∷ pair_word script.now pair
+        ∷ numbers (size.0 ∷ size.1 ∷ []) ++ inset_unless_none inset) page.old page.new) }
 {
     page.count(c)?;
     page.word(name_at(&script.pairs, pair.0 as usize))?;
-    push_numbers(page, &[w as u64, h as u64])?;
+    push_numbers(page, &[size.0 as u64, size.1 as u64])?;
     push_inset_unless_none(page, inset)?;
     Ok(())
 }
@@ -208,21 +213,21 @@ fn push_properties(
     Ok(())
 }
 
+/// The fields of CreateImage; `i` is the index of its buffer, and `size` its width and its height.
 fn push_image(
     page: &mut Page,
     script: &Script,
     c: u64,
     buffers: BufferNo,
     i: u32,
-    w: u32,
-    h: u32,
+    size: (u32, u32),
 ) -> Result<(), NoMemory>
     ensures { OnOk result (Writes (decimal c ∷ buffers_word script.now buffers
-        ∷ numbers (i ∷ w ∷ h ∷ [])) page.old page.new) }
+        ∷ numbers (i ∷ size.0 ∷ size.1 ∷ [])) page.old page.new) }
 {
     page.count(c)?;
     page.word(name_at(&script.buffers, buffers.0 as usize))?;
-    push_numbers(page, &[i as u64, w as u64, h as u64])?;
+    push_numbers(page, &[i as u64, size.0 as u64, size.1 as u64])?;
     Ok(())
 }
 
@@ -232,27 +237,6 @@ fn push_sample(page: &mut Page, c: u64, rect: IntRect) -> Result<(), NoMemory>
     page.count(c)?;
     push_rect(page, rect)?;
     Ok(())
-}
-
-fn push_fill(
-    page: &mut Page,
-    c: u64,
-    r: u8,
-    g: u8,
-    b: u8,
-    a: u8,
-    w: u32,
-    h: u32,
-) -> Result<(), NoMemory>
-    ensures { OnOk result (Writes (numbers (c ∷ r ∷ g ∷ b ∷ a ∷ w ∷ h ∷ [])) page.old
-        page.new) }
-{
-    push_numbers(
-        page,
-        &[
-            c, r as u64, g as u64, b as u64, a as u64, w as u64, h as u64,
-        ],
-    )
 }
 
 fn push_hit_regions(page: &mut Page, t: u64, regions: &[HitRegion]) -> Result<(), NoMemory>

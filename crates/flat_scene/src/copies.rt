@@ -1,4 +1,4 @@
-ghost use Rattle.std.specs.Prelude.{◌≡◌, IfOk};
+ghost use Rattle.std.specs.Prelude.{◌≡◌, Bool, IfOk, false, true};
 ghost use Rattle.flat_scene.specs.declared.trees.Children.TheVariants.{More};
 
 use crate::calls::{Call, PresentArgs, RegionList};
@@ -218,64 +218,6 @@ impl TryCopy for Call {
                 children: children.copy(alloc)?,
             },
             Call::SetRootTransform { t } => Call::SetRootTransform { t },
-            Call::CreateViewport {
-                c,
-                pair,
-                w,
-                h,
-                inset,
-            } => Call::CreateViewport {
-                c,
-                pair,
-                w,
-                h,
-                inset,
-            },
-            Call::SetViewportProperties { c, w, h, inset } => Call::SetViewportProperties {
-                c,
-                w,
-                h,
-                inset,
-            },
-            Call::ReleaseViewport { c } => Call::ReleaseViewport { c },
-            Call::CreateImage {
-                c,
-                buffers,
-                i,
-                w,
-                h,
-            } => Call::CreateImage {
-                c,
-                buffers,
-                i,
-                w,
-                h,
-            },
-            Call::SetImageSampleRegion { c, rect } => Call::SetImageSampleRegion { c, rect },
-            Call::SetImageDestinationSize { c, w, h } => Call::SetImageDestinationSize { c, w, h },
-            Call::SetImageBlendingFunction { c, m } => Call::SetImageBlendingFunction { c, m },
-            Call::SetImageFlip { c, f } => Call::SetImageFlip { c, f },
-            Call::SetImageOpacity { c, v } => Call::SetImageOpacity { c, v },
-            Call::ReleaseImage { c } => Call::ReleaseImage { c },
-            Call::CreateFilledRect { c } => Call::CreateFilledRect { c },
-            Call::SetSolidFill {
-                c,
-                r,
-                g,
-                b,
-                a,
-                w,
-                h,
-            } => Call::SetSolidFill {
-                c,
-                r,
-                g,
-                b,
-                a,
-                w,
-                h,
-            },
-            Call::ReleaseFilledRect { c } => Call::ReleaseFilledRect { c },
             Call::SetHitRegions { t, ref regions } => Call::SetHitRegions {
                 t,
                 regions: regions.copy(alloc)?,
@@ -283,6 +225,120 @@ impl TryCopy for Call {
             Call::SetInfiniteHitRegion { t, i } => Call::SetInfiniteHitRegion { t, i },
             Call::SetContent { t, c } => Call::SetContent { t, c },
             Call::Clear => Call::Clear,
+            Call::CreateViewport { .. } => copy_viewport_call(self),
+            Call::SetViewportProperties { .. } => copy_viewport_call(self),
+            Call::ReleaseViewport { .. } => copy_viewport_call(self),
+            Call::CreateFilledRect { .. } => copy_fill_call(self),
+            Call::SetSolidFill { .. } => copy_fill_call(self),
+            Call::ReleaseFilledRect { .. } => copy_fill_call(self),
+            _ => copy_image_call(self),
         })
+    }
+}
+
+/// The same call on a viewport.
+fn copy_viewport_call(call: &Call) -> Call
+    requires { elim call.now as (λ v. Bool) [
+      | Call.CreateViewport c pair w h inset ↦ true
+      | Call.SetViewportProperties c w h inset ↦ true
+      | Call.ReleaseViewport c ↦ true
+      | _ ↦ false
+    ] ≡ true }
+    ensures { result ≡ call.now }
+{
+    match *call {
+        Call::CreateViewport {
+            c,
+            pair,
+            w,
+            h,
+            inset,
+        } => Call::CreateViewport {
+            c,
+            pair,
+            w,
+            h,
+            inset,
+        },
+        Call::SetViewportProperties { c, w, h, inset } => Call::SetViewportProperties {
+            c,
+            w,
+            h,
+            inset,
+        },
+        Call::ReleaseViewport { c } => Call::ReleaseViewport { c },
+        _ => unreachable!(),
+    }
+}
+
+/// The same call on an image.
+fn copy_image_call(call: &Call) -> Call
+    requires { elim call.now as (λ v. Bool) [
+      | Call.CreateImage c buffers i w h ↦ true
+      | Call.SetImageSampleRegion c rect ↦ true
+      | Call.SetImageDestinationSize c w h ↦ true
+      | Call.SetImageBlendingFunction c m ↦ true
+      | Call.SetImageFlip c f ↦ true
+      | Call.SetImageOpacity c v ↦ true
+      | Call.ReleaseImage c ↦ true
+      | _ ↦ false
+    ] ≡ true }
+    ensures { result ≡ call.now }
+{
+    match *call {
+        Call::CreateImage {
+            c,
+            buffers,
+            i,
+            w,
+            h,
+        } => Call::CreateImage {
+            c,
+            buffers,
+            i,
+            w,
+            h,
+        },
+        Call::SetImageSampleRegion { c, rect } => Call::SetImageSampleRegion { c, rect },
+        Call::SetImageDestinationSize { c, w, h } => Call::SetImageDestinationSize { c, w, h },
+        Call::SetImageBlendingFunction { c, m } => Call::SetImageBlendingFunction { c, m },
+        Call::SetImageFlip { c, f } => Call::SetImageFlip { c, f },
+        Call::SetImageOpacity { c, v } => Call::SetImageOpacity { c, v },
+        Call::ReleaseImage { c } => Call::ReleaseImage { c },
+        _ => unreachable!(),
+    }
+}
+
+/// The same call on a filled rectangle.
+fn copy_fill_call(call: &Call) -> Call
+    requires { elim call.now as (λ v. Bool) [
+      | Call.CreateFilledRect c ↦ true
+      | Call.SetSolidFill c r g b a w h ↦ true
+      | Call.ReleaseFilledRect c ↦ true
+      | _ ↦ false
+    ] ≡ true }
+    ensures { result ≡ call.now }
+{
+    match *call {
+        Call::CreateFilledRect { c } => Call::CreateFilledRect { c },
+        Call::SetSolidFill {
+            c,
+            r,
+            g,
+            b,
+            a,
+            w,
+            h,
+        } => Call::SetSolidFill {
+            c,
+            r,
+            g,
+            b,
+            a,
+            w,
+            h,
+        },
+        Call::ReleaseFilledRect { c } => Call::ReleaseFilledRect { c },
+        _ => unreachable!(),
     }
 }
