@@ -30,7 +30,7 @@ use Rattle.flat_rules.specs.Legal.{Legal}
 use Rattle.flat_rules.specs.Lasts.{last_from}
 use Rattle.flat_states.specs.Presents.{TookReady, frame_takes}
 use Rattle.flat_states.specs.Seen.{Seen, seen_of}
-use Rattle.flat_gets.proofs.lemmas.Begun.{seen-begun-open, takes-same, front, kept-ready, then-same}
+use Rattle.flat_states.proofs.lemmas.Begun.{seen-begun-open, takes-same, front, kept-ready, then-same}
 use Rattle.flat_scene.proofs.lemmas.TakingLemmas.{taken-up-to}
 use Rattle.flat_states.proofs.lemmas.Counts.{kept-waiting}
 use Rattle.flat_facts.proofs.lemmas.Between.{events-between}

@@ -17,7 +17,7 @@ use Rattle.flat_rules.specs.Legal.{Legal, is_frame_open}
 use Rattle.flat_rules.specs.Posts.{told_event, events_to, news_for, frame_took, tokens_back, up_to}
 use Rattle.flat_links.specs.Viewports.{AreViewports, back_events}
 use Rattle.flat_rules.specs.Watch.{layout_of, status_of, child_of}
-use Rattle.flat_gets.proofs.lemmas.ViewportUses.{tokens-finish}
+use Rattle.flat_links.proofs.lemmas.ViewportUses.{tokens-finish}
 use Rattle.flat_rules.proofs.lemmas.Watchers.{is_held, layouts-held, statuses-held, children-held}
 use Rattle.flat_rules.proofs.lemmas.ListLemmas.{flat-each}
 

@@ -17,3 +17,5 @@ pub mod Starting
 pub mod TiesCalls
 pub mod TiesRun
 pub mod UseSteps
+pub mod FinishPosts
+pub mod TellingSteps

@@ -27,7 +27,7 @@ use Rattle.flat_rules.specs.Posts.{events_to}
 use Rattle.flat_rules.specs.AllPosts.{posts}
 use Rattle.flat_states.specs.Seen.{seen_of, account_of, polled_at}
 use Rattle.flat_states.proofs.lemmas.BeginLoop.{flat-on}
-use Rattle.flat_gets.proofs.lemmas.BoardBegins.{posts-all}
+use Rattle.flat_states.proofs.lemmas.BoardBegins.{posts-all}
 use Rattle.flat_states.proofs.lemmas.Changes.{is-session, kept-account}
 use Rattle.flat_rules.proofs.lemmas.Quiet.{closed-quiet, presents-quiet, taken-quiet, going-quiet, took-quiet}
 

@@ -45,18 +45,19 @@ use Rattle.flat_states.specs.Presents.{use_reply}
 use Rattle.flat_states.proofs.lemmas.Heard.{after_viewport}
 use Rattle.flat_states.specs.Seen.{seen_of}
 use Rattle.flat_links.specs.Viewports.{AreViewports, out_of, outs_of}
-use Rattle.flat_gets.specs.Watchers.{IsJoin, IsTelling, is_shut}
+use Rattle.flat_gets.specs.Watchers.{IsJoin, is_shut}
+use Rattle.flat_core.specs.Telling.{IsTelling}
 use Rattle.flat_states.specs.declared.port.DisplayPort.{DisplayPort}
 use Rattle.flat_states.specs.Ports.{port_of}
 use Rattle.flat_core.proofs.DisplayRatios.{port-kept, ratios-kept}
 use Rattle.flat_states.proofs.lemmas.Changes.{IsPlainOne, is-session, kept-closed, seen-closed, seen-plain}
 use Rattle.flat_states.proofs.lemmas.Counts.{at-session, declared-some, kept-session, few-if}
-use Rattle.flat_gets.proofs.lemmas.EndSteps.{ends-one, links-made, viewports-closed}
+use Rattle.flat_links.proofs.lemmas.EndSteps.{ends-one, links-made, viewports-closed}
 use Rattle.flat_facts.proofs.lemmas.HasView.{found, any-found}
 use Rattle.flat_states.proofs.lemmas.Ones.{declared-of, each-one}
 use Rattle.flat_states.proofs.lemmas.Steps.{legal-entered, room-entered, stands-entered, unchanged}
 use Rattle.flat_facts.proofs.lemmas.TokensBack.{any-flat, pair-is}
-use Rattle.flat_gets.proofs.lemmas.ViewportUses.{viewports-used}
+use Rattle.flat_links.proofs.lemmas.ViewportUses.{viewports-used}
 use Rattle.std.proofs.lemmas.Bool.{not-true, and_right, and_parts}
 use Rattle.std.specs.Cmp.{both_ways}
 use Rattle.flat_facts.proofs.lemmas.Between.{viewport-nested}

@@ -5,3 +5,5 @@ pub mod Starts
 pub mod Views
 pub use Rattle.flat_states.specs.Machines
 pub use Rattle.flat_gets.specs.Watchers
+pub mod Dues
+pub mod Telling

@@ -72,7 +72,7 @@ pub struct Board {
 impl Model for Board {
     ghost use Rattle.flat_states.specs.Machines.{Machine, Stands, HasRoom};
     ghost use Rattle.flat_links.specs.AllEnds.{AreEnds};
-    ghost use Rattle.flat_gets.specs.Dues.{all_due};
+    ghost use Rattle.flat_core.specs.Dues.{all_due};
     ghost use Rattle.flat_links.specs.Following.{AreTied};
     ghost use Rattle.flat_gets.specs.Watchers.{AreWatched};
 

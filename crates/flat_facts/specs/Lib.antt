@@ -4,3 +4,5 @@ pub mod Contents
 pub mod Laws
 pub mod Lives
 pub mod Views
+pub mod Pairs
+pub mod Told

@@ -22,9 +22,9 @@ use Rattle.flat_gets.specs.Gets.{hears}
 use Rattle.flat_gets.specs.Pairs.{AreAt, former_gets, still_waiting}
 use Rattle.flat_gets.specs.Watchers.{reached}
 use Rattle.flat_facts.proofs.lemmas.ViewHistory.{same-session}
-use Rattle.flat_links.specs.Hearing.{TellsTheSame}
+use Rattle.flat_facts.specs.Told.{TellsTheSame}
 use Rattle.flat_rules.proofs.lemmas.Still.{rests}
-use Rattle.flat_gets.proofs.GetHistory.{hears-open}
+use Rattle.flat_gets.proofs.lemmas.GetHistory.{hears-open}
 use Rattle.flat_gets.proofs.GetSteps.{idle-kind}
 use Rattle.flat_gets.proofs.WatchFacts.{heard-shut, no-use, rests-shut, undeclared-waits}
 use Rattle.flat_gets.proofs.WatchedPairs.{formers-same, formers-settled, quiet-settled, reach-after, reach-before, reach-other}

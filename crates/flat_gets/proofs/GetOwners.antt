@@ -23,7 +23,7 @@ use Rattle.flat_rules.specs.Legal.{Legal, MayEnter, is_link, owns_view, owns_vie
 use Rattle.flat_rules.specs.Serials.{contents_made, serials_in}
 use Rattle.flat_rules.specs.Shown.{is_pair}
 use Rattle.flat_rules.specs.Watch.{Watcher, layout_of, status_of, child_of, asked, listener, watcher_of, watcher_in, watcher_of_made, is_watcher, same_watcher}
-use Rattle.flat_gets.proofs.GetHistory.{owner-hears}
+use Rattle.flat_gets.proofs.lemmas.GetHistory.{owner-hears}
 use Rattle.flat_facts.proofs.lemmas.LiveCounts.{made-append}
 use Rattle.flat_facts.proofs.lemmas.Lives.{pair_made}
 use Rattle.flat_rules.proofs.lemmas.Owned.{IsOwned, draft-owned, made_owned, view_owned}

@@ -34,7 +34,7 @@ use Rattle.flat_rules.specs.Watch.{Watcher, layout_of, status_of, child_of, watc
 use Rattle.flat_facts.proofs.lemmas.Between.{is_viewport, fresh-view}
 use Rattle.flat_rules.proofs.lemmas.EventsLocal.{rest-none, flat-none}
 use Rattle.flat_rules.proofs.lemmas.AllOrSome.{flat-nested}
-use Rattle.flat_gets.proofs.GetHistory.{event-after, hears-open, told-part, watchers-heard}
+use Rattle.flat_gets.proofs.lemmas.GetHistory.{event-after, hears-open, told-part, watchers-heard}
 use Rattle.flat_rules.proofs.lemmas.Still.{IsStill, watching-same, child-rests}
 use Rattle.flat_facts.proofs.lemmas.Unwatched.{unwatched, is_layout, is_status}
 use Rattle.flat_facts.proofs.lemmas.ViewHistory.{used_in}

@@ -43,7 +43,7 @@ use Rattle.flat_gets.specs.Listed.{view_waits, viewport_waits}
 use Rattle.flat_gets.specs.Pairs.{AreAt, IsGot, cell_at, is_child, part_of, waiting_in, watcher_at}
 use Rattle.flat_gets.specs.Watchers.{AreWatched, IsAsked, answers_in, is_held, told_and_due, watcher_meant}
 use Rattle.flat_base.proofs.lemmas.Tests.{none-left, none-right}
-use Rattle.flat_gets.proofs.GetHistory.{hears-open, watchers-heard}
+use Rattle.flat_gets.proofs.lemmas.GetHistory.{hears-open, watchers-heard}
 use Rattle.flat_gets.proofs.GetMeans.{get-within}
 use Rattle.flat_gets.proofs.GetOwners.{IsMeant, get-meant, get-open, meant-heard}
 use Rattle.flat_gets.proofs.GetSteps.{answers-more, quiet}

@@ -14,7 +14,7 @@ use Rattle.flat_rules.specs.Ends.{view_owner, viewport_owner, viewport_uses}
 use Rattle.flat_rules.specs.Legal.{Legal, owns_view}
 use Rattle.flat_rules.specs.Watch.{Watcher, layout_of, status_of, child_of, listener, told, watching}
 use Rattle.flat_facts.specs.Begins.{finished}
-use Rattle.flat_links.specs.Following.{pair}
+use Rattle.flat_facts.specs.Pairs.{pair}
 use Rattle.flat_gets.specs.declared.pair.FormerGet.{FormerGet}
 use Rattle.flat_gets.specs.declared.pair.PairWatchers.{PairWatchers}
 use Rattle.flat_gets.specs.Gets.{hears}
@@ -22,7 +22,7 @@ use Rattle.flat_gets.specs.Listed.{AreListed, KeptGets, is_listed, view_waits, v
 use Rattle.flat_gets.specs.Pairs.{AreAt, former_gets, still_waiting}
 use Rattle.flat_gets.specs.Watchers.{IsToldAll, reached}
 use Rattle.flat_gets.proofs.FinishSteps.{reached-uses, same-uses, tell-formers, tell-one}
-use Rattle.flat_gets.proofs.GetHistory.{owner-heard, owner-hears}
+use Rattle.flat_gets.proofs.lemmas.GetHistory.{owner-heard, owner-hears}
 use Rattle.flat_gets.proofs.PartSteps.{settled-none}
 use Rattle.flat_gets.proofs.SettledEvents.{no-formers}
 use Rattle.flat_gets.proofs.WatchLists.{view-listed, view-unlisted, viewport-listed, viewport-unlisted, waits-known}

@@ -24,7 +24,7 @@ use Rattle.flat_rules.proofs.lemmas.AllOrSome.{flat-nested}
 use Rattle.flat_rules.proofs.lemmas.EventsLocal.{views-owned, viewports-owned}
 use Rattle.flat_rules.proofs.lemmas.ListLemmas.{flat-each}
 use Rattle.flat_facts.specs.Begins.{finish_entry, finished}
-use Rattle.flat_links.specs.Following.{pair}
+use Rattle.flat_facts.specs.Pairs.{pair}
 use Rattle.flat_gets.specs.declared.pair.FormerGet.{FormerGet}
 use Rattle.flat_gets.specs.declared.pair.PairWatchers.{PairWatchers}
 use Rattle.flat_gets.specs.declared.pair.Part.TheVariants as parts
@@ -32,7 +32,7 @@ use Rattle.flat_gets.specs.Gets.{answers_to, hears, helds_of}
 use Rattle.flat_gets.specs.Listed.{AreListed, KeptGets, view_waits, viewport_waits}
 use Rattle.flat_gets.specs.Pairs.{AreAt, former_events, former_gets, former_of, former_with, part_events}
 use Rattle.flat_gets.specs.Watchers.{all_answers, part_answers, reached}
-use Rattle.flat_gets.proofs.GetHistory.{owner-hears, told-part}
+use Rattle.flat_gets.proofs.lemmas.GetHistory.{owner-hears, told-part}
 use Rattle.flat_gets.proofs.GetMeans.{view-within, viewport-within}
 use Rattle.flat_gets.proofs.WatchFacts.{unused-fresh}
 use Rattle.flat_gets.proofs.WatchLists.{waits-known}

@@ -19,7 +19,7 @@ use Rattle.flat_scene.specs.History.{◌▹◌, is_finish, is_session, own}
 use Rattle.flat_scene.specs.Setups.{is_declared}
 use Rattle.flat_watch.specs.Cells.{after_get}
 use Rattle.flat_watch.specs.Told.{Watching}
-use Rattle.flat_links.specs.Following.{pair}
+use Rattle.flat_facts.specs.Pairs.{pair}
 use Rattle.flat_facts.proofs.lemmas.Between.{is_viewport}
 use Rattle.flat_states.proofs.lemmas.Changes.{changed-one, not-session}
 use Rattle.flat_states.proofs.lemmas.Counts.{at-session, declared-some, same-number}

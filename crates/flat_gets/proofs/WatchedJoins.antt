@@ -21,12 +21,12 @@ use Rattle.flat_scene.specs.History.{◌▹◌, closes, is_closed, is_session, o
 use Rattle.flat_scene.specs.Setups.{is_declared}
 use Rattle.flat_watch.specs.Told.{Watching, answer, settled}
 use Rattle.flat_facts.specs.Begins.{post_of}
-use Rattle.flat_links.specs.Following.{pair}
+use Rattle.flat_facts.specs.Pairs.{pair}
 use Rattle.flat_states.proofs.lemmas.Changes.{changed-one}
 use Rattle.flat_states.proofs.lemmas.Counts.{at-session, declared-some, same-number}
 use Rattle.flat_rules.specs.Ends.{is_done, uses_viewport, view_owner, viewport_uses}
 use Rattle.std.proofs.lemmas.Bool.{and_right}
-use Rattle.flat_gets.proofs.lemmas.EndSteps.{number-declared}
+use Rattle.flat_states.proofs.lemmas.Lists.{number-declared}
 use Rattle.flat_rules.specs.Legal.{Legal, answers, number_if, owns_view}
 use Rattle.flat_rules.specs.Kinds.{is_get}
 use Rattle.flat_rules.specs.Numbers.{number, AllNumbered}
@@ -41,7 +41,7 @@ use Rattle.flat_gets.specs.Gets.{hears}
 use Rattle.flat_gets.specs.Listed.{AreListed, KeptGets, view_waits, viewport_waits}
 use Rattle.flat_gets.specs.Pairs.{AreAt, IsSameBut, IsStarted, former_of, former_with, waiting_in}
 use Rattle.flat_gets.specs.Watchers.{AreWatched, IsJoin, IsViewTold, TellsView, answers_in}
-use Rattle.flat_gets.proofs.GetHistory.{hears-open, owner-hears}
+use Rattle.flat_gets.proofs.lemmas.GetHistory.{hears-open, owner-hears}
 use Rattle.flat_gets.proofs.GetSteps.{idle-kind, rests-joined, rests-refused}
 use Rattle.flat_gets.proofs.lemmas.GetPosts.{closed-posts, foreign-posts, joined-posts, one-owner, refused-posts}
 use Rattle.flat_gets.proofs.PartSteps.{settled-none}

@@ -25,8 +25,8 @@ use Rattle.flat_gets.specs.declared.pair.FormerGet.{FormerGet}
 use Rattle.flat_gets.specs.declared.pair.PairWatchers.{PairWatchers}
 use Rattle.flat_gets.specs.Pairs.{AreAt, IsSameBut, IsStarted, IsUnasked, former_gets, former_of, former_with, still_waiting}
 use Rattle.flat_gets.specs.Watchers.{reached}
-use Rattle.flat_gets.proofs.GetHistory.{fresh-use, next-fresh}
-use Rattle.flat_gets.proofs.ViewportSteps.{flat-filtered}
+use Rattle.flat_gets.proofs.lemmas.GetHistory.{fresh-use, next-fresh}
+use Rattle.flat_states.proofs.lemmas.Lists.{flat-filtered}
 use Rattle.flat_gets.proofs.WatchFacts.{unused-fresh}
 
 -- ---- the children of earlier uses

@@ -26,13 +26,9 @@ use Rattle.flat_gets.specs.declared.pair.Part.{Part}
 use Rattle.flat_gets.specs.declared.pair.Part.TheVariants as parts
 use Rattle.flat_gets.specs.declared.watching.Watchers.{Watchers}
 use Rattle.flat_states.specs.declared.state.SessionState.{SessionState}
-use Rattle.flat_states.specs.declared.port.DisplayPort.{DisplayPort}
-use Rattle.flat_links.specs.declared.ties.Ties.{Ties}
 use Rattle.flat_facts.specs.Begins.{post_of}
-use Rattle.flat_states.specs.Flags.{has_end}
-use Rattle.flat_links.specs.Following.{AreTied, pair}
+use Rattle.flat_facts.specs.Pairs.{pair}
 use Rattle.flat_states.specs.Presents.{use_reply}
-use Rattle.flat_states.specs.Ports.{port_of}
 use Rattle.flat_rules.specs.Numbers.{number, AllNumbered}
 use Rattle.flat_rules.specs.Ends.{view_uses, viewport_owner, viewport_uses}
 use Rattle.flat_rules.specs.Legal.{Legal, answers, got, is_now, number_if, owns_view}
@@ -214,12 +210,3 @@ pub record IsJoin (setup : Setup) (history : List Entry) (entry : Entry) (is_hel
   pub known : p.0 < length setup.pairs
   pub opened : shut ≡ false → (is_declared setup owner ≡ true) × (is_closed owner history ≡ false)
   pub closed : shut ≡ true → (is_declared setup owner ≡ false) ⊎ (is_closed owner history ≡ true)
-
--- What is kept by which pairs tell stands for a history.
-pub record IsTelling (kept_for : Setup) (port : DisplayPort) (ties : Ties) (views : List Bool) (setup : Setup)
-    (history : List Entry) : Type 0 where
-  pub same : kept_for ≡ setup
-  pub shows : port ≡ port_of (ratio_told setup history) setup
-  pub legal : Legal setup history
-  pub tied : AreTied setup history ties.followings.items ties.pairs.items
-  pub viewed : (p : PairNo) → has_end views p ≡ nat_lt 0 (length (view_uses p history))

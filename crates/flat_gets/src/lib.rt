@@ -1,14 +1,13 @@
 //! Hanging gets of sessions: what is kept of the watchers of each pair (pair), which
 //! pairs of a session have gets that may wait (session), all of them (watching), and
-//! what pairs tell (telling).
+//! what tells the values (telling).
 //!
 //! A pair has a `Cell` of flat_watch for each of its watchers, by specs/Pairs; a session
 //! lists the pairs that it has to look at when a frame ends, by specs/Listed; `Watchers`
 //! stands for a history by `AreWatched` (specs/Watchers), over any teller (`Tells`).
 //!
 //! Other crates may cite the lemmas of proofs/lemmas/: what the board takes of gets and
-//! watchers at a get (GetPosts), at a call that uses a viewport (ViewportUses), at a begin
-//! (Begun, BoardBegins), at a done (DoneSteps, WatchingSteps) and at an End (EndSteps).
+//! watchers at an entry (GetPosts, GetHistory) and at a done (WatchingSteps).
 #![tactic(auto)]
 
 pub mod pair;

@@ -23,7 +23,8 @@ use Rattle.flat_states.specs.declared.state.Account.{Account}
 use Rattle.flat_links.specs.declared.following.Following.{Following}
 use Rattle.flat_links.specs.declared.pairs.PairState.{PairState}
 use Rattle.flat_links.specs.Clears.{cleared_if}
-use Rattle.flat_links.specs.Following.{IsOwnEntry, pair}
+use Rattle.flat_links.specs.Following.{IsOwnEntry}
+use Rattle.flat_facts.specs.Pairs.{pair}
 use Rattle.flat_links.specs.Hearing.{IsBound, is_within, losing_of, losings}
 use Rattle.flat_links.specs.Usage.{SeesUses, SettlesPairs, losing_then, settled, with_pending}
 use Rattle.flat_rules.specs.Numbers.{AllNumbered}

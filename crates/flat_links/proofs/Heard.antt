@@ -10,7 +10,7 @@ use Rattle.flat_scene.specs.declared.setup.Setup.{Setup}
 use Rattle.flat_topology.specs.Members.{is_member}
 use Rattle.flat_rules.specs.Ends.{view_owner}
 use Rattle.flat_links.specs.declared.pairs.PairState.{PairState}
-use Rattle.flat_links.specs.Following.{pair}
+use Rattle.flat_facts.specs.Pairs.{pair}
 use Rattle.flat_links.specs.Hearing.{AreSettledBut, HearsOne}
 use Rattle.flat_links.specs.Noted.{is_noted}
 

@@ -21,3 +21,5 @@ pub mod UsageSteps
 pub mod UseLast
 pub mod ViewMarks
 pub mod lemmas
+pub mod PairLaws
+pub mod ViewportSteps

@@ -13,7 +13,8 @@ use Rattle.flat_links.specs.declared.pairs.PairState.{PairState}
 use Rattle.flat_rules.specs.Numbers.{number}
 use Rattle.flat_links.specs.Hearing.{IsBound, losings}
 use Rattle.flat_links.specs.Noted.{new_pair}
-use Rattle.flat_links.specs.Following.{AreTied, IsFollowed, IsPairKept, new_following, nothing, sight_of, pair}
+use Rattle.flat_links.specs.Following.{AreTied, IsFollowed, IsPairKept, new_following, nothing, sight_of}
+use Rattle.flat_facts.specs.Pairs.{pair}
 use Rattle.flat_rules.specs.Shown.{shown, shown_states, is_connected}
 use Rattle.flat_topology.specs.Join.{viewer_from, led_to, led_from, sessions_in, join}
 use Rattle.flat_topology.specs.Pairs.{display_pair}

@@ -27,7 +27,8 @@ use Rattle.flat_links.specs.Clears.{cleared_if}
 use Rattle.flat_rules.specs.Ends.{is_done, live_props, props_of, serials_of, taken_calls, to_begin, uses_viewport, viewport_uses}
 use Rattle.flat_facts.specs.Begins.{finished}
 use Rattle.flat_facts.specs.Contents.{capped}
-use Rattle.flat_links.specs.Following.{IsOwnEntry, IsPairKept, pair, props_pending}
+use Rattle.flat_links.specs.Following.{IsOwnEntry, IsPairKept, props_pending}
+use Rattle.flat_facts.specs.Pairs.{pair}
 use Rattle.flat_rules.specs.Legal.{makes_viewport, owns_in_call, owns_all, owns_in_kind, owns_viewport, own_call}
 use Rattle.flat_facts.specs.Lives.{made_of_pair}
 use Rattle.flat_rules.specs.Serials.{IsUseSerial, contents_made, serials_in}

@@ -15,7 +15,8 @@ use Rattle.flat_rules.specs.Numbers.{number, AllNumbered}
 use Rattle.flat_rules.specs.Ends.{props_of, taken_calls, to_begin, viewport_uses}
 use Rattle.flat_links.specs.Hearing.{losings}
 use Rattle.flat_links.proofs.Bounds.{bounds-settled}
-use Rattle.flat_links.specs.Following.{AreTied, IsFollowed, IsPairKept, pair, props_pending}
+use Rattle.flat_links.specs.Following.{AreTied, IsFollowed, IsPairKept, props_pending}
+use Rattle.flat_facts.specs.Pairs.{pair}
 use Rattle.flat_rules.specs.Legal.{Legal}
 use Rattle.flat_links.specs.Usage.{SettlesPairs, settled}
 use Rattle.flat_rules.specs.Watch.{props_seen}

@@ -27,7 +27,8 @@ use Rattle.flat_rules.specs.Numbers.{number, AllNumbered}
 use Rattle.flat_rules.specs.Ends.{live_props, props_of, serials_of, taken_calls, to_begin, to_finished, viewport_owner, viewport_uses}
 use Rattle.flat_facts.specs.Contents.{capped}
 use Rattle.flat_links.specs.Hearing.{IsBound, losings}
-use Rattle.flat_links.specs.Following.{AreTied, IsBegun, IsFollowed, IsPairKept, pair, props_pending, sight_of}
+use Rattle.flat_links.specs.Following.{AreTied, IsBegun, IsFollowed, IsPairKept, props_pending, sight_of}
+use Rattle.flat_facts.specs.Pairs.{pair}
 use Rattle.flat_rules.specs.Legal.{Legal, begin_time, is_frame_open, owns_viewport}
 use Rattle.flat_rules.specs.Shown.{last_taken, shown, tree_of}
 use Rattle.flat_links.specs.Usage.{SeesOne, SeesUses, props_among, uses_if, uses_in, with_pending}

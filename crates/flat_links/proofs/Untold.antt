@@ -25,8 +25,10 @@ use Rattle.flat_states.proofs.lemmas.Counts.{at-session}
 use Rattle.flat_links.specs.declared.following.Following.{Following}
 use Rattle.flat_links.specs.declared.following.Sight.{Sight}
 use Rattle.flat_links.specs.declared.pairs.PairState.{PairState}
-use Rattle.flat_links.specs.Following.{AreTied, IsFollowed, IsLastSight, IsPairKept, new_following, nothing, pair}
-use Rattle.flat_links.specs.Hearing.{IsAlike, IsCalm, TellsTheSame, is_within, losing_of, losings}
+use Rattle.flat_links.specs.Following.{AreTied, IsFollowed, IsLastSight, IsPairKept, new_following, nothing}
+use Rattle.flat_facts.specs.Pairs.{pair}
+use Rattle.flat_links.specs.Hearing.{IsAlike, IsCalm, is_within, losing_of, losings}
+use Rattle.flat_facts.specs.Told.{TellsTheSame}
 use Rattle.flat_links.specs.Usage.{settled}
 use Rattle.flat_links.specs.Views.{child_by, layout_by, status_by}
 use Rattle.flat_links.proofs.PairTold.{child-told, display-keeps, status-told, viewport-lost, view-lost}

@@ -3,3 +3,6 @@ pub mod PairIdle
 pub mod PairSteps
 pub mod TiesSteps
 pub mod WithView
+pub mod DoneEnds
+pub mod EndSteps
+pub mod ViewportUses

@@ -32,6 +32,7 @@ use Rattle.flat_rules.specs.Watch.{props_given, props_seen}
 use Rattle.flat_links.specs.Hearing.{IsBound, is_within, losings}
 use Rattle.flat_topology.specs.Join.{is_joined}
 use Rattle.flat_topology.specs.Shown.{Shown, state_of}
+use Rattle.flat_facts.specs.Pairs.{pair}
 
 -- what contracts see of what is kept of all sessions, and of how they are connected
 pub record KeptFollowings : Type 0 where
@@ -87,10 +88,6 @@ pub record IsPairKept (setup : Setup) (history : List Entry) (p : PairNo) (state
       → state.seen ≡ props_seen setup p (length (viewport_uses p history)) v history
   pub pending : (v : SessionNo) → viewport_owner setup p ≡ Some (Session v)
       → state.pending ≡ props_pending setup p (length (viewport_uses p history)) v history
-
--- the pair at a place
-abbrev pub pair : ℕ → PairNo
-pair i = record { 0 = i }
 
 -- What is kept of all sessions and all pairs stands for what a history says of them.
 pub record AreTied (setup : Setup) (history : List Entry) (followings : List Following) (pairs : List PairState) : Type

@@ -16,11 +16,6 @@ use Rattle.flat_links.specs.declared.following.Following.{Following}
 use Rattle.flat_links.specs.declared.following.Sight.{Sight}
 use Rattle.flat_links.specs.declared.pairs.PairState.{PairState}
 
--- Of two histories, both tell the watchers of a session the same.
-abbrev pub TellsTheSame : Setup → List Entry → List Entry → SessionNo → Type 0
-TellsTheSame setup before after s = (w : Watcher) → listener setup w ≡ Some (Session s)
-    → told setup after w ≡ told setup before w
-
 -- whether a stamp is there and no later than another, or isn't there
 abbrev pub is_within : Option ℕ → Option ℕ → Bool
 is_within None last = true

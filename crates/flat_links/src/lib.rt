@@ -5,7 +5,8 @@
 //! a record of its own (specs/).
 //!
 //! Other crates may cite the lemmas of proofs/lemmas/, which are of pairs and ties
-//! (PairIdle, PairSteps, TiesSteps) and of sessions that have a view (WithView).
+//! (PairIdle, PairSteps, TiesSteps), of sessions that have a view (WithView), and of viewport ends:
+//! at a call that uses one (ViewportUses), at any other entry (EndSteps) and at a done (DoneEnds).
 #![tactic(auto)]
 
 mod clears;

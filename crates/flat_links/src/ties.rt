@@ -10,7 +10,7 @@ ghost use Rattle.flat_topology.specs.Shown.{state_of};
 ghost use Rattle.flat_facts.specs.Begins.{begun, finished};
 ghost use Rattle.flat_links.specs.Following.{AreTied, IsBegun, IsOwnEntry, UsesNone, sight_of_state};
 ghost use Rattle.flat_rules.specs.Legal.{Legal};
-ghost use Rattle.flat_links.specs.Hearing.{TellsTheSame};
+ghost use Rattle.flat_facts.specs.Told.{TellsTheSame};
 ghost use Rattle.flat_links.specs.Usage.{IsUse, NotesCalls, SeesUses, losing_then, uses_if};
 ghost use Rattle.flat_rules.specs.Watch.{ratio_told};
 ghost use Rattle.flat_topology.specs.Members.{is_member};

@@ -8,3 +8,7 @@ pub mod Ones
 pub mod Opened
 pub mod Steps
 pub mod ViewSteps
+pub mod Begun
+pub mod BoardBegins
+pub mod DoneSteps
+pub mod Lists

@@ -5,7 +5,8 @@
 //!
 //! Other crates may cite the lemmas of proofs/lemmas/:
 //! - of what is kept of one session: Changes, Counts, Heard, Ones, ViewSteps;
-//! - of all that is kept: BeginLoop, Entered, Opened, Steps.
+//! - of all that is kept: BeginLoop, Entered, Opened, Steps;
+//! - of a begin (Begun, BoardBegins) and of a done (DoneSteps); of lists (Lists).
 #![tactic(auto)]
 
 pub mod clock;

@@ -11,8 +11,8 @@ ghost use Rattle.flat_gets.specs.Watchers.{AreWatched, HasRoomAt, is_held, is_sh
 
 use crate::board::{Board, number_if};
 use crate::entries::enter;
+use crate::telling::Telling;
 use flat_base::{Actor, NoMemory, PairNo, SessionNo};
-use flat_gets::telling::Telling;
 use flat_gets::watching::Watchers;
 use flat_links::entries::use_ends;
 use flat_links::viewports::Viewports;

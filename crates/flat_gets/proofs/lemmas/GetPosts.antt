@@ -21,8 +21,6 @@ use Rattle.flat_scene.specs.Frames.{sessions_to, taken}
 use Rattle.flat_scene.specs.History.{◌▹◌, is_begin, is_closed, is_finish}
 use Rattle.flat_scene.specs.Setups.{is_declared}
 use Rattle.flat_base.proofs.lemmas.Tests.{and-left}
-use Rattle.flat_facts.specs.declared.live.Live.{Live}
-use Rattle.flat_links.specs.declared.tokens.OutToken.{OutToken}
 use Rattle.flat_facts.specs.Begins.{finish_entry, finished, post_of, took_event}
 use Rattle.flat_rules.specs.Ends.{is_done, pair_of, uses_view, view_owner, view_uses}
 use Rattle.flat_gets.specs.Gets.{answers_to, helds_of}
@@ -30,14 +28,11 @@ use Rattle.flat_rules.specs.Legal.{Legal, MayEnter, is_frame_open, owns_view}
 use Rattle.flat_rules.specs.Kinds.{is_get}
 use Rattle.flat_rules.specs.Posts.{events_to, frame_took, told_event}
 use Rattle.flat_rules.specs.AllPosts.{posts}
-use Rattle.flat_links.specs.Viewports.{AreViewports, back_events}
 use Rattle.flat_rules.specs.Watch.{layout_of, status_of, child_of, told}
 use Rattle.flat_states.proofs.lemmas.BeginLoop.{flat-on}
 use Rattle.flat_facts.proofs.lemmas.Between.{events-joined}
-use Rattle.flat_gets.proofs.lemmas.BoardBegins.{posts-all}
-use Rattle.flat_gets.proofs.GetHistory.{events-finished, events-told}
+use Rattle.flat_gets.proofs.lemmas.GetHistory.{events-finished, events-told}
 use Rattle.flat_gets.proofs.GetSteps.{idle-kind, quiet-all, rests-refused}
-use Rattle.flat_gets.proofs.lemmas.ViewportUses.{tokens-finish}
 
 -- ---- one session's posts
 
@@ -162,16 +157,6 @@ module _ (setup : Setup) (h : List Entry) (e : Entry) (legal : Legal setup (h �
           ∙ quiet-all setup h e s opened (λ w heard. (idle-kind setup h e kind-is.1.1 w, rests-refused setup h e legal q props is refused w))
 
 -- ---- the end of a frame
-
--- a session that is open is told the answers, what the frame took, and which tokens are back
-pub finish-posts : (setup : Setup) (h : List Entry) (line : ℕ) (s : SessionNo) → is_declared setup s ≡ true → Legal setup h → is_frame_open h ≡ true
-    → is_closed s h ≡ false → (live : List Live) (out : List OutToken) → AreViewports setup h s live out
-    → events_to setup h (finish_entry line) s ≡ answers_to (told setup (finished h line)) (helds_of setup h s)
-    ++ (took_event (frame_took setup h s) ++ back_events (taken setup h s) out)
-finish-posts setup h line s declared legal going opened live out kept =
-    events-finished setup s h (finish_entry line) refl refl opened
-    ∙ ap (λ (l : List Event). answers_to (told setup (finished h line)) (helds_of setup h s) ++ (took_event (frame_took setup h s) ++ l))
-    (tokens-finish setup s declared h legal opened going live out kept)
 
 -- ---- what isn't declared
 

@@ -18,7 +18,7 @@ use Rattle.flat_scene.specs.declared.journal.Reply.{Reply}
 use Rattle.flat_scene.specs.declared.setup.Setup.{Setup}
 use Rattle.flat_scene.specs.History.{◌▹◌, is_finish, is_closed}
 use Rattle.flat_facts.specs.Begins.{finish_entry, finished, post_of, entry_of}
-use Rattle.flat_links.specs.Following.{pair}
+use Rattle.flat_facts.specs.Pairs.{pair}
 use Rattle.flat_states.specs.Machines.{Machine, MayCall}
 use Rattle.flat_facts.proofs.lemmas.Between.{is_viewport}
 use Rattle.flat_states.proofs.lemmas.Steps.{legal-entered}
@@ -27,7 +27,7 @@ use Rattle.flat_rules.specs.Watch.{Watcher, asked, layout_of, listener, told, wa
 use Rattle.flat_watch.specs.Cells.{new_cell}
 use Rattle.flat_states.proofs.lemmas.BeginLoop.{not-below, same-side, this-side}
 use Rattle.flat_states.proofs.lemmas.Counts.{at-session, same-number}
-use Rattle.flat_gets.proofs.lemmas.DoneSteps.{UpTo, up-end, up-here, up-next, up-start}
+use Rattle.flat_states.proofs.lemmas.DoneSteps.{UpTo, up-end, up-here, up-next, up-start}
 use Rattle.flat_rules.specs.Legal.{Legal, answers, owns_view, owns_viewport, reply_to}
 use Rattle.flat_rules.specs.Kinds.{is_get}
 use Rattle.flat_rules.specs.Numbers.{number, AllNumbered}
@@ -35,7 +35,7 @@ use Rattle.flat_gets.specs.declared.pair.PairWatchers.{PairWatchers}
 use Rattle.flat_gets.specs.declared.watching.Watchers.{Watchers}
 use Rattle.flat_gets.specs.Dues.{due_told}
 use Rattle.flat_gets.specs.Gets.{answers_to, hears, helds_of}
-use Rattle.flat_links.specs.Hearing.{TellsTheSame}
+use Rattle.flat_facts.specs.Told.{TellsTheSame}
 use Rattle.flat_gets.specs.Listed.{AreListed, IsList, KeptGets, no_gets, view_waits, viewport_waits}
 use Rattle.flat_gets.specs.Pairs.{AreAt, IsUnasked, waiting_in}
 use Rattle.flat_gets.specs.Watchers.{AreWatched, IsSettled, WatchedUpTo, all_answers, answers_in, reached, told_and_due}

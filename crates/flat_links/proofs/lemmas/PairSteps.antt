@@ -21,7 +21,8 @@ use Rattle.flat_states.specs.declared.state.Account.{Account}
 use Rattle.flat_facts.specs.Clears.{clears_pair}
 use Rattle.flat_links.specs.Clears.{cleared_if}
 use Rattle.flat_rules.specs.Ends.{clears_viewport, ends_view, happens, is_done, uses_viewport, view_owner, viewport_owner, viewport_uses}
-use Rattle.flat_links.specs.Following.{IsOwnEntry, IsPairKept, IsSerialKept, pair, props_pending}
+use Rattle.flat_links.specs.Following.{IsOwnEntry, IsPairKept, IsSerialKept, props_pending}
+use Rattle.flat_facts.specs.Pairs.{pair}
 use Rattle.flat_rules.specs.Legal.{Legal, all_but_last, is_link, links_alone, may_act, owns_in_call, owns_view, owns_viewport, session_may}
 use Rattle.flat_facts.specs.Lives.{clears_live, count_of}
 use Rattle.flat_rules.specs.Serials.{IsUseSerial}

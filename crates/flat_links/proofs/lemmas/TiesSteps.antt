@@ -18,7 +18,8 @@ use Rattle.flat_rules.specs.Numbers.{number, AllNumbered}
 use Rattle.flat_facts.specs.Clears.{clears_pair}
 use Rattle.flat_links.specs.Clears.{cleared_if}
 use Rattle.flat_facts.specs.Contents.{capped}
-use Rattle.flat_links.specs.Following.{AreTied, IsFollowed, IsIdle, IsOwnEntry, IsPairKept, UsesNone, pair}
+use Rattle.flat_links.specs.Following.{AreTied, IsFollowed, IsIdle, IsOwnEntry, IsPairKept, UsesNone}
+use Rattle.flat_facts.specs.Pairs.{pair}
 use Rattle.flat_rules.specs.Serials.{contents_made}
 use Rattle.flat_links.specs.Usage.{IsUse, NotesCalls, UsesPair, followed_by, losing_then, used_by}
 use Rattle.flat_links.specs.Hearing.{IsBound, is_within, losing_of, losings}

@@ -8,7 +8,7 @@ use Rattle.flat_rules.specs.Shown.{shown}
 use Rattle.flat_rules.proofs.lemmas.ListLemmas.{set-own}
 use Rattle.flat_facts.specs.Begins.{begun}
 use Rattle.flat_states.specs.Seen.{seen_of}
-use Rattle.flat_gets.proofs.lemmas.Begun.{seen-begun-closed, kept-let_go}
+use Rattle.flat_states.proofs.lemmas.Begun.{seen-begun-closed, kept-let_go}
 use Rattle.flat_core.proofs.BeginSteps.{kept-begun-open, shown-some, shown-none, takes-none, takes-some, credits-line, events-some, events-none}
 use Rattle.flat_core.proofs.PresentSteps.{stays}
 use Rattle.flat_core.proofs.begins.begin_one.Goals as goal

@@ -4,7 +4,7 @@ use Rattle.std.proofs.lemmas.Bool.Decides.{nat_tests}
 use Rattle.flat_base.specs.declared.ids.SessionNo.{SessionNo}
 use Rattle.flat_scene.specs.Setups.{is_declared}
 use Rattle.flat_topology.specs.Members.{is_member}
-use Rattle.flat_links.specs.Hearing.{TellsTheSame}
+use Rattle.flat_facts.specs.Told.{TellsTheSame}
 use Rattle.flat_links.proofs.lemmas.WithView.{member-at}
 use Rattle.flat_scene.specs.declared.journal.Entry.{Entry}
 use Rattle.std.proofs.lemmas.List.{length-set}
@@ -16,7 +16,8 @@ use Rattle.flat_facts.specs.Begins.{finish_entry, finished}
 use Rattle.flat_rules.specs.Legal.{Legal, LegalEntry}
 use Rattle.flat_gets.specs.Watchers.{WatchedUpTo}
 use Rattle.flat_states.proofs.lemmas.BeginLoop.{posts-next}
-use Rattle.flat_gets.proofs.lemmas.DoneSteps.{EndsOf, done-next, members-next, up-next}
+use Rattle.flat_links.proofs.lemmas.DoneEnds.{EndsOf}
+use Rattle.flat_states.proofs.lemmas.DoneSteps.{done-next, members-next, up-next}
 use Rattle.flat_gets.proofs.lemmas.WatchingSteps.{watched-last}
 use Rattle.flat_core.proofs.dones.done_all.Goals as goal
 

@@ -3,10 +3,11 @@ use Rattle.std.specs.Prelude.{◌||◌}
 use Rattle.flat_base.specs.declared.ids.FenceNo.{FenceNo}
 use Rattle.flat_fence.specs.Fences.{has}
 use Rattle.flat_facts.specs.Begins.{finish_entry, finished, posts_to}
-use Rattle.flat_gets.specs.Dues.{all_due}
+use Rattle.flat_core.specs.Dues.{all_due}
 use Rattle.flat_rules.specs.Numbers.{AllNumbered}
 use Rattle.flat_gets.specs.Watchers.{WatchedUpTo}
-use Rattle.flat_gets.proofs.lemmas.DoneSteps.{DoneUpTo, EndsUpTo, released_to}
+use Rattle.flat_states.proofs.lemmas.DoneSteps.{DoneUpTo, released_to}
+use Rattle.flat_links.proofs.lemmas.DoneEnds.{EndsUpTo}
 use Rattle.flat_core.proofs.dones.done_all.Given as goal
 
 abbrev pub invariant-loop-i : goal.invariant-loop-i

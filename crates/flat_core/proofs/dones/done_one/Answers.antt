@@ -14,9 +14,9 @@ use Rattle.flat_rules.specs.Legal.{Legal, LegalEntry}
 use Rattle.flat_states.specs.Seen.{seen_of}
 use Rattle.flat_links.specs.Viewports.{back_events}
 use Rattle.flat_states.proofs.lemmas.Counts.{seen-count, taken-kept}
-use Rattle.flat_gets.proofs.lemmas.DoneSteps.{members-done}
-use Rattle.flat_gets.proofs.lemmas.ViewportUses.{viewports-finish}
-use Rattle.flat_gets.proofs.lemmas.DoneSteps.{told-then}
+use Rattle.flat_states.proofs.lemmas.DoneSteps.{members-done}
+use Rattle.flat_links.proofs.lemmas.ViewportUses.{viewports-finish}
+use Rattle.flat_states.proofs.lemmas.DoneSteps.{told-then}
 use Rattle.flat_core.proofs.dones.done_one.Goals as goal
 
 pub returns-then-state-clause-members : goal.returns-then-state-clause-members

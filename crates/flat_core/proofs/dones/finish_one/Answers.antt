@@ -17,9 +17,9 @@ use Rattle.flat_rules.specs.Posts.{events_to, frame_took}
 use Rattle.flat_links.specs.Viewports.{back_events}
 use Rattle.flat_rules.specs.Watch.{told}
 use Rattle.flat_gets.specs.Watchers.{WatchedUpTo}
-use Rattle.flat_gets.proofs.lemmas.GetPosts.{finish-posts}
+use Rattle.flat_core.proofs.FinishPosts.{finish-posts}
 use Rattle.flat_gets.proofs.lemmas.WatchingSteps.{few-to, watched-kept, watched-passed, watched-told}
-use Rattle.flat_gets.proofs.lemmas.DoneSteps.{told-then}
+use Rattle.flat_states.proofs.lemmas.DoneSteps.{told-then}
 use Rattle.flat_core.proofs.dones.finish_one.Goals as goal
 
 pub settle-told-requires-clause-few : goal.settle-told-requires-clause-few

@@ -9,7 +9,7 @@ use Rattle.flat_states.specs.Machines.{Machine}
 use Rattle.flat_states.specs.Presents.{after_reply}
 use Rattle.flat_states.proofs.lemmas.Changes.{seen-closed, kept-closed, is-session}
 use Rattle.flat_states.proofs.lemmas.Heard.{entered-set, heard-close}
-use Rattle.flat_gets.proofs.lemmas.EndSteps.{ends-after, standing}
+use Rattle.flat_links.proofs.lemmas.EndSteps.{ends-after, standing}
 use Rattle.flat_states.proofs.lemmas.Ones.{kept-one, placed-of, plain-close, reply-close, closes-close}
 use Rattle.flat_states.proofs.lemmas.Steps.{has-room, unchanged}
 use Rattle.flat_gets.proofs.lemmas.WatchingSteps.{told-too, watched-after}

@@ -16,7 +16,7 @@ use Rattle.flat_states.specs.Machines.{Machine}
 use Rattle.flat_facts.specs.Begins.{entry_of, finish_entry, finished}
 use Rattle.flat_rules.specs.Legal.{Legal}
 use Rattle.flat_states.proofs.lemmas.Steps.{has-room, legal-entered, short-history}
-use Rattle.flat_gets.proofs.lemmas.BoardBegins.{kept-finished, place-small}
+use Rattle.flat_states.proofs.lemmas.BoardBegins.{kept-finished, place-small}
 use Rattle.flat_facts.proofs.lemmas.Ratios.{has-display}
 use Rattle.flat_core.proofs.DisplayRatios.{finished-least, port-kept, ratios-kept, same-number}
 use Rattle.flat_core.proofs.board.Board.done.Goals as goal

@@ -7,7 +7,7 @@ use Rattle.flat_scene.specs.declared.journal.Reply.TheVariants.{Done}
 use Rattle.flat_scene.specs.History.{◌▹◌}
 use Rattle.flat_states.specs.Machines.{Machine}
 use Rattle.flat_facts.specs.Begins.{entry_of}
-use Rattle.flat_gets.proofs.lemmas.EndSteps.{ends-after}
+use Rattle.flat_links.proofs.lemmas.EndSteps.{ends-after}
 use Rattle.flat_states.proofs.lemmas.Ones.{kept-quiet}
 use Rattle.flat_states.proofs.lemmas.Steps.{has-room, unchanged}
 use Rattle.flat_gets.proofs.lemmas.WatchingSteps.{told-too, watched-after}

@@ -4,7 +4,7 @@ use Rattle.flat_base.specs.declared.ids.Actor.TheVariants.{Session}
 use Rattle.flat_scene.specs.declared.journal.Kind.TheVariants.{End}
 use Rattle.flat_scene.specs.declared.journal.Reply.TheVariants.{Done}
 use Rattle.flat_states.specs.Machines.{Machine}
-use Rattle.flat_gets.proofs.lemmas.EndSteps.{ends-after, none-new, standing}
+use Rattle.flat_links.proofs.lemmas.EndSteps.{ends-after, none-new, standing}
 use Rattle.flat_states.proofs.lemmas.Heard.{entered-none}
 use Rattle.flat_states.proofs.lemmas.Ones.{kept-quiet, placed-of, plain-end}
 use Rattle.flat_states.proofs.lemmas.Steps.{has-room, unchanged}

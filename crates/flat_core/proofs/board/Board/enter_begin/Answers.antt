@@ -12,18 +12,18 @@ use Rattle.flat_states.specs.declared.state.SessionState.{SessionState}
 use Rattle.flat_links.specs.AllEnds.{AreEnds}
 use Rattle.flat_states.specs.Machines.{Machine}
 use Rattle.flat_facts.specs.Begins.{entry_of, begun, begin_entry}
-use Rattle.flat_gets.specs.Dues.{all_due}
+use Rattle.flat_core.specs.Dues.{all_due}
 use Rattle.flat_rules.specs.Numbers.{number, AllNumbered}
 use Rattle.flat_states.specs.Kept.{IsKept}
 use Rattle.flat_states.specs.Seen.{seen_of}
 use Rattle.flat_topology.specs.Fit.{FitsSetup}
 use Rattle.flat_topology.specs.Shown.{Shown}
 use Rattle.flat_rules.specs.Legal.{Legal}
-use Rattle.flat_gets.proofs.lemmas.EndSteps.{ends-other}
+use Rattle.flat_links.proofs.lemmas.EndSteps.{ends-other}
 use Rattle.flat_facts.proofs.lemmas.ShownFits.{begun-fits}
 use Rattle.flat_states.proofs.lemmas.Opened.{few-declared}
 use Rattle.flat_states.proofs.lemmas.Steps.{has-room, legal-entered}
-use Rattle.flat_gets.proofs.lemmas.BoardBegins.{kept-begun, place-small, held-back, unsquashable-shown}
+use Rattle.flat_states.proofs.lemmas.BoardBegins.{kept-begun, place-small, held-back, unsquashable-shown}
 use Rattle.flat_gets.proofs.lemmas.WatchingSteps.{watched-after}
 use Rattle.flat_core.specs.Starts.{TakesReady}
 use Rattle.flat_core.proofs.board.Board.enter_begin.Goals as goal

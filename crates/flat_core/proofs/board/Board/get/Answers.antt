@@ -6,8 +6,8 @@ use Rattle.flat_scene.specs.History.{◌▹◌}
 use Rattle.flat_states.specs.Machines.{Machine}
 use Rattle.flat_facts.specs.Begins.{entry_of}
 use Rattle.flat_rules.specs.Legal.{Legal, reply_to}
-use Rattle.flat_gets.specs.Watchers.{IsTelling}
-use Rattle.flat_gets.proofs.lemmas.EndSteps.{ends-after, none-new, standing}
+use Rattle.flat_core.specs.Telling.{IsTelling}
+use Rattle.flat_links.proofs.lemmas.EndSteps.{ends-after, none-new, standing}
 use Rattle.flat_states.proofs.lemmas.Heard.{after_get, entered-set, heard-get}
 use Rattle.flat_states.specs.declared.state.SessionState.{SessionState}
 use Rattle.flat_core.proofs.GetCalls.{kept-got, room-got}

@@ -1,6 +1,6 @@
 use Rattle.std.proofs.Common.{◌≡◌, ◌∙◌, ap, false, refl, subst, sym}
 use Rattle.std.specs.Prelude.{sum}
-use Rattle.flat_gets.proofs.lemmas.EndSteps.{back-new, ends-new}
+use Rattle.flat_links.proofs.lemmas.EndSteps.{back-new, ends-new}
 use Rattle.flat_states.specs.declared.ratios.Ratios.{Ratios}
 use Rattle.flat_states.specs.Machines.{Stands}
 use Rattle.flat_states.proofs.lemmas.Opened.{opened}

@@ -4,7 +4,7 @@ use Rattle.flat_scene.specs.declared.journal.Kind.TheVariants.{Poll}
 use Rattle.flat_scene.specs.declared.journal.Reply.TheVariants.{Polled}
 use Rattle.flat_states.specs.Machines.{Machine}
 use Rattle.flat_rules.specs.Legal.{reply_to, unread_events}
-use Rattle.flat_gets.proofs.lemmas.EndSteps.{ends-after, none-new, standing, standing-set}
+use Rattle.flat_links.proofs.lemmas.EndSteps.{ends-after, none-new, standing, standing-set}
 use Rattle.flat_states.proofs.lemmas.Heard.{entered-changed}
 use Rattle.std.proofs.lemmas.List.{length-set}
 use Rattle.flat_states.specs.declared.state.SessionState.{SessionState}

@@ -18,7 +18,7 @@ use Rattle.flat_scene.specs.declared.journal.Entry.{Entry}
 use Rattle.flat_scene.specs.declared.journal.Reply.{Reply}
 use Rattle.std.proofs.lemmas.List.{length-set}
 use Rattle.flat_states.proofs.lemmas.Ones.{placed-of}
-use Rattle.flat_gets.proofs.lemmas.EndSteps.{ends-after, none-new, standing, standing-set}
+use Rattle.flat_links.proofs.lemmas.EndSteps.{ends-after, none-new, standing, standing-set}
 use Rattle.flat_gets.proofs.lemmas.WatchingSteps.{told-too, watched-after}
 use Rattle.flat_core.proofs.board.Board.present.Goals as goal
 

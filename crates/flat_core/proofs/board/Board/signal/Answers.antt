@@ -2,7 +2,7 @@ use Rattle.std.proofs.Common.{refl, sym, ◌∙◌}
 use Rattle.flat_scene.specs.declared.journal.Kind.TheVariants.{Signal}
 use Rattle.flat_scene.specs.declared.journal.Reply.TheVariants.{Done}
 use Rattle.flat_states.specs.Machines.{Machine}
-use Rattle.flat_gets.proofs.lemmas.EndSteps.{ends-after, none-new, standing}
+use Rattle.flat_links.proofs.lemmas.EndSteps.{ends-after, none-new, standing}
 use Rattle.flat_states.proofs.lemmas.Heard.{entered-none}
 use Rattle.flat_states.proofs.lemmas.Ones.{kept-quiet, plain-signal, placed-of, signal-below}
 use Rattle.flat_states.proofs.lemmas.Steps.{has-room, signalled}

@@ -7,7 +7,7 @@ use Rattle.flat_states.specs.Machines.{Machine}
 use Rattle.flat_states.specs.Presents.{after_reply}
 use Rattle.flat_states.proofs.lemmas.Heard.{after_view, entered-set, heard-view}
 use Rattle.flat_rules.specs.Legal.{reply_to}
-use Rattle.flat_gets.proofs.lemmas.EndSteps.{ends-after, none-new, standing}
+use Rattle.flat_links.proofs.lemmas.EndSteps.{ends-after, none-new, standing}
 use Rattle.flat_states.proofs.lemmas.Ones.{kept-one, placed-of}
 use Rattle.flat_states.proofs.lemmas.Steps.{has-room}
 use Rattle.flat_facts.proofs.lemmas.Tests.{or-false}

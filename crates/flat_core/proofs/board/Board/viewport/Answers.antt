@@ -6,7 +6,8 @@ use Rattle.flat_scene.specs.History.{◌▹◌}
 use Rattle.flat_links.specs.declared.viewports.Viewports.{Viewports}
 use Rattle.flat_states.specs.Machines.{HasRoom, Machine}
 use Rattle.flat_facts.specs.Begins.{entry_of}
-use Rattle.flat_gets.specs.Dues.{all_due, due_told}
+use Rattle.flat_core.specs.Dues.{all_due}
+use Rattle.flat_gets.specs.Dues.{due_told}
 use Rattle.flat_gets.specs.Watchers.{IsJoin, is_shut}
 use Rattle.flat_scene.specs.declared.journal.Entry.{Entry}
 use Rattle.flat_states.specs.declared.state.SessionState.{SessionState}
@@ -18,7 +19,7 @@ use Rattle.flat_states.proofs.lemmas.Heard.{after_viewport, heard-viewport}
 use Rattle.flat_scene.specs.declared.journal.Reply.{Reply}
 use Rattle.flat_links.specs.AllEnds.{IsUsed, TiesUsed}
 use Rattle.flat_states.proofs.lemmas.Counts.{declared-some, few-if}
-use Rattle.flat_gets.proofs.lemmas.EndSteps.{ends-same}
+use Rattle.flat_links.proofs.lemmas.EndSteps.{ends-same}
 use Rattle.flat_states.proofs.lemmas.Ones.{declared-of}
 use Rattle.flat_states.proofs.lemmas.Steps.{has-room, owed-small, room-more, short-history}
 use Rattle.flat_gets.proofs.lemmas.WatchingSteps.{few-all}

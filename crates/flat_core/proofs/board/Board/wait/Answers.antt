@@ -4,7 +4,7 @@ use Rattle.flat_scene.specs.declared.journal.Reply.{Reply}
 use Rattle.flat_states.specs.Machines.{Machine}
 use Rattle.flat_states.specs.Presents.{after_reply}
 use Rattle.flat_rules.specs.Legal.{reply_to}
-use Rattle.flat_gets.proofs.lemmas.EndSteps.{ends-after, none-new, standing}
+use Rattle.flat_links.proofs.lemmas.EndSteps.{ends-after, none-new, standing}
 use Rattle.flat_states.proofs.lemmas.Heard.{entered-none, heard-wait}
 use Rattle.flat_states.proofs.lemmas.Ones.{kept-quiet, plain-wait, placed-of}
 use Rattle.flat_states.proofs.lemmas.Steps.{has-room, unchanged}

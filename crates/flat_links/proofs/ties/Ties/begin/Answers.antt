@@ -5,7 +5,7 @@ use Rattle.flat_scene.specs.declared.trees.ViewportUse.{ViewportUse}
 use Rattle.flat_links.specs.declared.following.Following.{Following}
 use Rattle.flat_links.specs.declared.following.Sight.{Sight}
 use Rattle.flat_facts.specs.Begins.{begun}
-use Rattle.flat_links.specs.Following.{pair}
+use Rattle.flat_facts.specs.Pairs.{pair}
 use Rattle.flat_links.specs.Hearing.{IsBound, losings}
 use Rattle.flat_links.proofs.Bounds.{bounds-seen, losings-same}
 use Rattle.flat_links.specs.Usage.{SeesUses}

@@ -2,7 +2,8 @@ use Rattle.std.proofs.Common.{◌≡◌, ℕ, ◌+◌, List, None, length, slice
 use Rattle.std.specs.Prelude.{is_some}
 use Rattle.flat_scene.specs.declared.journal.Entry.{Entry}
 use Rattle.flat_facts.specs.Begins.{begun}
-use Rattle.flat_links.specs.Following.{AreTied, IsBegun, pair}
+use Rattle.flat_links.specs.Following.{AreTied, IsBegun}
+use Rattle.flat_facts.specs.Pairs.{pair}
 use Rattle.flat_links.specs.Hearing.{IsBound, losings}
 use Rattle.flat_rules.specs.Numbers.{AllNumbered}
 use Rattle.flat_links.proofs.TiesBegin.{FollowedUpTo}

@@ -1,7 +1,7 @@
 use Rattle.std.proofs.Common.{◌≡◌, ◌∙◌, sym, ap, true, false, Bool, refl}
 use Rattle.flat_scene.specs.declared.frames.SessionSet.{SessionSet}
 use Rattle.flat_topology.specs.Members.{is_member}
-use Rattle.flat_links.specs.Hearing.{TellsTheSame}
+use Rattle.flat_facts.specs.Told.{TellsTheSame}
 use Rattle.flat_facts.specs.Begins.{finished}
 use Rattle.flat_links.proofs.Untold.{tells-the-same}
 use Rattle.flat_links.proofs.ties.Ties.finish.Goals as goal

@@ -7,7 +7,7 @@ use Rattle.flat_scene.specs.declared.journal.Entry.{Entry}
 use Rattle.flat_scene.specs.declared.setup.Setup.{Setup}
 use Rattle.flat_states.specs.declared.port.DisplayPort.{DisplayPort}
 use Rattle.flat_links.specs.declared.ties.Ties.{Ties}
-use Rattle.flat_gets.specs.Watchers.{IsTelling}
+use Rattle.flat_core.specs.Telling.{IsTelling}
 
 past : (m n p : ℕ) → m ≡ n → (nat_lt p m && nat_lt p n) ≡ false → n ≤ p
 past m n p same over = by_tests (nat_lt p m) (nat_lt p n) refl refl over

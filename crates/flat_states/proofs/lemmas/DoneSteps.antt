@@ -12,9 +12,7 @@ use Rattle.flat_scene.specs.declared.journal.Event.{Event}
 use Rattle.flat_scene.specs.declared.setup.Setup.{Setup}
 use Rattle.flat_scene.specs.History.{Published}
 use Rattle.flat_scene.specs.Frames.{going, is_among, is_released_by, sessions_to}
-use Rattle.flat_links.specs.Viewports.{AreViewports}
 use Rattle.flat_states.specs.declared.state.SessionState.{SessionState}
-use Rattle.flat_links.specs.declared.viewports.Viewports.{Viewports}
 use Rattle.flat_facts.specs.Begins.{finished}
 use Rattle.flat_rules.specs.Numbers.{number, AllNumbered}
 use Rattle.flat_states.specs.Kept.{IsKept, release_of}
@@ -90,13 +88,6 @@ up-start P h k xs each j d below = rw (none-below j) (each j d below)
 pub up-end : {A : Type 0} (P : List Entry → ℕ → A → Type 0) (h k : List Entry) (n : ℕ) (xs : List A) → length xs ≡ n → AllNumbered (UpTo P h k n) xs
     → AllNumbered (P k) xs
 up-end P h k n xs count each j d below = rw (all-below j (length xs) n below count) at (each j d below)
-
--- of a session's viewports
-abbrev pub EndsOf : Setup → List Entry → ℕ → Viewports → Type 0
-EndsOf setup k j one = AreViewports setup k (number j) one.live.items one.out.items
-
-abbrev pub EndsUpTo : Setup → List Entry → ℕ → ℕ → ℕ → Viewports → Type 0
-EndsUpTo setup h line i = UpTo (EndsOf setup) h (finished h line) i
 
 any-map : (gone : List Published) (g : FenceNo) → list_any (λ list. is_among list g) (map release_of gone) ≡ is_released_by gone g
 any-map [] g = refl

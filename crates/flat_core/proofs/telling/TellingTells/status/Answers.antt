@@ -1,7 +1,7 @@
 use Rattle.std.proofs.Common.{sym, ◌∙◌}
 use Rattle.flat_gets.proofs.lemmas.GetPosts.{undeclared-untold}
-use Rattle.flat_gets.proofs.TellingSteps.{unknown}
-use Rattle.flat_gets.proofs.telling.TellingTells.status.Goals as goal
+use Rattle.flat_core.proofs.TellingSteps.{unknown}
+use Rattle.flat_core.proofs.telling.TellingTells.status.Goals as goal
 
 pub returns-else-knows : goal.returns-else-knows
 returns-else-knows c = λ setup history stands. sym (undeclared-untold setup history stands.legal c.args.p

@@ -4,8 +4,8 @@ use Rattle.flat_links.specs.Following.{AreTied}
 use Rattle.flat_rules.specs.Legal.{Legal}
 use Rattle.flat_rules.specs.Watch.{told, child_of}
 use Rattle.flat_gets.proofs.lemmas.GetPosts.{undeclared-untold}
-use Rattle.flat_gets.proofs.TellingSteps.{unknown}
-use Rattle.flat_gets.proofs.telling.TellingTells.child.Goals as goal
+use Rattle.flat_core.proofs.TellingSteps.{unknown}
+use Rattle.flat_core.proofs.telling.TellingTells.child.Goals as goal
 
 pub returns-then-knows : goal.returns-then-knows
 returns-then-knows c = λ setup history n stands.

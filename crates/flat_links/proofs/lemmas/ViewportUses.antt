@@ -24,12 +24,13 @@ use Rattle.flat_rules.specs.Stamps.{first_at, is_seen, happens_often}
 use Rattle.flat_links.specs.Viewports.{released_at, out_of, outs_of, AreViewports, marked, with_out, is_back, back_events, still_out}
 use Rattle.flat_facts.proofs.lemmas.Earlier.{taken-begin}
 use Rattle.flat_rules.proofs.lemmas.EventsLocal.{flat-same, viewports-owned}
-use Rattle.flat_gets.proofs.PairLaws.{used-token, unused-came, used-came, fresh-stamp, made-lives}
+use Rattle.flat_links.proofs.PairLaws.{used-token, unused-came, used-came, fresh-stamp, made-lives}
 use Rattle.flat_rules.proofs.lemmas.ShownSteps.{closed-before}
 use Rattle.flat_facts.proofs.lemmas.StampSteps.{stamp-of}
 use Rattle.flat_facts.proofs.lemmas.Stamped.{often-lasts, stamp-other, IsLasting}
 use Rattle.flat_facts.proofs.lemmas.TokensBack.{came}
-use Rattle.flat_gets.proofs.ViewportSteps.{flat-filtered, out-used, own-out, lives-own}
+use Rattle.flat_states.proofs.lemmas.Lists.{flat-filtered}
+use Rattle.flat_links.proofs.ViewportSteps.{out-used, own-out, lives-own}
 use Rattle.flat_facts.proofs.lemmas.Between.{viewport-nested}
 use Rattle.flat_rules.proofs.lemmas.ListLemmas.{flat-mapped}
 use Rattle.flat_rules.proofs.lemmas.OwnedTree.{pair_no}

@@ -32,8 +32,8 @@ use Rattle.flat_rules.specs.Numbers.{number, AllNumbered}
 use Rattle.flat_states.specs.Kept.{IsKept}
 use Rattle.flat_states.specs.Logs.{Logged}
 use Rattle.flat_states.specs.Seen.{Seen, seen_of}
-use Rattle.flat_gets.proofs.lemmas.DoneSteps.{released_to}
-use Rattle.flat_gets.proofs.lemmas.Begun.{seen-begun-open}
+use Rattle.flat_states.proofs.lemmas.DoneSteps.{released_to}
+use Rattle.flat_states.proofs.lemmas.Begun.{seen-begun-open}
 use Rattle.flat_states.proofs.lemmas.Entered.{Entered}
 use Rattle.flat_states.proofs.lemmas.Steps.{legal-entered, frames-quiet, room-entered, few-history}
 use Rattle.flat_facts.proofs.lemmas.Tests.{or-false}

@@ -48,22 +48,11 @@ use Rattle.flat_states.proofs.lemmas.Ones.{declared-of}
 use Rattle.flat_states.proofs.lemmas.Steps.{legal-entered}
 use Rattle.flat_links.proofs.lemmas.TiesSteps.{tied-idle}
 use Rattle.flat_facts.proofs.lemmas.ViewCalls.{split-last}
-use Rattle.flat_gets.proofs.ViewportSteps.{viewports-other, viewports-own}
+use Rattle.flat_links.proofs.ViewportSteps.{viewports-other, viewports-own}
 use Rattle.std.proofs.lemmas.Bool.{not-true, or_parts}
+use Rattle.flat_states.proofs.lemmas.Lists.{number-declared}
 
 -- ---- lists
-
-le-number : (i n : ℕ) → i < n → (nat_lt 0 (i + 1) && nat_le (i + 1) n) ≡ true
-le-number i n below = by_tests (nat_lt 0 (i + 1)) (nat_le (i + 1) n) refl refl
-  where
-    by_tests : (a b : Bool) → nat_lt 0 (i + 1) ≡ a → nat_le (i + 1) n ≡ b → (a && b) ≡ true
-    by_tests true true p q = refl
-    by_tests true false p q = absurd (grind (arith, nat_tests))
-    by_tests false b p q = absurd (grind (arith, nat_tests))
-
--- the session at a place is declared
-pub number-declared : (setup : Setup) (i n : ℕ) → n ≡ setup.sessions → i < n → is_declared setup (number i) ≡ true
-number-declared setup i n same below = le-number i setup.sessions (omega (arith, same, below))
 
 -- ---- a session that is closed
 

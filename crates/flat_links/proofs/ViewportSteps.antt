@@ -24,7 +24,7 @@ use Rattle.flat_links.specs.Viewports.{released_at, out_of, outs_of, AreViewport
 use Rattle.flat_facts.proofs.lemmas.Earlier.{finished-earlier}
 use Rattle.flat_rules.proofs.lemmas.EventsLocal.{flat-same, viewports-owned}
 use Rattle.flat_facts.proofs.lemmas.LiveCounts.{lives-append, lived-all, lived, Lived}
-use Rattle.flat_gets.proofs.PairLaws.{unused-token}
+use Rattle.flat_links.proofs.PairLaws.{unused-token}
 use Rattle.flat_rules.proofs.lemmas.ShownSteps.{closed-before}
 use Rattle.flat_facts.proofs.lemmas.StampSteps.{stamp-of, own-stamp}
 use Rattle.flat_facts.proofs.lemmas.Stamped.{often-lasts, stamp-other, stamped, IsLasting}
@@ -36,12 +36,9 @@ use Rattle.flat_facts.proofs.lemmas.ViewHistory.{viewing-of}
 use Rattle.flat_facts.proofs.lemmas.ViewLaw.{good-more}
 use Rattle.flat_rules.proofs.lemmas.ListLemmas.{flat-mapped, none-put}
 use Rattle.std.proofs.lemmas.List.Elements.{filter-append}
+use Rattle.flat_states.proofs.lemmas.Lists.{flat-filtered}
 
 -- ---- lists
-
-pub flat-filtered : {A B : Type 0} (q : B → Bool) (f : A → List B) (xs : List A) → filter q (flat_map f xs) ≡ flat_map (λ x. filter q (f x)) xs
-flat-filtered q f [] = refl
-flat-filtered q f (x ∷ xs) = filter-append q (f x) (flat_map f xs) ∙ ap (λ l. filter q (f x) ++ l) (flat-filtered q f xs)
 
 -- ---- tokens, entry by entry
 
