@@ -1,5 +1,5 @@
 use crate::flags::{Count, Flag, answered};
-use flat_actors::Gate;
+use flat_race::Gate;
 use flat_scene::Reply;
 
 /// Opens entries in one order, and looks whether it is told of each with its reply.

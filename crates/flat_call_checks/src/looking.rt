@@ -1,6 +1,6 @@
 use crate::flags::Count;
 use crate::order::InOrder;
-use flat_actors::Gate;
+use flat_race::Gate;
 use flat_scene::Reply;
 
 /// Opens entries and probes' lines in one order, but for one line that looks once before

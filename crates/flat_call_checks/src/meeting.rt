@@ -1,5 +1,5 @@
 use crate::flags::{Flag, answered};
-use flat_actors::Gate;
+use flat_race::Gate;
 use flat_scene::Reply;
 
 /// The two sessions of `TWO` meet at the gate; then the second makes its entry first.

@@ -1,5 +1,5 @@
 use crate::flags::{Count, answered};
-use flat_actors::Gate;
+use flat_race::Gate;
 use flat_scene::Reply;
 
 /// Whether the entry or line of an actor stands at a place of an order, or all that have an

@@ -23,14 +23,14 @@ use Rattle.flat_report.specs.Report.{finished}
 use Rattle.flat_play.specs.Playing.{HasPlayed}
 use Rattle.flat_play.proofs.lemmas.Places.{all_to, drop_all}
 use Rattle.flat_play.proofs.lemmas.Starting.{is_numbered}
-use Rattle.flat_actors.specs.declared.film.Film.{Film}
+use Rattle.flat_race.specs.declared.film.Film.{Film}
 use Rattle.flat_race.specs.Ends.{HaveEnded}
 use Rattle.flat_race.specs.SessionThreads.{AreBack}
-use Rattle.flat_actors.specs.Directing.{SeatStands}
+use Rattle.flat_race.specs.Directing.{SeatStands}
 use Rattle.flat_play.specs.Beginning.{AreBegun}
 use Rattle.flat_report.specs.Probes.{ProbesAnswered}
-use Rattle.flat_actors.proofs.lemmas.Beside.{IsBeside, seen_beside}
-use Rattle.flat_actors.proofs.lemmas.StillStands.{display_same, stored_same}
+use Rattle.flat_race.proofs.lemmas.Beside.{IsBeside, seen_beside}
+use Rattle.flat_race.proofs.lemmas.StillStands.{display_same, stored_same}
 use Rattle.flat_race.proofs.Probed.{answered-on-all}
 use Rattle.flat_base.proofs.lemmas.Tests.{and-true}
 

@@ -1,7 +1,17 @@
 pub mod Closing
+pub mod DirectSteps
+pub mod Finishing
+pub mod LineSteps
+pub mod LinesBeside
+pub mod Looks
 pub mod Outs
 pub mod PlaceLists
+pub mod ProbeLines
 pub mod Probed
 pub mod Published
 pub mod RaceEnds
+pub mod ReadLines
+pub mod SessionSteps
 pub mod Settled
+pub mod Stopping
+pub mod lemmas

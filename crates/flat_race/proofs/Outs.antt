@@ -10,9 +10,9 @@ use Rattle.flat_play.proofs.lemmas.Slots.{got-other, got-same, set-length}
 use Rattle.flat_stage.specs.Homes.{AreFresh, fresh_view, seats_without, session_at}
 use Rattle.flat_stage.specs.Seats.{SessionView, StageView}
 use Rattle.flat_race.specs.declared.threads.Out.{Out}
-use Rattle.flat_actors.specs.declared.session.SessionBack.{SessionBack}
+use Rattle.flat_race.specs.declared.session.SessionBack.{SessionBack}
 use Rattle.flat_race.specs.SessionThreads.{AreBack, AreLeft, AreOut, IsOut}
-use Rattle.flat_actors.specs.Sessions.{HasRun}
+use Rattle.flat_race.specs.Sessions.{HasRun}
 
 module _ {X : Type 0} where
   pub got-push : (xs : List X) (x : X) (i : ℕ) (o : X) → slice_get (xs ++ x ∷ []) i ≡ Some o → (slice_get xs i ≡ Some o) ⊎ ((i ≡ length xs) × (o ≡ x))

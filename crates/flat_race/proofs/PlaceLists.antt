@@ -19,7 +19,7 @@ use Rattle.flat_play.proofs.lemmas.PlaySteps.{below_declared}
 use Rattle.flat_play.proofs.lemmas.Slots.{got-other, got-same, set-length}
 use Rattle.flat_play.proofs.lemmas.Steps.{at_place}
 use Rattle.flat_race.specs.PlaceLists.{ArePlaces, noted}
-use Rattle.flat_actors.specs.OwnLines.{own_places, places_from}
+use Rattle.flat_race.specs.OwnLines.{own_places, places_from}
 
 -- ---- one line more
 

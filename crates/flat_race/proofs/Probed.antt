@@ -23,11 +23,11 @@ use Rattle.flat_race.specs.declared.probe_threads.ProbeOut.{ProbeOut}
 use Rattle.flat_report.specs.declared.probes.ProbeAnswer.{ProbeAnswer}
 use Rattle.flat_report.specs.Probes.{AreAnsweredBy, ProbesAnswered}
 use Rattle.flat_race.specs.ProbeThreads.{AreAnswered, AreProbesOut, IsProbeOut}
-use Rattle.flat_actors.specs.Publishing.{PublishedStand, hits_of, published_frames}
+use Rattle.flat_race.specs.Publishing.{PublishedStand, hits_of, published_frames}
 use Rattle.flat_race.proofs.Outs.{got-push}
 use Rattle.flat_report.proofs.lemmas.ProbeSteps.{answered-later, still-answered}
 use Rattle.flat_race.proofs.Published.{last-published, published-hits}
-use Rattle.flat_actors.proofs.lemmas.SeenFrames.{seen-more}
+use Rattle.flat_race.proofs.lemmas.SeenFrames.{seen-more}
 
 -- a probe that begins with all that was published, and saw no later frame, saw just that
 pub seen-published : (old new published : List Frame) → IsPrefix old new → IsPrefix published new → IsRising new → last_number new ≡ last_number published

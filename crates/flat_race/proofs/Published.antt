@@ -20,9 +20,9 @@ use Rattle.flat_publish.proofs.lemmas.Beginnings.{last_snoc, rises_snoc}
 use Rattle.flat_report.specs.Report.{begin_of, hits_at}
 use Rattle.flat_play.proofs.lemmas.Seen.{frames_more}
 use Rattle.flat_report.specs.Probes.{hits_in_frame}
-use Rattle.flat_actors.specs.Publishing.{hits_of, published_frames, shown_frame}
+use Rattle.flat_race.specs.Publishing.{hits_of, published_frames, shown_frame}
 use Rattle.flat_report.proofs.lemmas.ProbeSteps.{begin-stays}
-use Rattle.flat_actors.proofs.lemmas.SeenFrames.{hits-last, hits-later}
+use Rattle.flat_race.proofs.lemmas.SeenFrames.{hits-last, hits-later}
 
 -- ---- before any frame
 

@@ -14,7 +14,7 @@ use Rattle.flat_play.specs.Beginning.{AreBegun}
 use Rattle.flat_play.specs.Runs.{HasRun}
 use Rattle.flat_play.proofs.lemmas.Begun.{none-begun}
 use Rattle.flat_play.proofs.lemmas.Seen.{kept_none}
-use Rattle.flat_actors.specs.declared.film.Film.{Film}
+use Rattle.flat_race.specs.declared.film.Film.{Film}
 use Rattle.flat_race.specs.Ends.{HaveRaced, IsStopped}
 
 pub ok_raced : (r : Result Ended (Option Stopped)) (e : Ended) → r ≡ Ok e → {D : Type 0} (told : D → Option (List FrameOut)) (count : D → ℕ)

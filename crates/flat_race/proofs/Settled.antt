@@ -28,7 +28,7 @@ use Rattle.flat_play.specs.declared.frame.LastFrame.{LastFrame}
 use Rattle.flat_play.specs.Last.{StaysLast}
 use Rattle.flat_play.proofs.lemmas.Seen.{last-begin}
 use Rattle.flat_race.specs.Settling.{LastIsPublished, by_last, settled}
-use Rattle.flat_actors.specs.Publishing.{hits_of, published_frames}
+use Rattle.flat_race.specs.Publishing.{hits_of, published_frames}
 use Rattle.flat_race.proofs.Published.{last-published, published-hits}
 
 -- ---- one after another

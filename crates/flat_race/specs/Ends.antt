@@ -6,7 +6,7 @@ use Rattle.flat_places.specs.declared.script.Script.{Script}
 use Rattle.flat_stage.specs.Displays.{CompositorView, DisplayView, IsNewCompositor}
 use Rattle.flat_stage.specs.Homes.{AreFresh, SeatsView}
 use Rattle.flat_stage.specs.Seats.{StageView}
-use Rattle.flat_actors.specs.declared.film.Film.{Film}
+use Rattle.flat_race.specs.declared.film.Film.{Film}
 use Rattle.flat_report.specs.Probes.{ProbesAnswered}
 use Rattle.flat_report.specs.Report.{finished}
 use Rattle.flat_rules.specs.Legal.{frames}
@@ -15,8 +15,8 @@ use Rattle.flat_play.specs.Keeping.{keeping_of}
 use Rattle.flat_play.specs.Playing.{HasPlayed}
 use Rattle.flat_play.specs.Showing.{HaveSeen}
 use Rattle.flat_playable.specs.Playable.{is_playable}
-use Rattle.flat_actors.specs.Directing.{FilmStands, HasStopped, IsNewFilm, SeatStands}
-use Rattle.flat_actors.specs.Sessions.{IsStageOf}
+use Rattle.flat_race.specs.Directing.{FilmStands, HasStopped, IsNewFilm, SeatStands}
+use Rattle.flat_race.specs.Sessions.{IsStageOf}
 use Rattle.flat_race.specs.declared.running.Halt.{Halt}
 use Rattle.flat_race.specs.declared.running.Halt.TheVariants.{Early, Late}
 use Rattle.flat_race.specs.declared.running.Stopped.{Stopped}

@@ -1,5 +1,10 @@
+pub mod Directing
 pub mod Ends
+pub mod OwnLines
 pub mod PlaceLists
 pub mod ProbeThreads
+pub mod Probing
+pub mod Publishing
 pub mod SessionThreads
+pub mod Sessions
 pub mod Settling

@@ -3,7 +3,7 @@ use Rattle.std.specs.Prelude.{◌≡◌, ℕ, ◌+◌, ◌-◌, ◌≤◌, List,
 use Rattle.flat_base.specs.declared.ids.Actor.{Actor}
 use Rattle.flat_base.specs.declared.ids.Actor.TheVariants.{Session}
 use Rattle.flat_scene.specs.declared.script.ScriptLine.{ScriptLine}
-use Rattle.flat_actors.specs.OwnLines.{own_places}
+use Rattle.flat_race.specs.OwnLines.{own_places}
 
 -- Each of these lists, from one on, has the places of its session: the first those of session 1.
 pub record ArePlaces (lines : List ScriptLine) (first : ℕ) (places : List (List ℕ)) : Type 0 where

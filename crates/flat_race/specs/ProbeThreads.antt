@@ -9,8 +9,8 @@ use Rattle.flat_race.specs.declared.probe_threads.ProbeOut.{ProbeOut}
 use Rattle.flat_race.specs.declared.probe_threads.ProbeOut.TheVariants.{Thread, Here}
 use Rattle.flat_report.specs.declared.probes.ProbeAnswer.{ProbeAnswer}
 use Rattle.flat_report.specs.Probes.{AreAnsweredBy}
-use Rattle.flat_actors.specs.Publishing.{hits_of}
-use Rattle.flat_actors.specs.Probing.{HasAsked}
+use Rattle.flat_race.specs.Publishing.{hits_of}
+use Rattle.flat_race.specs.Probing.{HasAsked}
 
 -- a probe is out: with a thread that promises to hand it back, or it came back here
 abbrev pub IsProbeOut : Script → Book → ℕ → ProbeOut → Type 0

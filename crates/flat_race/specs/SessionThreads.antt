@@ -8,7 +8,7 @@ use Rattle.flat_stage.specs.Homes.{fresh_view}
 use Rattle.flat_stage.specs.Seats.{SessionView, StageView}
 use Rattle.flat_race.specs.declared.threads.Out.{Out}
 use Rattle.flat_race.specs.declared.threads.Out.TheVariants.{Thread, Here}
-use Rattle.flat_actors.specs.Sessions.{HasRun}
+use Rattle.flat_race.specs.Sessions.{HasRun}
 
 -- a session's seat is out: with a thread that promises to hand it back, or it came back here
 abbrev pub IsOut : StageView → Script → SessionNo → Out → Type 0

@@ -9,7 +9,7 @@ use Rattle.flat_topology.specs.Hits.{hit_list}
 use Rattle.flat_publish.specs.Frames.{last_number}
 use Rattle.flat_publish.specs.State as publish
 use Rattle.flat_play.specs.declared.frame.LastFrame.{LastFrame}
-use Rattle.flat_actors.specs.Publishing.{hits_of}
+use Rattle.flat_race.specs.Publishing.{hits_of}
 
 -- the answer of the last frame, with its hits, to what was asked
 abbrev pub by_last : ℕ → (ℤ → ℤ → List Hit) → ProbeAnswer → ProbeAnswer

@@ -9,13 +9,15 @@ ghost use Rattle.flat_play.specs.Last.{IsLast, StaysLast};
 ghost use Rattle.flat_publish.specs.Frames.{last_number};
 ghost use Rattle.flat_publish.specs.State.{newcomer};
 ghost use Rattle.flat_report.specs.Probes.{AreAnsweredBy};
-ghost use Rattle.flat_actors.specs.Probing.{HasAsked};
-ghost use Rattle.flat_actors.specs.Publishing.{hits_of};
+ghost use Rattle.flat_race.specs.Probing.{HasAsked};
+ghost use Rattle.flat_race.specs.Publishing.{hits_of};
 ghost use Rattle.flat_race.specs.ProbeThreads.{AreAnswered, AreProbesOut, IsProbeOut};
 ghost use Rattle.flat_race.specs.Settling.{LastIsPublished};
 
+use crate::gate::Gate;
+use crate::lent::Lent;
+use crate::probe::{Asking, ProbeBack, run_probe};
 use crate::settling::settle;
-use flat_actors::{Asking, Gate, Lent, ProbeBack, run_probe};
 use flat_base::NoMemory;
 use flat_places::Script;
 use flat_play::LastFrame;
@@ -35,7 +37,7 @@ pub(crate) struct Asked<'a> {
 }
 
 impl<'a> Promise<ProbeBack> for Asked<'a> {
-    ghost use Rattle.flat_actors.specs.Probing.{HasAsked};
+    ghost use Rattle.flat_race.specs.Probing.{HasAsked};
 
     ghost kept_by = { λ p r. HasAsked p.script.now p.home p.probe r };
 }

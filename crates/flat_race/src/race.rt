@@ -10,13 +10,14 @@ ghost use Rattle.flat_report.specs.Report.{finished};
 ghost use Rattle.flat_play.specs.Beginning.{AreBegun};
 ghost use Rattle.flat_play.specs.Keeping.{keeping_of};
 ghost use Rattle.flat_play.specs.Runs.{HasRun};
-ghost use Rattle.flat_actors.specs.Directing.{IsNewFilm};
+ghost use Rattle.flat_race.specs.Directing.{IsNewFilm};
 ghost use Rattle.flat_race.specs.declared.running.Stopped.{Stopped};
 ghost use Rattle.flat_race.specs.Ends.{AreAtRest, HaveEnded, IsHandedOut, MayRace};
-ghost use Rattle.flat_actors.specs.Sessions.{IsStageOf};
+ghost use Rattle.flat_race.specs.Sessions.{IsStageOf};
 
+use crate::film::Film;
+use crate::gate::Gate;
 use crate::running::{Ended, Raced, Stopped, on_threads};
-use flat_actors::{Film, Gate};
 use flat_base::NoMemory;
 use flat_display::{Display, DisplaySet};
 use flat_places::Script;

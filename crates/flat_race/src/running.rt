@@ -4,9 +4,12 @@ ghost use Rattle.std.specs.Prelude.{◌≡◌, ◌<◌, [], length, map, replica
 ghost use Rattle.flat_publish.specs.State.{newcomer};
 ghost use Rattle.flat_race.specs.Ends.{HaveRaced, IsStopped, MayRace, StopsAt};
 
+use crate::director::direct;
+use crate::film::Film;
+use crate::gate::Gate;
+use crate::lent::Lent;
 use crate::probe_threads::{meet_each, start_probes};
 use crate::threads::{COMPOSITOR, put_back, start_each};
-use flat_actors::{Film, Gate, Lent, direct};
 use flat_display::Display;
 use flat_places::Script;
 use flat_publish::{ProbeSeats, Published};

@@ -4,13 +4,15 @@
 ghost use Rattle.std.specs.Prelude.{◌≡◌, ◌+◌, ◌<◌, true, length, IfOk};
 ghost use Rattle.flat_playable.specs.Playable.{is_playable};
 ghost use Rattle.flat_stage.specs.Homes.{AreFresh, fresh_view};
-ghost use Rattle.flat_actors.specs.OwnLines.{own_places};
-ghost use Rattle.flat_actors.specs.Sessions.{HasRun, IsStageOf};
+ghost use Rattle.flat_race.specs.OwnLines.{own_places};
+ghost use Rattle.flat_race.specs.Sessions.{HasRun, IsStageOf};
 ghost use Rattle.flat_race.specs.PlaceLists.{ArePlaces};
 ghost use Rattle.flat_race.specs.SessionThreads.{AreBack, AreLeft, AreOut, IsOut};
 
+use crate::gate::Gate;
+use crate::lent::Lent;
 use crate::own_lines::{PlaceList, places_by_session};
-use flat_actors::{Gate, Lent, SessionBack, both, run_session};
+use crate::session::{SessionBack, both, run_session};
 use flat_base::{NoMemory, SessionNo};
 use flat_places::Script;
 use flat_stage::{SessionSeat, SessionSeats, Stage};
@@ -31,7 +33,7 @@ pub(crate) struct Promised<'a> {
 }
 
 impl<'a> Promise<SessionBack> for Promised<'a> {
-    ghost use Rattle.flat_actors.specs.Sessions.{HasRun};
+    ghost use Rattle.flat_race.specs.Sessions.{HasRun};
 
     ghost kept_by = { λ p r. HasRun p.stage.now p.script.now p.session r };
 }

@@ -5,9 +5,9 @@ use Rattle.flat_publish.specs.Frames.{last_number}
 use Rattle.flat_publish.proofs.lemmas.Beginnings.{prefix_trans}
 use Rattle.flat_report.specs.declared.probes.ProbeAnswer.{ProbeAnswer}
 use Rattle.flat_report.specs.Probes.{AreAnsweredBy}
-use Rattle.flat_actors.specs.Publishing.{hits_of}
+use Rattle.flat_race.specs.Publishing.{hits_of}
 use Rattle.flat_race.specs.Settling.{settled}
-use Rattle.flat_actors.proofs.lemmas.SeenFrames.{seen-more, hits-later}
+use Rattle.flat_race.proofs.lemmas.SeenFrames.{seen-more, hits-later}
 use Rattle.flat_race.proofs.Settled.{settled-answers}
 use Rattle.flat_race.proofs.probe_threads.hold.Goals as goal
 

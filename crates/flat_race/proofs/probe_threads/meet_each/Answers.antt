@@ -3,7 +3,7 @@ use Rattle.flat_publish.specs.State.{Publishing}
 use Rattle.flat_publish.specs.Frames.{last_number}
 use Rattle.flat_report.specs.Report.{probe_lines_of}
 use Rattle.flat_report.specs.Probes.{AreAnsweredBy}
-use Rattle.flat_actors.specs.Publishing.{hits_of}
+use Rattle.flat_race.specs.Publishing.{hits_of}
 use Rattle.flat_play.proofs.lemmas.Places.{setup_is}
 use Rattle.flat_race.proofs.Probed.{few-fits, few-probes, answered-more, probe-next}
 use Rattle.flat_race.proofs.Settled.{last-stays}

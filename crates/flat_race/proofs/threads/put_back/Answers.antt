@@ -6,7 +6,7 @@ use Rattle.flat_base.proofs.lemmas.Tests.{and-left, and-right}
 use Rattle.flat_play.proofs.lemmas.Places.{setup_is}
 use Rattle.flat_play.proofs.lemmas.Starting.{few_sessions}
 use Rattle.flat_race.specs.SessionThreads.{AreBack}
-use Rattle.flat_actors.specs.Sessions.{HasRun}
+use Rattle.flat_race.specs.Sessions.{HasRun}
 use Rattle.flat_race.proofs.Outs.{back-more, out-last}
 use Rattle.flat_race.proofs.threads.put_back.Goals as goal
 

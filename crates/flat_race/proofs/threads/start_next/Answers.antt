@@ -3,7 +3,7 @@ use Rattle.std.proofs.lemmas.Option.{slice_get-get_or}
 use Rattle.flat_base.specs.declared.ids.SessionNo.{SessionNo}
 use Rattle.flat_stage.specs.Homes.{SeatsView, fresh_view}
 use Rattle.flat_stage.specs.Seats.{SessionView}
-use Rattle.flat_actors.specs.OwnLines.{own_places}
+use Rattle.flat_race.specs.OwnLines.{own_places}
 use Rattle.flat_race.specs.PlaceLists.{ArePlaces}
 use Rattle.flat_race.specs.SessionThreads.{IsOut}
 use Rattle.flat_race.proofs.PlaceLists.{placed-next, placed-own}

@@ -1,7 +1,0 @@
-use Rattle.std.proofs.Common.{◌≡◌}
-use Rattle.flat_stage.specs.Seats.{setup_of}
-use Rattle.flat_actors.specs.Directing.{HasLooked}
-use Rattle.flat_actors.proofs.pausing.look_again.Given as goal
-
-abbrev pub invariant-loop : goal.invariant-loop
-invariant-loop g l = (l.compositor.display.stage ≡ l.lent.stage.now) × HasLooked (setup_of l.lent.stage.now) l.fn.compositor l.compositor

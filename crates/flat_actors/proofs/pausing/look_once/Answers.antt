@@ -1,5 +1,0 @@
-use Rattle.flat_actors.proofs.Looks.{looked_none, looked_more, may_look, legal_there}
-use Rattle.flat_actors.proofs.pausing.look_once.Goals as goal
-
-pub look-requires-clause-may : goal.look-requires-clause-may
-look-requires-clause-may g c = may_look _ _ _ c.requires.own c.requires.may

@@ -1,5 +1,0 @@
-use Rattle.flat_actors.specs.Sessions.{IsSame}
-use Rattle.flat_actors.proofs.session.look_again.Given as goal
-
-abbrev pub invariant-loop : goal.invariant-loop
-invariant-loop g l = IsSame l.fn.seat l.seat

@@ -1,0 +1,7 @@
+use Rattle.std.proofs.Common.{◌≡◌}
+use Rattle.flat_stage.specs.Seats.{setup_of}
+use Rattle.flat_race.specs.Directing.{HasLooked}
+use Rattle.flat_race.proofs.pausing.look_again.Given as goal
+
+abbrev pub invariant-loop : goal.invariant-loop
+invariant-loop g l = (l.compositor.display.stage ≡ l.lent.stage.now) × HasLooked (setup_of l.lent.stage.now) l.fn.compositor l.compositor
