@@ -24,6 +24,17 @@ use flat_states::log::Log;
 use flat_states::state::{SessionState, let_go, take_ready};
 use std::sync::Arc;
 
+/// The begin of a frame, and what decides which presents are ready by then.
+#[derive(Clone, Copy)]
+pub struct FrameBegin<'a> {
+    pub setup: &'a Setup,
+    /// The line of the script that begins the frame.
+    pub line: u32,
+    pub time: u64,
+    /// The fences that are signalled.
+    pub fences: &'a FenceSet,
+}
+
 /// Shows a state of a session from now on, or nothing. Notes that the session changed,
 /// unless nothing was shown and nothing is.
 fn show(into: &mut Shown, changed: &mut SessionSet, s: SessionNo, state: Option<Arc<Snapshot>>)
@@ -42,34 +53,33 @@ fn show(into: &mut Shown, changed: &mut SessionSet, s: SessionNo, state: Option<
 
 /// What a begin does for one session. Answers how many events it posts.
 pub fn begin_one(
-    setup: &Setup,
-    line: u32,
-    time: u64,
-    fences: &FenceSet,
+    begin: FrameBegin<'_>,
     s: SessionNo,
     state: &mut SessionState,
     log: &mut Log,
     into: &mut Shown,
     changed: &mut SessionSet,
 ) -> usize
-    requires legal { Legal setup.now (begun log.old.history line time) }
+    requires legal { Legal begin.setup.now (begun log.old.history begin.line begin.time) }
     requires place { length log.old.history < 2 ^ 32 }
     requires some { 0 < s.0 }
     requires few { s.0 ≤ length into.old }
     requires within { s.0 ≤ SESSIONS_MAX }
-    requires fences { (f : FenceNo) → has fences.now f ≡ is_signalled setup.now log.old.history f }
-    requires count { length fences.now ≡ length setup.now.fences }
-    requires kept { IsKept setup.now (seen_of setup.now log.old.history s) state.old }
+    requires fences { (f : FenceNo) → has begin.fences.now f
+        ≡ is_signalled begin.setup.now log.old.history f }
+    requires count { length begin.fences.now ≡ length begin.setup.now.fences }
+    requires kept { IsKept begin.setup.now (seen_of begin.setup.now log.old.history s) state.old }
     requires shown { slice_get into.old (s.0 - 1)
-        ≡ Some (shown setup.now (to_begin log.old.history) s) }
+        ≡ Some (shown begin.setup.now (to_begin log.old.history) s) }
     requires room { due state.old ≤ log.old.post_room }
-    ensures kept { IsKept setup.now (seen_of setup.now (begun log.old.history line time) s)
-        state.new }
-    ensures shown { into.new ≡ slice_set into.old
-        (s.0 - 1) (shown setup.now (begun log.old.history line time) s) }
+    ensures kept { IsKept begin.entry.setup.now (seen_of begin.entry.setup.now
+        (begun log.old.history begin.entry.line begin.entry.time) s) state.new }
+    ensures shown { into.new ≡ slice_set into.old (s.0 - 1)
+        (shown begin.entry.setup.now (begun log.old.history begin.entry.line begin.entry.time) s) }
     ensures changes { NotesChanges changed.old changed.new into.old into.new }
     ensures posts { log.new.posts ≡ log.old.posts ++ map (post_of (length log.old.history) s)
-        (events_to setup.now log.old.history (begin_entry line time) s) }
+        (events_to begin.entry.setup.now log.old.history
+        (begin_entry begin.entry.line begin.entry.time) s) }
     ensures count { length log.new.posts ≡ length log.old.posts + result }
     ensures history { log.new.history ≡ log.old.history }
     ensures room { log.new.room ≡ log.old.room }
@@ -86,7 +96,7 @@ pub fn begin_one(
         return 0;
     }
     let before = state.queue.credits();
-    match take_ready(state, time, fences) {
+    match take_ready(state, begin.time, begin.fences) {
         Some(snap) => {
             let gained = state.queue.credits().saturating_sub(before);
             log.post(Post {
@@ -103,33 +113,33 @@ pub fn begin_one(
 
 /// What a begin does for all sessions. Answers how many events it posts.
 pub fn begin_all(
-    setup: &Setup,
-    line: u32,
-    time: u64,
-    fences: &FenceSet,
+    begin: FrameBegin<'_>,
     sessions: &mut Vec<SessionState>,
     log: &mut Log,
     into: &mut Shown,
     changed: &mut SessionSet,
 ) -> usize
-    requires legal { Legal setup.now (begun log.old.history line time) }
+    requires legal { Legal begin.setup.now (begun log.old.history begin.line begin.time) }
     requires place { length log.old.history < 2 ^ 32 }
-    requires within { setup.now.sessions ≤ SESSIONS_MAX }
-    requires fences { (f : FenceNo) → has fences.now f ≡ is_signalled setup.now log.old.history f }
-    requires count { length fences.now ≡ length setup.now.fences }
-    requires all { length sessions.old.items ≡ setup.now.sessions }
-    requires kept { AllNumbered (λ i. IsKept setup.now (seen_of setup.now log.old.history
-        (number i))) sessions.old.items }
-    requires shown { into.old ≡ shown_states setup.now (to_begin log.old.history) }
+    requires within { begin.setup.now.sessions ≤ SESSIONS_MAX }
+    requires fences { (f : FenceNo) → has begin.fences.now f
+        ≡ is_signalled begin.setup.now log.old.history f }
+    requires count { length begin.fences.now ≡ length begin.setup.now.fences }
+    requires all { length sessions.old.items ≡ begin.setup.now.sessions }
+    requires kept { AllNumbered (λ i. IsKept begin.setup.now
+        (seen_of begin.setup.now log.old.history (number i))) sessions.old.items }
+    requires shown { into.old ≡ shown_states begin.setup.now (to_begin log.old.history) }
     requires room { sum_by due sessions.old.items ≤ log.old.post_room }
     requires small { sum_by due sessions.old.items < 2 ^ 64 }
-    ensures all { length sessions.new.items ≡ setup.now.sessions }
-    ensures kept { AllNumbered (λ i. IsKept setup.now
-        (seen_of setup.now (begun log.old.history line time) (number i))) sessions.new.items }
-    ensures shown { into.new ≡ shown_states setup.now (begun log.old.history line time) }
+    ensures all { length sessions.new.items ≡ begin.entry.setup.now.sessions }
+    ensures kept { AllNumbered (λ i. IsKept begin.entry.setup.now
+        (seen_of begin.entry.setup.now (begun log.old.history begin.entry.line begin.entry.time)
+        (number i))) sessions.new.items }
+    ensures shown { into.new ≡ shown_states begin.entry.setup.now
+        (begun log.old.history begin.entry.line begin.entry.time) }
     ensures changes { NotesChanges changed.old changed.new into.old into.new }
-    ensures posts { log.new.posts ≡ log.old.posts ++ posts_to setup.now log.old.history
-        (begin_entry line time) setup.now.sessions }
+    ensures posts { log.new.posts ≡ log.old.posts ++ posts_to begin.entry.setup.now log.old.history
+        (begin_entry begin.entry.line begin.entry.time) begin.entry.setup.now.sessions }
     ensures count { length log.new.posts ≡ length log.old.posts + result }
     ensures history { log.new.history ≡ log.old.history }
     ensures room { log.new.room ≡ log.old.room }
@@ -137,19 +147,9 @@ pub fn begin_all(
     ensures due { sum_by due sessions.new.items + result ≤ sum_by due sessions.old.items }
 {
     let mut count = 0usize;
-    for i in 0..setup.sessions {
+    for i in 0..begin.setup.sessions {
         let state = &mut sessions[i as usize];
-        count += begin_one(
-            setup,
-            line,
-            time,
-            fences,
-            SessionNo(i + 1),
-            state,
-            log,
-            into,
-            changed,
-        );
+        count += begin_one(begin, SessionNo(i + 1), state, log, into, changed);
     }
     count
 }

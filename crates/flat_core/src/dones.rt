@@ -34,6 +34,18 @@ use flat_scene::{Event, Post, SessionSet, Setup};
 use flat_states::log::Log;
 use flat_states::state::SessionState;
 
+/// The end of a frame.
+#[derive(Drop)]
+pub struct FrameEnd<'a, T: Tells> {
+    pub setup: &'a Setup,
+    /// The line of the script that ends the frame.
+    pub line: u32,
+    /// The sessions that may hear something new.
+    pub heard: SessionSet,
+    /// What tells pairs' values after the frame.
+    pub tells: &'a T,
+}
+
 fn signal_list(list: &[FenceNo], fences: &mut FenceSet)
     requires { Below (length fences.old) list.now }
     ensures size { length fences.new ≡ length fences.old }
@@ -78,15 +90,14 @@ fn post_took(took: u32, s: SessionNo, log: &mut Log) -> usize
     1
 }
 
-/// What the end of a frame does for one session, but for its gets. Answers how many
-/// events it posts.
+/// What the end of a frame does for one session, but for its fences and its gets. Answers
+/// how many events it posts.
 fn done_one(
     setup: &Setup,
     line: u32,
     s: SessionNo,
     state: &mut SessionState,
     ends: &mut Viewports,
-    fences: &mut FenceSet,
     log: &mut Log,
 ) -> usize
     requires legal { Legal setup.now log.old.history }
@@ -94,7 +105,6 @@ fn done_one(
     requires declared { is_declared setup.now s ≡ true }
     requires place { length log.old.history < 2 ^ 32 }
     requires opened { is_frame_open log.old.history ≡ true }
-    requires count { length fences.old ≡ length setup.now.fences }
     requires kept { IsKept setup.now (seen_of setup.now log.old.history s) state.old }
     requires ends { AreViewports setup.now log.old.history s ends.old.live.items
         ends.old.out.items }
@@ -103,9 +113,6 @@ fn done_one(
         state.new }
     ensures ends { AreViewports setup.now (finished log.old.history line) s ends.new.live.items
         ends.new.out.items }
-    ensures size { length fences.new ≡ length fences.old }
-    ensures members { (g : FenceNo) → has fences.new g
-        ≡ (has fences.old g || is_released_by (going setup.now log.old.history s) g) }
     ensures posts { log.new.posts ≡ log.old.posts ++ map (post_of (length log.old.history) s)
         (cond (is_closed s log.old.history) [] (took_event (frame_took setup.now log.old.history s)
         ++ back_events (taken setup.now log.old.history s) ends.old.out.items)) }
@@ -115,7 +122,6 @@ fn done_one(
     ensures post_room { log.new.post_room + result ≡ log.old.post_room }
     ensures due { due state.new + due_back ends.new + result ≤ due state.old + due_back ends.old }
 {
-    signal_lists(state.going.as_slice(), fences);
     let took = state.took;
     state.took = 0;
     if state.closed {
@@ -126,59 +132,65 @@ fn done_one(
     presented + back
 }
 
+/// Whether a set has a session.
+fn has_session(set: SessionSet, s: SessionNo) -> bool
+    requires { 0 < s.0 }
+    ensures { result ≡ is_member set s.0 }
+{
+    match set.has.get(s.0 as usize - 1) {
+        Some(is_in) => *is_in,
+        None => false,
+    }
+}
+
 /// Whether a session is passed over when gets are answered: it is closed, or hears nothing
-/// anew.
+/// new.
 fn is_passed(closed: bool, hears: bool) -> bool
     ensures { result ≡ (closed || not hears) }
 {
     closed || !hears
 }
 
-/// What the end of a frame does for one session: its gets are answered, where it may hear
-/// something anew, and then it hears of the frame and of its tokens. Answers how many
-/// events it posts.
+/// What the end of a frame does for one session, but for its fences. It answers the session's
+/// gets if they may hear something new, and then posts what the frame took and which tokens
+/// came back. Answers how many events it posts.
 fn finish_one<T: Tells>(
-    setup: &Setup,
-    line: u32,
+    end: &FrameEnd<'_, T>,
     s: SessionNo,
-    hears: bool,
     state: &mut SessionState,
     ends: &mut Viewports,
-    fences: &mut FenceSet,
     watchers: &mut Watchers,
-    tells: &T,
     log: &mut Log,
 ) -> usize
-    requires legal { Legal setup.now log.old.history }
-    requires may { MayEnter setup.now log.old.history Display [] Finish }
-    requires tells { T.stands tells.now setup.now (finished log.old.history line) }
-    requires others { hears ≡ false → TellsTheSame setup.now log.old.history
-        (finished log.old.history line) s }
+    requires legal { Legal end.now.setup.now log.old.history }
+    requires may { MayEnter end.now.setup.now log.old.history Display [] Finish }
+    requires tells { T.stands end.now.tells.now end.now.setup.now
+        (finished log.old.history end.now.line) }
+    requires others { is_member end.now.heard s.0 ≡ false →
+        TellsTheSame end.now.setup.now log.old.history
+        (finished log.old.history end.now.line) s }
     requires some { 0 < s.0 }
-    requires few { s.0 ≤ setup.now.sessions }
+    requires few { s.0 ≤ end.now.setup.now.sessions }
     requires place { length log.old.history < 2 ^ 32 - 1 }
     requires opened { is_frame_open log.old.history ≡ true }
-    requires count { length fences.old ≡ length setup.now.fences }
-    requires kept { IsKept setup.now (seen_of setup.now log.old.history s) state.old }
-    requires ends { AreViewports setup.now log.old.history s ends.old.live.items
+    requires kept { IsKept end.now.setup.now (seen_of end.now.setup.now log.old.history s)
+        state.old }
+    requires ends { AreViewports end.now.setup.now log.old.history s ends.old.live.items
         ends.old.out.items }
-    requires watched { WatchedUpTo setup.now (s.0 - 1) (finished log.old.history line)
-        log.old.history watchers.old }
+    requires watched { WatchedUpTo end.now.setup.now (s.0 - 1)
+        (finished log.old.history end.now.line) log.old.history watchers.old }
     requires room { due state.old + due_back ends.old + due_told watchers.old
         ≤ log.old.post_room }
     requires small { due state.old + due_back ends.old + due_told watchers.old < 2
         ^ 64 }
-    ensures kept { IsKept setup.now (seen_of setup.now (finished log.old.history line) s)
-        state.new }
-    ensures ends { AreViewports setup.now (finished log.old.history line) s ends.new.live.items
-        ends.new.out.items }
-    ensures watched { WatchedUpTo setup.now s.0 (finished log.old.history line) log.old.history
-        watchers.new }
-    ensures size { length fences.new ≡ length fences.old }
-    ensures members { (g : FenceNo) → has fences.new g
-        ≡ (has fences.old g || is_released_by (going setup.now log.old.history s) g) }
+    ensures kept { IsKept end.now.setup.now (seen_of end.now.setup.now
+        (finished log.old.history end.now.line) s) state.new }
+    ensures ends { AreViewports end.now.setup.now (finished log.old.history end.now.line) s
+        ends.new.live.items ends.new.out.items }
+    ensures watched { WatchedUpTo end.now.setup.now s.0 (finished log.old.history end.now.line)
+        log.old.history watchers.new }
     ensures posts { log.new.posts ≡ log.old.posts ++ map (post_of (length log.old.history) s)
-        (events_to setup.now log.old.history (finish_entry line) s) }
+        (events_to end.now.setup.now log.old.history (finish_entry end.now.line) s) }
     ensures count { length log.new.posts ≡ length log.old.posts + result }
     ensures history { log.new.history ≡ log.old.history }
     ensures room { log.new.room ≡ log.old.room }
@@ -186,52 +198,53 @@ fn finish_one<T: Tells>(
     ensures due { due state.new + due_back ends.new + due_told watchers.new
         + result ≤ due state.old + due_back ends.old + due_told watchers.old }
 {
-    let passed = is_passed(state.closed, hears);
-    let told = watchers.settle(s, passed, tells, log);
-    told + done_one(setup, line, s, state, ends, fences, log)
+    let passed = is_passed(state.closed, has_session(end.heard, s));
+    let told = watchers.settle(s, passed, end.tells, log);
+    told + done_one(end.setup, end.line, s, state, ends, log)
 }
 
-/// What the end of a frame does for all sessions, of which these may hear something anew.
-/// Answers how many events it posts.
+/// What the end of a frame does for all sessions. Answers how many events it posts.
 pub fn done_all<T: Tells>(
-    setup: &Setup,
-    line: u32,
-    heard: SessionSet,
+    end: &FrameEnd<'_, T>,
     fences: &mut FenceSet,
     sessions: &mut Vec<SessionState>,
     ends: &mut Vec<Viewports>,
     watchers: &mut Watchers,
-    tells: &T,
     log: &mut Log,
 ) -> usize
-    requires tells { T.stands tells.now setup.now (finished log.old.history line) }
-    requires within { setup.now.sessions ≤ SESSIONS_MAX }
-    requires others { (s : SessionNo) → is_declared setup.now s ≡ true → is_member heard s.0 ≡ false
-        → TellsTheSame setup.now log.old.history (finished log.old.history line) s }
-    requires watched { AreWatched setup.now log.old.history watchers.old }
-    requires legal { Legal setup.now log.old.history }
-    requires may { MayEnter setup.now log.old.history Display [] Finish }
+    requires tells { T.stands end.now.tells.now end.now.setup.now
+        (finished log.old.history end.now.line) }
+    requires within { end.now.setup.now.sessions ≤ SESSIONS_MAX }
+    requires others { (s : SessionNo) → is_declared end.now.setup.now s ≡ true →
+        is_member end.now.heard s.0 ≡ false → TellsTheSame end.now.setup.now log.old.history
+        (finished log.old.history end.now.line) s }
+    requires watched { AreWatched end.now.setup.now log.old.history watchers.old }
+    requires legal { Legal end.now.setup.now log.old.history }
+    requires may { MayEnter end.now.setup.now log.old.history Display [] Finish }
     requires place { length log.old.history < 2 ^ 32 - 1 }
     requires opened { is_frame_open log.old.history ≡ true }
-    requires count { length fences.old ≡ length setup.now.fences }
-    requires all { length sessions.old.items ≡ setup.now.sessions }
-    requires kept { AllNumbered (λ i. IsKept setup.now (seen_of setup.now log.old.history
-        (number i))) sessions.old.items }
-    requires ends { AreEnds setup.now log.old.history ends.old.items }
+    requires count { length fences.old ≡ length end.now.setup.now.fences }
+    requires all { length sessions.old.items ≡ end.now.setup.now.sessions }
+    requires kept { AllNumbered (λ i. IsKept end.now.setup.now
+        (seen_of end.now.setup.now log.old.history (number i))) sessions.old.items }
+    requires ends { AreEnds end.now.setup.now log.old.history ends.old.items }
     requires room { all_due sessions.old.items ends.old.items watchers.old
         ≤ log.old.post_room }
     requires small { all_due sessions.old.items ends.old.items watchers.old < 2 ^ 64 }
-    ensures all { length sessions.new.items ≡ setup.now.sessions }
-    ensures kept { AllNumbered (λ i. IsKept setup.now
-        (seen_of setup.now (finished log.old.history line) (number i))) sessions.new.items }
-    ensures ends { AreEnds setup.now (finished log.old.history line) ends.new.items }
-    ensures watched { AreWatched setup.now (finished log.old.history line) watchers.new }
+    ensures all { length sessions.new.items ≡ end.now.setup.now.sessions }
+    ensures kept { AllNumbered (λ i. IsKept end.now.setup.now
+        (seen_of end.now.setup.now (finished log.old.history end.now.line) (number i)))
+        sessions.new.items }
+    ensures ends { AreEnds end.now.setup.now (finished log.old.history end.now.line)
+        ends.new.items }
+    ensures watched { AreWatched end.now.setup.now (finished log.old.history end.now.line)
+        watchers.new }
     ensures size { length fences.new ≡ length fences.old }
-    ensures members { (g : FenceNo) → has fences.new g
-        ≡ (has fences.old g || list_any (λ s. is_released_by (going setup.now log.old.history s) g)
-        (sessions_to setup.now.sessions)) }
-    ensures posts { log.new.posts ≡ log.old.posts ++ posts_to setup.now log.old.history
-        (finish_entry line) setup.now.sessions }
+    ensures members { (g : FenceNo) → has fences.new g ≡ (has fences.old g ||
+        list_any (λ s. is_released_by (going end.now.setup.now log.old.history s) g)
+        (sessions_to end.now.setup.now.sessions)) }
+    ensures posts { log.new.posts ≡ log.old.posts ++ posts_to end.now.setup.now log.old.history
+        (finish_entry end.now.line) end.now.setup.now.sessions }
     ensures count { length log.new.posts ≡ length log.old.posts + result }
     ensures history { log.new.history ≡ log.old.history }
     ensures room { log.new.room ≡ log.old.room }
@@ -240,21 +253,11 @@ pub fn done_all<T: Tells>(
         ≤ all_due sessions.old.items ends.old.items watchers.old }
 {
     let mut count = 0usize;
-    for i in 0..setup.sessions {
+    for i in 0..end.setup.sessions {
         let state = &mut sessions[i as usize];
         let one = &mut ends[i as usize];
-        count += finish_one(
-            setup,
-            line,
-            SessionNo(i + 1),
-            heard.has[i as usize],
-            state,
-            one,
-            fences,
-            watchers,
-            tells,
-            log,
-        );
+        signal_lists(state.going.as_slice(), fences);
+        count += finish_one(end, SessionNo(i + 1), state, one, watchers, log);
     }
     count
 }

@@ -19,6 +19,14 @@ use flat_states::replies::{closes, note_entry};
 use flat_states::state::SessionState;
 use std::alloc::Global;
 
+/// A viewport that an entry makes.
+#[derive(Clone, Copy)]
+pub struct NewViewport {
+    /// The pair whose viewport end it uses.
+    pub pair: PairNo,
+    pub props: ViewportProps,
+}
+
 /// What is kept of sessions' viewports before any entry.
 pub fn new_ends(alloc: Global, n: u32) -> Result<Vec<Viewports>, NoMemory>
     ensures count { IfOk result (λ ends. length ends.items ≡ n) }
@@ -74,34 +82,37 @@ fn note_ends(
     note_viewports(ends, entry, state.account.presents);
 }
 
-/// Uses the viewport end of a pair by the last of the calls of an entry of a session
-/// that is open, where its token is held, and notes them. Answers whether it was.
+/// Notes the calls of an open session's entry. The last call uses the viewport end of a
+/// pair if the session holds its token. Answers whether it does.
 pub fn use_ends(
     state: &SessionState,
     ends: &mut Viewports,
     ties: &mut Ties,
     s: SessionNo,
     calls: &[Call],
-    p: PairNo,
-    props: ViewportProps,
+    viewport: NewViewport,
 ) -> bool
     requires some { 0 < s.0 }
     requires few { s.0 ≤ length ties.old.followings.items }
     requires others { list_any is_new_viewport (all_but_last calls.now) ≡ false }
-    requires last { uses_last p calls.now ≡ true }
+    requires last { uses_last viewport.pair calls.now ≡ true }
     requires room_live { length ends.old.live.items < vec_capacity ends.old.live }
     requires room_out { length ends.old.out.items < vec_capacity ends.old.out }
-    ensures held { result ≡ not (list_any (λ one. one.pair.0 == p.0) ends.old.out.items) }
-    ensures used { IsUsed p calls.now state.now.account.presents result ends.old ends.new }
-    ensures ties { TiesUsed s calls.now p props result state.now ends.old ties.old ties.new }
+    ensures held { result
+        ≡ not (list_any (λ one. one.pair.0 == viewport.pair.0) ends.old.out.items) }
+    ensures used { IsUsed viewport.pair calls.now state.now.account.presents result ends.old
+        ends.new }
+    ensures ties { TiesUsed s calls.now viewport.pair viewport.props result state.now ends.old
+        ties.old ties.new }
 {
     let account = state.account;
-    if is_out(ends.out.as_slice(), p) {
+    let NewViewport { pair, props } = viewport;
+    if is_out(ends.out.as_slice(), pair) {
         ties.note(s, calls, account, ends.live.as_slice());
         return false;
     }
-    ties.use_viewport(s, calls, account, ends.live.as_slice(), p, props);
-    ends.use_end(calls, p, account.presents);
+    ties.use_viewport(s, calls, account, ends.live.as_slice(), pair, props);
+    ends.use_end(calls, pair, account.presents);
     true
 }
 

@@ -69,7 +69,8 @@ module _ (setup : Setup) where
   news_for before entry s =
       flat_map (λ p. told_event p (layout_of p) before entry) (views_of setup s)
       ++ flat_map (λ p. told_event p (status_of p) before entry) (views_of setup s)
-      ++ flat_map (λ p. flat_map (λ n. told_event p (child_of p n) before entry) (up_to (length (viewport_uses p before))))
+      ++ flat_map (λ p.
+      flat_map (λ n. told_event p (child_of p n) before entry) (up_to (length (viewport_uses p before))))
       (viewports_of setup s)
       ++ cond (is_finish entry.kind) (at_finish before s) []
       ++ cond (is_begin entry.kind) (at_begin before entry s) []

@@ -1,6 +1,6 @@
 -- Small drafts and their trees, computed.
 use Rattle.std.proofs.Common.{◌≡◌, ℕ, pos, List, [], ◌∷◌, refl, ◌++◌}
-use Rattle.std.specs.Prelude.{false, Option, Some, None, Ok, Err, Result, zero, suc}
+use Rattle.std.specs.Prelude.{◌||◌, true, false, Option, Some, None, Ok, Err, Result, zero, suc}
 use Rattle.std.specs.Option.{option_map}
 use Rattle.flat_base.specs.declared.ids.TransformId.{TransformId}
 use Rattle.flat_base.specs.declared.ids.ContentId.{ContentId}
@@ -19,6 +19,7 @@ use Rattle.flat_scene.specs.Misuse.{first_reason, children_of}
 use Rattle.flat_scene.specs.Tree.{tree, present_tests, all_nodes}
 use Rattle.flat_scene.specs.Trees.{node_count}
 use Rattle.flat_scene.proofs.SmallHistories.{setup, t0}
+use Rattle.flat_scene.specs.CallKinds.{is_fill_call, is_image_call, is_viewport_call}
 
 abbrev pub t : ℕ → TransformId
 t n = record { 0 = n }
@@ -124,3 +125,18 @@ unknown_child = refl
 
 child_twice : draft_of setup (diamond ++ call.ReplaceChildren (t 1) (t 2 ∷ t 3 ∷ t 2 ∷ []) ∷ []) ≡ Err reason.AlreadyChild
 child_twice = refl
+
+-- ---- kinds of calls
+
+releases_a_viewport : is_viewport_call (call.ReleaseViewport (record { 0 = 1 })) ≡ true
+releases_a_viewport = refl
+
+releases_an_image : is_image_call (call.ReleaseImage (record { 0 = 1 })) ≡ true
+releases_an_image = refl
+
+releases_a_fill : is_fill_call (call.ReleaseFilledRect (record { 0 = 1 })) ≡ true
+releases_a_fill = refl
+
+-- a Clear is on none of them
+clears_all : (is_viewport_call call.Clear || is_image_call call.Clear || is_fill_call call.Clear) ≡ false
+clears_all = refl

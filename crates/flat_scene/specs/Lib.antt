@@ -1,3 +1,4 @@
+pub mod CallKinds
 pub mod Cycles
 pub mod Draft
 pub mod Effect

@@ -1,4 +1,5 @@
-ghost use Rattle.std.specs.Prelude.{◌≡◌, Bool, IfOk, false, true};
+ghost use Rattle.std.specs.Prelude.{◌≡◌, IfOk, true};
+ghost use Rattle.flat_scene.specs.CallKinds.{is_fill_call, is_image_call, is_viewport_call};
 ghost use Rattle.flat_scene.specs.declared.trees.Children.TheVariants.{More};
 
 use crate::calls::{Call, PresentArgs, RegionList};
@@ -238,12 +239,7 @@ impl TryCopy for Call {
 
 /// The same call on a viewport.
 fn copy_viewport_call(call: &Call) -> Call
-    requires { elim call.now as (λ v. Bool) [
-      | Call.CreateViewport c pair w h inset ↦ true
-      | Call.SetViewportProperties c w h inset ↦ true
-      | Call.ReleaseViewport c ↦ true
-      | _ ↦ false
-    ] ≡ true }
+    requires { is_viewport_call call.now ≡ true }
     ensures { result ≡ call.now }
 {
     match *call {
@@ -273,16 +269,7 @@ fn copy_viewport_call(call: &Call) -> Call
 
 /// The same call on an image.
 fn copy_image_call(call: &Call) -> Call
-    requires { elim call.now as (λ v. Bool) [
-      | Call.CreateImage c buffers i w h ↦ true
-      | Call.SetImageSampleRegion c rect ↦ true
-      | Call.SetImageDestinationSize c w h ↦ true
-      | Call.SetImageBlendingFunction c m ↦ true
-      | Call.SetImageFlip c f ↦ true
-      | Call.SetImageOpacity c v ↦ true
-      | Call.ReleaseImage c ↦ true
-      | _ ↦ false
-    ] ≡ true }
+    requires { is_image_call call.now ≡ true }
     ensures { result ≡ call.now }
 {
     match *call {
@@ -311,12 +298,7 @@ fn copy_image_call(call: &Call) -> Call
 
 /// The same call on a filled rectangle.
 fn copy_fill_call(call: &Call) -> Call
-    requires { elim call.now as (λ v. Bool) [
-      | Call.CreateFilledRect c ↦ true
-      | Call.SetSolidFill c r g b a w h ↦ true
-      | Call.ReleaseFilledRect c ↦ true
-      | _ ↦ false
-    ] ≡ true }
+    requires { is_fill_call call.now ≡ true }
     ensures { result ≡ call.now }
 {
     match *call {

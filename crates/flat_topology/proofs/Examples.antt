@@ -20,7 +20,8 @@ use Rattle.flat_topology.specs.Views.{view_nodes, apart_sessions}
 use Rattle.flat_topology.specs.Hits.{hit_list}
 use Rattle.flat_topology.specs.Connected.{connected_sessions}
 use Rattle.flat_topology.proofs.lemmas.Samples.{session, rect, whole, shell_setup, shell_shown, shell_without_mail, nested_setup, nested_shown, round_setup}
-use Rattle.flat_topology.proofs.lemmas.Samples.{round_shown, alone_setup, red_at, image_of_opacities, turned_shown, two_regions, stacked_regions, rootless_shown}
+use Rattle.flat_topology.proofs.lemmas.Samples.{round_shown, alone_setup, red_at, image_of_opacities}
+use Rattle.flat_topology.proofs.lemmas.Samples.{turned_shown, two_regions, stacked_regions, rootless_shown}
 
 abbrev moved_matrix : ℤ → ℤ → SceneMatrix
 moved_matrix x y = record { swap = false; a = pos 65536; b = pos 65536; x = x; y = y }

@@ -1,8 +1,11 @@
 //! The entries of the display: its pixel ratio is set, a frame begins, ends, or a point is
 //! asked of it.
 ghost use Rattle.std.specs.Prelude.{◌≡◌, ◌+◌, true, []};
+ghost use Rattle.flat_base.specs.declared.ids.Actor.TheVariants.{Display};
+ghost use Rattle.flat_scene.specs.declared.journal.Reply.TheVariants.{Done};
 ghost use Rattle.flat_scene.specs.Frames.{ratio};
 ghost use Rattle.flat_scene.specs.Interleave.{entry_of_display};
+ghost use Rattle.flat_facts.specs.Begins.{entry_of};
 ghost use Rattle.flat_states.specs.Machines.{MayCall, entered};
 ghost use Rattle.flat_rules.specs.Ends.{to_begin};
 ghost use Rattle.flat_rules.specs.Legal.{frames, reply_to};
@@ -10,9 +13,9 @@ ghost use Rattle.flat_rules.specs.Shown.{shown_states};
 ghost use Rattle.flat_core.specs.Changes.{NotesChanges};
 ghost use Rattle.flat_core.specs.Starts.{is_beside, IsStart, StartsFrame, TakesReady};
 
-use crate::begins::begin_all;
+use crate::begins::{FrameBegin, begin_all};
 use crate::board::Board;
-use crate::dones::done_all;
+use crate::dones::{FrameEnd, done_all};
 use crate::entries::enter;
 use crate::start::FrameStart;
 use crate::telling::Telling;
@@ -21,11 +24,23 @@ use flat_join::Shown;
 use flat_scene::{CallList, DisplayLine, Entry, Kind, Reply, SessionSet};
 use flat_states::clock::Clock;
 use flat_states::port::port_of;
+use std::alloc::Global;
+
+/// An entry of the display that is done and carries no calls.
+fn display_entry(alloc: Global, line: u32, kind: Kind) -> Entry
+    ensures { result ≡ entry_of Display line [] kind Done }
+{
+    Entry {
+        actor: Actor::Display,
+        line,
+        calls: CallList::new(alloc),
+        kind,
+        reply: Reply::Done,
+    }
+}
 
 impl Board {
-    ghost use Rattle.flat_base.specs.declared.ids.Actor.TheVariants.{Display};
     ghost use Rattle.flat_scene.specs.declared.journal.Kind.TheVariants.{Begin, Dpr, Finish, Hit};
-    ghost use Rattle.flat_scene.specs.declared.journal.Reply.TheVariants.{Done};
 
     /// Begins a frame, of which `start` then says what it shows. Each open session shows what
     /// was taken last of it, a closed one nothing. Answers the frame's number. It takes no memory.
@@ -61,16 +76,13 @@ impl Board {
         ensures changed { NotesChanges changed.old changed.new into.old into.new }
         ensures takes { TakesReady self.old self.new.history time }
     {
-        let count = begin_all(
-            &self.setup,
+        let begin = FrameBegin {
+            setup: &self.setup,
             line,
             time,
-            &self.fences,
-            &mut self.sessions,
-            &mut self.log,
-            into,
-            changed,
-        );
+            fences: &self.fences,
+        };
+        let count = begin_all(begin, &mut self.sessions, &mut self.log, into, changed);
         self.ties.begin(&self.setup, self.sessions.as_slice(), into);
         self.owed -= count;
         let frames = self.clock.frames;
@@ -86,13 +98,7 @@ impl Board {
             &mut self.viewports,
             &mut self.ties,
             &mut self.log,
-            Entry {
-                actor: Actor::Display,
-                line,
-                calls: CallList::new(self.alloc),
-                kind: Kind::Begin(time),
-                reply: Reply::Done,
-            },
+            display_entry(self.alloc, line, Kind::Begin(time)),
         );
         FrameNo(frames + 1)
     }
@@ -120,15 +126,18 @@ impl Board {
             ties: &self.ties,
             views: &self.view_ends,
         };
-        let count = done_all(
-            &self.setup,
+        let end = FrameEnd {
+            setup: &self.setup,
             line,
             heard,
+            tells: &telling,
+        };
+        let count = done_all(
+            &end,
             &mut self.fences,
             &mut self.sessions,
             &mut self.viewports,
             &mut self.watchers,
-            &telling,
             &mut self.log,
         );
         self.owed -= count;
@@ -145,13 +154,7 @@ impl Board {
             &mut self.viewports,
             &mut self.ties,
             &mut self.log,
-            Entry {
-                actor: Actor::Display,
-                line,
-                calls: CallList::new(self.alloc),
-                kind: Kind::Finish,
-                reply: Reply::Done,
-            },
+            display_entry(self.alloc, line, Kind::Finish),
         );
         FrameNo(frames)
     }
@@ -188,13 +191,7 @@ impl Board {
             &mut self.viewports,
             &mut self.ties,
             &mut self.log,
-            Entry {
-                actor: Actor::Display,
-                line,
-                calls: CallList::new(self.alloc),
-                kind: Kind::Dpr(ratio),
-                reply: Reply::Done,
-            },
+            display_entry(self.alloc, line, Kind::Dpr(ratio)),
         );
         Reply::Done
     }
@@ -211,13 +208,7 @@ impl Board {
             &mut self.viewports,
             &mut self.ties,
             &mut self.log,
-            Entry {
-                actor: Actor::Display,
-                line,
-                calls: CallList::new(self.alloc),
-                kind: Kind::Hit(x, y),
-                reply: Reply::Done,
-            },
+            display_entry(self.alloc, line, Kind::Hit(x, y)),
         );
         Reply::Done
     }

@@ -14,7 +14,7 @@ use crate::entries::enter;
 use crate::telling::Telling;
 use flat_base::{Actor, NoMemory, PairNo, SessionNo};
 use flat_gets::watching::Watchers;
-use flat_links::entries::use_ends;
+use flat_links::entries::{NewViewport, use_ends};
 use flat_links::viewports::Viewports;
 use flat_scene::{CallList, Entry, Kind, Reply, ViewportProps, Watch};
 use flat_states::log::Log;
@@ -83,7 +83,8 @@ impl Board {
         }
         let state = &mut self.sessions[place];
         let ends = &mut self.viewports[place];
-        let is_held = use_ends(state, ends, &mut self.ties, s, calls.as_slice(), p, props);
+        let made = NewViewport { pair: p, props };
+        let is_held = use_ends(state, ends, &mut self.ties, s, calls.as_slice(), made);
         let reply = use_reply(is_held);
         let entry = Entry {
             actor: Actor::Session(s),

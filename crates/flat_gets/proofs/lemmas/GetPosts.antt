@@ -33,6 +33,7 @@ use Rattle.flat_states.proofs.lemmas.BeginLoop.{flat-on}
 use Rattle.flat_facts.proofs.lemmas.Between.{events-joined}
 use Rattle.flat_gets.proofs.lemmas.GetHistory.{events-finished, events-told}
 use Rattle.flat_gets.proofs.GetSteps.{idle-kind, quiet-all, rests-refused}
+use Rattle.flat_states.proofs.lemmas.BoardBegins.{posts-all}
 
 -- ---- one session's posts
 

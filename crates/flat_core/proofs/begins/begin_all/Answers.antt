@@ -17,10 +17,10 @@ loop-i-preserved c =
     let inv = c.loop-i.invariant in
     let e = c.begin_one-count.ensures in
     let i = c.loop-i.i in
-    let setup = c.args.setup.now in
+    let setup = c.args.begin.setup.now in
     let h = c.args.log.now.history in
-    let line = c.args.line in
-    let time = c.args.time in
+    let line = c.args.begin.line in
+    let time = c.args.begin.time in
     let is = c.index_mut-state.ensures.value in
     let below : i < length c.loop-i.sessions.items = omega (arith, inv.all, c.loop-i-test.true) in
     let same : c.loop-i.log.history ≡ h = inv.history in
@@ -43,14 +43,14 @@ loop-i-preserved c =
 
 pub loop-i-init : goal.loop-i-init
 loop-i-init c =
-    let setup = c.args.setup.now in
+    let setup = c.args.begin.setup.now in
     let h = c.args.log.now.history in
     let states = each-listed (shown setup (to_begin h)) c.args.into.now setup.sessions c.requires.shown in
     record {
       all = c.requires.all;
-      kept = kept-start setup h c.args.line c.args.time c.args.sessions.now.items c.requires.kept;
+      kept = kept-start setup h c.args.begin.line c.args.begin.time c.args.sessions.now.items c.requires.kept;
       shown_count = states.0;
-      shown = shown-start setup h c.args.line c.args.time c.args.into.now states.1;
+      shown = shown-start setup h c.args.begin.line c.args.begin.time c.args.into.now states.1;
       changes = λ k none. (none, refl);
       posts = sym (append-nil _);
       posted = omega arith;
@@ -64,13 +64,14 @@ pub begin_one-count-requires-clause-shown : goal.begin_one-count-requires-clause
 begin_one-count-requires-clause-shown c =
     let inv = c.loop-i.invariant in
     let below : c.loop-i.i < length c.loop-i.into = omega (arith, inv.shown_count, c.loop-i-test.true) in
-    shown-there c.args.setup.now c.loop-i.log.history c.args.log.now.history c.args.line c.args.time c.loop-i.i c.loop-i.into inv.history inv.shown below
+    shown-there c.args.begin.setup.now c.loop-i.log.history c.args.log.now.history c.args.begin.line c.args.begin.time c.loop-i.i c.loop-i.into inv.history
+    inv.shown below
 
 pub returns-clause-shown : goal.returns-clause-shown
 returns-clause-shown c =
     let inv = c.loop-i.invariant in
-    let setup = c.args.setup.now in
+    let setup = c.args.begin.setup.now in
     let last : c.loop-i.i ≡ setup.sessions = omega (arith, c.loop-i.auto.i-end, c.loop-i-test.false) in
-    let P : ℕ → Type 0 = λ n. AllNumbered (ShownUpTo setup c.args.log.now.history c.args.line c.args.time n) c.loop-i.into in
-    listed (shown setup (begun c.args.log.now.history c.args.line c.args.time)) c.loop-i.into setup.sessions None inv.shown_count
-    (shown-end setup c.args.log.now.history c.args.line c.args.time setup.sessions c.loop-i.into inv.shown_count (subst P last inv.shown))
+    let P : ℕ → Type 0 = λ n. AllNumbered (ShownUpTo setup c.args.log.now.history c.args.begin.line c.args.begin.time n) c.loop-i.into in
+    listed (shown setup (begun c.args.log.now.history c.args.begin.line c.args.begin.time)) c.loop-i.into setup.sessions None inv.shown_count
+    (shown-end setup c.args.log.now.history c.args.begin.line c.args.begin.time setup.sessions c.loop-i.into inv.shown_count (subst P last inv.shown))

@@ -9,12 +9,12 @@ use Rattle.flat_core.proofs.begins.begin_all.Given as goal
 
 abbrev pub invariant-loop-i : goal.invariant-loop-i
 invariant-loop-i l = record {
-  all : length l.sessions.items ≡ l.setup.sessions;
-  kept : AllNumbered (KeptUpTo l.setup l.fn.log.history l.line l.time l.i) l.sessions.items;
-  shown_count : length l.into ≡ l.setup.sessions;
-  shown : AllNumbered (ShownUpTo l.setup l.fn.log.history l.line l.time l.i) l.into;
+  all : length l.sessions.items ≡ l.begin.setup.now.sessions;
+  kept : AllNumbered (KeptUpTo l.begin.setup.now l.fn.log.history l.begin.line l.begin.time l.i) l.sessions.items;
+  shown_count : length l.into ≡ l.begin.setup.now.sessions;
+  shown : AllNumbered (ShownUpTo l.begin.setup.now l.fn.log.history l.begin.line l.begin.time l.i) l.into;
   changes : NotesChanges l.fn.changed l.changed l.fn.into l.into;
-  posts : l.log.posts ≡ l.fn.log.posts ++ posts_to l.setup l.fn.log.history (begin_entry l.line l.time) l.i;
+  posts : l.log.posts ≡ l.fn.log.posts ++ posts_to l.begin.setup.now l.fn.log.history (begin_entry l.begin.line l.begin.time) l.i;
   posted : length l.log.posts ≡ length l.fn.log.posts + l.count;
   history : l.log.history ≡ l.fn.log.history;
   room : l.log.room ≡ l.fn.log.room;

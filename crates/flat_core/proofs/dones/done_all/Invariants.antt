@@ -12,14 +12,14 @@ use Rattle.flat_core.proofs.dones.done_all.Given as goal
 
 abbrev pub invariant-loop-i : goal.invariant-loop-i
 invariant-loop-i g l = record {
-  all : length l.sessions.items ≡ l.setup.sessions;
-  kept : AllNumbered (DoneUpTo l.setup l.fn.log.history l.line l.i) l.sessions.items;
-  ends_all : length l.ends.items ≡ l.setup.sessions;
-  watched : WatchedUpTo l.setup l.i (finished l.fn.log.history l.line) l.fn.log.history l.watchers;
-  ends : AllNumbered (EndsUpTo l.setup l.fn.log.history l.line l.i) l.ends.items;
+  all : length l.sessions.items ≡ l.end.setup.now.sessions;
+  kept : AllNumbered (DoneUpTo l.end.setup.now l.fn.log.history l.end.line l.i) l.sessions.items;
+  ends_all : length l.ends.items ≡ l.end.setup.now.sessions;
+  watched : WatchedUpTo l.end.setup.now l.i (finished l.fn.log.history l.end.line) l.fn.log.history l.watchers;
+  ends : AllNumbered (EndsUpTo l.end.setup.now l.fn.log.history l.end.line l.i) l.ends.items;
   size : length l.fences ≡ length l.fn.fences;
-  members : (g : FenceNo) → has l.fences g ≡ (has l.fn.fences g || released_to l.setup l.fn.log.history l.i g);
-  posts : l.log.posts ≡ l.fn.log.posts ++ posts_to l.setup l.fn.log.history (finish_entry l.line) l.i;
+  members : (g : FenceNo) → has l.fences g ≡ (has l.fn.fences g || released_to l.end.setup.now l.fn.log.history l.i g);
+  posts : l.log.posts ≡ l.fn.log.posts ++ posts_to l.end.setup.now l.fn.log.history (finish_entry l.end.line) l.i;
   posted : length l.log.posts ≡ length l.fn.log.posts + l.count;
   history : l.log.history ≡ l.fn.log.history;
   room : l.log.room ≡ l.fn.log.room;

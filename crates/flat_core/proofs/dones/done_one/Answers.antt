@@ -1,11 +1,9 @@
 use Rattle.std.proofs.Common.{◌≡◌, ℕ, Bool, true, false, List, [], ◌++◌, length, refl, ap, sym, ◌∙◌}
 use Rattle.std.specs.Prelude.{cond, map}
 use Rattle.std.proofs.lemmas.List.{append-nil}
-use Rattle.flat_fence.specs.Fences.{has}
 use Rattle.flat_scene.specs.History.{is_closed}
 use Rattle.flat_rules.specs.Legal.{is_frame_open}
 use Rattle.flat_rules.specs.Posts.{frame_took}
-use Rattle.flat_scene.specs.Frames.{going}
 use Rattle.flat_scene.specs.declared.journal.Entry.{Entry}
 use Rattle.flat_scene.specs.Frames.{taken}
 use Rattle.flat_scene.specs.History.{◌▹◌}
@@ -14,20 +12,9 @@ use Rattle.flat_rules.specs.Legal.{Legal, LegalEntry}
 use Rattle.flat_states.specs.Seen.{seen_of}
 use Rattle.flat_links.specs.Viewports.{back_events}
 use Rattle.flat_states.proofs.lemmas.Counts.{seen-count, taken-kept}
-use Rattle.flat_states.proofs.lemmas.DoneSteps.{members-done}
 use Rattle.flat_links.proofs.lemmas.ViewportUses.{viewports-finish}
 use Rattle.flat_states.proofs.lemmas.DoneSteps.{told-then}
 use Rattle.flat_core.proofs.dones.done_one.Goals as goal
-
-pub returns-then-state-clause-members : goal.returns-then-state-clause-members
-returns-then-state-clause-members c g =
-    members-done (has c.args.fences.now g) (has c.signal_lists.new.fences g) _ (going c.args.setup.now c.args.log.now.history c.args.s) g
-    (c.signal_lists.ensures.members g) (c.as_slice.ensures.value ∙ c.requires.kept.going)
-
-pub returns-clause-members : goal.returns-clause-members
-returns-clause-members c g =
-    members-done (has c.args.fences.now g) (has c.signal_lists.new.fences g) _ (going c.args.setup.now c.args.log.now.history c.args.s) g
-    (c.signal_lists.ensures.members g) (c.as_slice.ensures.value ∙ c.requires.kept.going)
 
 pub returns-then-state-clause-posts : goal.returns-then-state-clause-posts
 returns-then-state-clause-posts c =

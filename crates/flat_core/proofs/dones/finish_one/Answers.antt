@@ -27,8 +27,8 @@ settle-told-requires-clause-few g c = few-to _ _ _ _ _ c.requires.watched c.requ
 
 pub settle-told-requires-clause-watched : goal.settle-told-requires-clause-watched
 settle-told-requires-clause-watched g c = (
-  c.args.setup.now,
-  (c.args.s.0 - 1, (finished c.args.log.now.history c.args.line, (c.args.log.now.history, c.requires.watched))),
+  c.args.end.now.setup.now,
+  (c.args.s.0 - 1, (finished c.args.log.now.history c.args.end.now.line, (c.args.log.now.history, c.requires.watched))),
 )
 
 pub settle-told-requires-clause-some : goal.settle-told-requires-clause-some
@@ -38,41 +38,47 @@ pub settle-told-requires-clause-within : goal.settle-told-requires-clause-within
 settle-told-requires-clause-within g c opened = omega (arith, c.requires.few, c.requires.watched.sessions)
 
 pub returns-clause-watched : goal.returns-clause-watched
-returns-clause-watched g c = by_shut c.args.state.now.closed c.args.hears refl refl
+returns-clause-watched g c = by_shut c.args.state.now.closed hears refl refl
   where
+    hears : Bool
+    hears = c.has_session.result
+
     setup : Setup
-    setup = c.args.setup.now
+    setup = c.args.end.now.setup.now
 
     h : List Entry
     h = c.args.log.now.history
 
     k : List Entry
-    k = finished h c.args.line
+    k = finished h c.args.end.now.line
 
     legal : Legal setup k
-    legal = (c.requires.legal, (let one : LegalEntry setup h (finish_entry c.args.line) = record { may = c.requires.may; reply = refl } in one))
+    legal = (c.requires.legal, (let one : LegalEntry setup h (finish_entry c.args.end.now.line) = record { may = c.requires.may; reply = refl } in one))
 
-    by_shut : (b d : Bool) → c.args.state.now.closed ≡ b → c.args.hears ≡ d → WatchedUpTo setup c.args.s.0 k h c.settle-told.new.self
+    by_shut : (b d : Bool) → c.args.state.now.closed ≡ b → hears ≡ d → WatchedUpTo setup c.args.s.0 k h c.settle-told.new.self
     by_shut true d is heard =
         let W : Watchers → Type 0 = λ w. WatchedUpTo setup c.args.s.0 k h w in
-        let passed : c.is_passed-passed.result ≡ true = c.is_passed-passed.ensures ∙ ap (λ (b : Bool). b || not c.args.hears) is in
-        subst W (sym (c.settle-told.ensures.same passed)) (watched-passed setup h c.args.line legal c.args.s c.requires.some c.requires.few
+        let passed : c.is_passed-passed.result ≡ true = c.is_passed-passed.ensures ∙ ap (λ (b : Bool). b || not hears) is in
+        subst W (sym (c.settle-told.ensures.same passed)) (watched-passed setup h c.args.end.now.line legal c.args.s c.requires.some c.requires.few
         (sym c.requires.kept.closed ∙ is) _ c.requires.watched)
     by_shut false true is heard =
-        let told : c.is_passed-passed.result ≡ false = c.is_passed-passed.ensures ∙ ap (λ (b : Bool). b || not c.args.hears) is ∙ ap not heard in
-        (watched-told setup h c.args.line legal c.args.s c.requires.some c.requires.few (sym c.requires.kept.closed ∙ is) _ _ _ _ _
+        let told : c.is_passed-passed.result ≡ false = c.is_passed-passed.ensures ∙ ap (λ (b : Bool). b || not hears) is ∙ ap not heard in
+        (watched-told setup h c.args.end.now.line legal c.args.s c.requires.some c.requires.few (sym c.requires.kept.closed ∙ is) _ _ _ _ _
         (c.settle-told.ensures.settled told setup k c.requires.tells) c.settle-told.ensures.due c.requires.watched).0
     by_shut false false is heard =
         let W : Watchers → Type 0 = λ w. WatchedUpTo setup c.args.s.0 k h w in
-        let passed : c.is_passed-passed.result ≡ true = c.is_passed-passed.ensures ∙ ap (λ (b : Bool). b || not c.args.hears) is ∙ ap not heard in
-        subst W (sym (c.settle-told.ensures.same passed)) (watched-kept setup h c.args.line legal c.args.s c.requires.some c.requires.few
-        (sym c.requires.kept.closed ∙ is) (c.requires.others heard) _ c.requires.watched).0
+        let passed : c.is_passed-passed.result ≡ true = c.is_passed-passed.ensures ∙ ap (λ (b : Bool). b || not hears) is ∙ ap not heard in
+        subst W (sym (c.settle-told.ensures.same passed)) (watched-kept setup h c.args.end.now.line legal c.args.s c.requires.some c.requires.few
+        (sym c.requires.kept.closed ∙ is) (c.requires.others (sym c.has_session.ensures ∙ heard)) _ c.requires.watched).0
 
 pub returns-clause-posts : goal.returns-clause-posts
 returns-clause-posts g c = by_shut c.args.state.now.closed refl
   where
+    hears : Bool
+    hears = c.has_session.result
+
     setup : Setup
-    setup = c.args.setup.now
+    setup = c.args.end.now.setup.now
 
     h : List Entry
     h = c.args.log.now.history
@@ -81,10 +87,10 @@ returns-clause-posts g c = by_shut c.args.state.now.closed refl
     s = c.args.s
 
     k : List Entry
-    k = finished h c.args.line
+    k = finished h c.args.end.now.line
 
     legal : Legal setup k
-    legal = (c.requires.legal, (let one : LegalEntry setup h (finish_entry c.args.line) = record { may = c.requires.may; reply = refl } in one))
+    legal = (c.requires.legal, (let one : LegalEntry setup h (finish_entry c.args.end.now.line) = record { may = c.requires.may; reply = refl } in one))
 
     declared : is_declared setup s ≡ true
     declared =
@@ -96,23 +102,24 @@ returns-clause-posts g c = by_shut c.args.state.now.closed refl
     rest = took_event (frame_took setup h s) ++ back_events (taken setup h s) c.args.ends.now.out.items
 
     -- what its gets are answered, if it hears something anew
-    answered : is_closed s h ≡ false → c.args.state.now.closed ≡ false → (d : Bool) → c.args.hears ≡ d
+    answered : is_closed s h ≡ false → c.args.state.now.closed ≡ false → (d : Bool) → hears ≡ d
         → c.settle-told.new.log.posts ≡ c.args.log.now.posts ++ map (post_of (length h) s) (answers_to (told setup k) (helds_of setup h s))
     answered opened is true heard =
-        let hears : c.is_passed-passed.result ≡ false = c.is_passed-passed.ensures ∙ ap (λ (b : Bool). b || not c.args.hears) is ∙ ap not heard in
-        (watched-told setup h c.args.line legal s c.requires.some c.requires.few opened _ _ _ _ _ (c.settle-told.ensures.settled hears setup k c.requires.tells)
-        c.settle-told.ensures.due c.requires.watched).1
+        let heeds : c.is_passed-passed.result ≡ false = c.is_passed-passed.ensures ∙ ap (λ (b : Bool). b || not hears) is ∙ ap not heard in
+        (watched-told setup h c.args.end.now.line legal s c.requires.some c.requires.few opened _ _ _ _ _
+        (c.settle-told.ensures.settled heeds setup k c.requires.tells) c.settle-told.ensures.due c.requires.watched).1
     answered opened is false heard =
-        let passed : c.is_passed-passed.result ≡ true = c.is_passed-passed.ensures ∙ ap (λ (b : Bool). b || not c.args.hears) is ∙ ap not heard in
-        let none = (watched-kept setup h c.args.line legal s c.requires.some c.requires.few opened (c.requires.others heard) _ c.requires.watched).1 in
+        let passed : c.is_passed-passed.result ≡ true = c.is_passed-passed.ensures ∙ ap (λ (b : Bool). b || not hears) is ∙ ap not heard in
+        let none = (watched-kept setup h c.args.end.now.line legal s c.requires.some c.requires.few opened
+        (c.requires.others (sym c.has_session.ensures ∙ heard)) _ c.requires.watched).1 in
         (c.settle-told.ensures.none passed).1 ∙ sym (append-nil _) ∙ ap (λ (l : List Event). c.args.log.now.posts ++ map (post_of (length h) s) l) (sym none)
 
     by_shut : (b : Bool) → c.args.state.now.closed ≡ b → c.done_one.new.log.posts ≡ c.args.log.now.posts
-        ++ map (post_of (length h) s) (events_to setup h (finish_entry c.args.line) s)
+        ++ map (post_of (length h) s) (events_to setup h (finish_entry c.args.end.now.line) s)
     by_shut true is =
-        let passed : c.is_passed-passed.result ≡ true = c.is_passed-passed.ensures ∙ ap (λ (b : Bool). b || not c.args.hears) is in
+        let passed : c.is_passed-passed.result ≡ true = c.is_passed-passed.ensures ∙ ap (λ (b : Bool). b || not hears) is in
         let closed : is_closed s h ≡ true = sym c.requires.kept.closed ∙ is in
-        let none : events_to setup h (finish_entry c.args.line) s ≡ [] = rw closed refl in
+        let none : events_to setup h (finish_entry c.args.end.now.line) s ≡ [] = rw closed refl in
         let same : c.settle-told.new.log.history ≡ h = c.settle-told.ensures.history in
         let posted : c.done_one.new.log.posts ≡ c.settle-told.new.log.posts ++ [] =
         c.done_one.ensures.posts ∙ ap (λ (l : List Entry). c.settle-told.new.log.posts
@@ -123,9 +130,9 @@ returns-clause-posts g c = by_shut c.args.state.now.closed refl
         ∙ ap (λ (l : List Event). c.args.log.now.posts ++ map (post_of (length h) s) l) (sym none)
     by_shut false is =
         let opened : is_closed s h ≡ false = sym c.requires.kept.closed ∙ is in
-        let first = answered opened is c.args.hears refl in
-        let events = finish-posts setup h c.args.line s declared c.requires.legal c.requires.opened opened c.args.ends.now.live.items c.args.ends.now.out.items
-        c.requires.ends in
+        let first = answered opened is hears refl in
+        let events = finish-posts setup h c.args.end.now.line s declared c.requires.legal c.requires.opened opened c.args.ends.now.live.items
+        c.args.ends.now.out.items c.requires.ends in
         let same : c.settle-told.new.log.history ≡ h = c.settle-told.ensures.history in
         let second : c.done_one.new.log.posts ≡ c.settle-told.new.log.posts ++ map (post_of (length h) s) rest =
         c.done_one.ensures.posts ∙ ap (λ (l : List Entry). c.settle-told.new.log.posts

@@ -18,7 +18,8 @@ one_more n lists longer new was more is =
     }
 
 pub loop-preserved : goal.loop-preserved
-loop-preserved c = one_more c.loop.counter c.loop.lists.items c.push.new.self.items _ c.loop.invariant c.in_ok-push.ensures.items c.in_ok-with_capacity.ensures.items
+loop-preserved c =
+    one_more c.loop.counter c.loop.lists.items c.push.new.self.items _ c.loop.invariant c.in_ok-push.ensures.items c.in_ok-with_capacity.ensures.items
 
 pub returns : goal.returns
 returns c = subst (λ n. AreEmpty n c.loop.lists.items) (omega (arith, c.loop-test.false, c.loop.auto.counter-end)) c.loop.invariant

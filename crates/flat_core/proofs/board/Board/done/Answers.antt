@@ -7,13 +7,12 @@ use Rattle.flat_states.proofs.lemmas.Opened.{few-declared}
 use Rattle.std.specs.List.{list_any}
 use Rattle.flat_facts.specs.Lives.{is_new_viewport}
 use Rattle.flat_base.specs.declared.ids.Actor.TheVariants.{Display}
-use Rattle.flat_scene.specs.declared.calls.Call.{Call}
 use Rattle.flat_scene.specs.declared.journal.Kind.TheVariants.{Finish}
 use Rattle.flat_scene.specs.declared.journal.Reply.TheVariants.{Done}
 use Rattle.flat_scene.specs.History.{◌▹◌}
 use Rattle.flat_scene.specs.declared.journal.Entry.{Entry}
 use Rattle.flat_states.specs.Machines.{Machine}
-use Rattle.flat_facts.specs.Begins.{entry_of, finish_entry, finished}
+use Rattle.flat_facts.specs.Begins.{finish_entry, finished}
 use Rattle.flat_rules.specs.Legal.{Legal}
 use Rattle.flat_states.proofs.lemmas.Steps.{has-room, legal-entered, short-history}
 use Rattle.flat_states.proofs.lemmas.BoardBegins.{kept-finished, place-small}
@@ -88,10 +87,10 @@ enter-requires c =
     let all = c.done_all-count.ensures in
     record {
       room = rw all.room (has-room _ _ _ _ may c.self.invariant.0.legal _ _ _ refl c.self.invariant.1);
-      placed = tt;
+      placed = rw c.display_entry.ensures tt;
       all = all.ends.count ∙ sym all.all;
       tied = c.finish-heard.ensures.sessions ∙ c.self.invariant.3.sessions ∙ sym all.all;
-      none = λ opened. ap (list_any is_new_viewport) c.new.ensures;
+      none = λ opened. ap (λ (e : Entry). list_any is_new_viewport e.calls) c.display_entry.ensures;
     }
 
 pub overflow_add-frames : goal.overflow_add-frames
@@ -104,9 +103,9 @@ pub invariant_of-self : goal.invariant_of-self
 invariant_of-self c =
     let may = rw (← c.self.view_is) at c.requires in
     let all = c.done_all-count.ensures in
-    let log = c.enter.ensures in
+    let log = rw c.display_entry.ensures at c.enter.ensures in
     let history : c.enter.new.log.history ≡ (c.done_all-count.new.log.history ▹ finish_entry c.args.line) =
-    log.history ∙ ap (λ (carries : List Call). c.done_all-count.new.log.history ▹ entry_of Display c.args.line carries Finish Done) c.new.ensures in
+    log.history in
     let kept = kept-finished _ c.args.line may _ _ _ _ _ _ _ _ _ _ _ refl c.self.invariant.0 c.self.invariant.1 all.all all.kept all.size all.members
     (record {
       posts = all.posts;

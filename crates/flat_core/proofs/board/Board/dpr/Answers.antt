@@ -5,6 +5,7 @@ use Rattle.flat_base.specs.declared.ids.Actor.TheVariants.{Display}
 use Rattle.flat_scene.specs.declared.journal.Kind.TheVariants.{Dpr}
 use Rattle.flat_scene.specs.declared.journal.Reply.TheVariants.{Done}
 use Rattle.flat_scene.specs.History.{◌▹◌}
+use Rattle.flat_scene.specs.declared.journal.Entry.{Entry}
 use Rattle.flat_states.specs.Machines.{Machine}
 use Rattle.flat_facts.specs.Begins.{entry_of}
 use Rattle.flat_links.proofs.lemmas.EndSteps.{ends-after}
@@ -18,20 +19,20 @@ enter-requires c =
     let call = rw (← c.self.view_is) at c.requires in
     record {
       room = has-room _ _ _ _ call c.self.invariant.0.legal _ _ _ refl c.self.invariant.1;
-      placed = tt;
+      placed = rw c.display_entry.ensures tt;
       all = c.self.invariant.2.count ∙ sym c.self.invariant.0.count;
       tied = c.self.invariant.3.sessions ∙ sym c.self.invariant.0.count;
-      none = λ opened. ap (list_any is_new_viewport) c.new.ensures;
+      none = λ opened. ap (λ (e : Entry). list_any is_new_viewport e.calls) c.display_entry.ensures;
     }
 
 pub invariant_of-self : goal.invariant_of-self
 invariant_of-self c =
     let call = rw (← c.self.view_is) at c.requires in
-    let log = c.enter.ensures in
+    let log = rw c.display_entry.ensures at c.enter.ensures in
     let inside = c.self.inside in
     let m : Machine = record { setup = inside.setup; shares = inside.shares; history = inside.log.history } in
     let history : c.enter.new.log.history ≡ (inside.log.history ▹ entry_of Display c.args.line [] (Dpr c.args.ratio) Done) =
-    log.history ∙ rw c.new.ensures refl in
+    log.history in
     let ends = ends-after m Display c.args.line [] (Dpr c.args.ratio) Done call refl refl refl (λ opened. refl) c.self.invariant.0.legal inside.sessions.items
     inside.viewports.items c.enter.new.ends.items inside.ties c.enter.new.ties tt log.ends c.self.invariant.2 c.self.invariant.3 in
     let kept = kept-quiet m Display c.args.line [] (Dpr c.args.ratio) Done call refl

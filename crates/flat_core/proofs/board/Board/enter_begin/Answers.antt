@@ -1,9 +1,7 @@
 use Rattle.std.specs.List.{list_any}
 use Rattle.flat_facts.specs.Lives.{is_new_viewport}
-use Rattle.std.proofs.Common.{◌≡◌, List, [], ◌∷◌, ◌++◌, length, true, false, ◌+◌, ◌<◌, ◌^◌, Some, slice_get, refl, sym, ◌∙◌, ap, subst, arith}
-use Rattle.flat_base.specs.declared.ids.SessionNo.{SessionNo}
+use Rattle.std.proofs.Common.{◌≡◌, List, [], length, ◌+◌, ◌<◌, ◌^◌, refl, sym, ◌∙◌, ap, subst, arith}
 use Rattle.flat_base.specs.declared.ids.Actor.TheVariants.{Display}
-use Rattle.flat_scene.specs.declared.calls.Call.{Call}
 use Rattle.flat_scene.specs.declared.journal.Entry.{Entry}
 use Rattle.flat_scene.specs.declared.journal.Kind.TheVariants.{Begin}
 use Rattle.flat_scene.specs.declared.journal.Reply.TheVariants.{Done}
@@ -11,7 +9,7 @@ use Rattle.flat_scene.specs.History.{◌▹◌}
 use Rattle.flat_states.specs.declared.state.SessionState.{SessionState}
 use Rattle.flat_links.specs.AllEnds.{AreEnds}
 use Rattle.flat_states.specs.Machines.{Machine}
-use Rattle.flat_facts.specs.Begins.{entry_of, begun, begin_entry}
+use Rattle.flat_facts.specs.Begins.{begun, begin_entry}
 use Rattle.flat_core.specs.Dues.{all_due}
 use Rattle.flat_rules.specs.Numbers.{number, AllNumbered}
 use Rattle.flat_states.specs.Kept.{IsKept}
@@ -43,10 +41,10 @@ enter-requires c =
     let all = c.begin_all-count.ensures in
     record {
       room = rw all.room (has-room _ _ _ _ may c.self.invariant.0.legal _ _ _ refl c.self.invariant.1);
-      placed = tt;
+      placed = rw c.display_entry.ensures tt;
       all = c.self.invariant.2.count ∙ sym all.all;
       tied = c.begin.ensures.sessions ∙ c.self.invariant.3.sessions ∙ sym all.all;
-      none = λ opened. ap (list_any is_new_viewport) c.new.ensures;
+      none = λ opened. ap (λ (e : Entry). list_any is_new_viewport e.calls) c.display_entry.ensures;
     }
 
 pub overflow_add-result : goal.overflow_add-result
@@ -72,10 +70,9 @@ pub invariant_of-self : goal.invariant_of-self
 invariant_of-self c =
     let may = rw (← c.self.view_is) at c.requires.may in
     let all = c.begin_all-count.ensures in
-    let log = c.enter.ensures in
+    let log = rw c.display_entry.ensures at c.enter.ensures in
     let history : c.enter.new.log.history ≡ (c.begin_all-count.new.log.history ▹ begin_entry c.args.line c.args.time) =
-    log.history ∙ ap (λ (carries : List Call). c.begin_all-count.new.log.history ▹ entry_of Display c.args.line carries (Begin c.args.time) Done)
-    c.new.ensures in
+    log.history in
     let inside = c.self.inside in
     let e : Entry = begin_entry c.args.line c.args.time in
     let m : Machine = record { setup = inside.setup; shares = inside.shares; history = inside.log.history } in
@@ -118,8 +115,7 @@ returns-clause-takes c =
     let m : Machine = record { setup = inside.setup; shares = inside.shares; history = inside.log.history } in
     let after = c.enter.new.log.history in
     let new : after ≡ begun inside.log.history c.args.line c.args.time =
-    c.enter.ensures.history ∙ ap (λ (carries : List Call). c.begin_all-count.new.log.history ▹ entry_of Display c.args.line carries (Begin c.args.time) Done)
-    c.new.ensures
+    c.enter.ensures.history ∙ ap (λ (e : Entry). c.begin_all-count.new.log.history ▹ e) c.display_entry.ensures
     ∙ ap (λ (h : List Entry). begun h c.args.line c.args.time) c.begin_all-count.ensures.history in
     let P : List Entry → Machine → Type 0 = λ h n. TakesReady n h c.args.time in
     subst (P after) c.self.view_is (subst (λ (h : List Entry). P h m) (sym new) (record {
