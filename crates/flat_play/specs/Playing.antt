@@ -8,7 +8,6 @@ use Rattle.flat_scene.specs.declared.journal.Reply.TheVariants.{Done}
 use Rattle.flat_scene.specs.declared.script.Body.{Body}
 use Rattle.flat_scene.specs.declared.script.Body.TheVariants as body
 use Rattle.flat_scene.specs.declared.script.DisplayLine.{DisplayLine}
-use Rattle.flat_scene.specs.declared.script.DisplayLine.TheVariants as display
 use Rattle.flat_base.specs.declared.ids.SessionNo.{SessionNo}
 use Rattle.flat_scene.specs.declared.journal.Entry.{Entry}
 use Rattle.flat_scene.specs.declared.journal.Kind.TheVariants.{Begin, Finish}
@@ -22,7 +21,7 @@ use Rattle.flat_scene.specs.Interleave.{session_lines, display_lines, by_display
 use Rattle.flat_scene.specs.Interleave.{FollowsDisplay, Interleaves, IsReading, entry_of_display}
 use Rattle.flat_core.specs.Machines.{Machine, entered, made}
 use Rattle.flat_core.specs.Starts.{StartsFrame}
-use Rattle.flat_rules.specs.Legal.{is_frame_open, begin_time, frames, reply_to}
+use Rattle.flat_rules.specs.Legal.{is_frame_open, begin_time, reply_to}
 use Rattle.flat_report.specs.declared.report.HitAnswer.{HitAnswer}
 use Rattle.flat_report.specs.Handed.{answers_of}
 use Rattle.flat_report.specs.Report.{finished}

@@ -137,23 +137,24 @@ impl Play {
         Ok(())
     }
 
-    /// Plays a line of the display.
+    /// Plays the display's line at a place of the script; `text` is what it says.
     fn play_display(
         &mut self,
         alloc: Global,
         script: &Script,
         place: usize,
-        number: u32,
         text: DisplayLine,
         set: &mut DisplaySet,
         displays: &mut Vec<Box<dyn Display>>,
     ) -> Result<(), NoMemory>
-        requires line { slice_get script.now.lines place
-            ≡ Some (record { number = number; actor = Display; body = body.Display text }) }
+        requires place { place < length script.now.lines }
+        requires line { (line : ScriptLine) → slice_get script.now.lines place ≡ Some line →
+            (line.actor ≡ Display) × (line.body ≡ body.Display text) }
         requires playable { is_playable script.now ≡ true }
         requires stands { PlayStands script.now place self.old }
         requires number { length displays.old.items ≡ set.old.displays }
-        ensures plays { OnOk result (PlaysLine script.now place number self.old self.new) }
+        ensures plays { (line : ScriptLine) → slice_get script.now.lines place ≡ Some line →
+            OnOk result (PlaysLine script.now place line.number self.old self.new) }
         ensures shows { OnOk result (IsShown (λ d. shown d) (λ d. faults d)
             (finished script.now.setup self.old.board.history)
             (finished script.now.setup self.new.board.history) set.old set.new displays.old.items
@@ -163,13 +164,14 @@ impl Play {
             displays.new.items }
     {
         let _journal = self.board.journal();
+        let line = script.lines.at(place);
         match text {
             DisplayLine::Begin(time) => {
-                self.begin(number, time);
+                self.begin(line.number, time);
                 Ok(())
             }
-            DisplayLine::Done => self.finish(alloc, script, number, set, displays),
-            _ => self.enter_beside(alloc, number, text),
+            DisplayLine::Done => self.finish(alloc, script, line.number, set, displays),
+            _ => self.enter_beside(alloc, line.number, text),
         }
     }
 
@@ -205,9 +207,7 @@ impl Play {
                 None => unreachable!(),
             },
             Actor::Display => match display_text(&line.body) {
-                Some(text) => {
-                    self.play_display(alloc, script, place, line.number, text, set, displays)
-                }
+                Some(text) => self.play_display(alloc, script, place, text, set, displays),
                 None => unreachable!(),
             },
             Actor::Probe(_) => Ok(()),

@@ -1,6 +1,6 @@
-//! A script is played in written order. What may fail has the play by `&mut`: each exit
-//! behind which it were held would drop all of it, part by part, which is most of what a
-//! check has to look at. Where it has to go, one call of `drop` lets it go.
+//! Plays the lines of a script in written order. Fallible functions borrow the `Play`:
+//! owning it makes every early return drop it field by field, which is slow to prove. On an
+//! error, `play_lines` drops it by one call of `drop`.
 ghost use Rattle.std.specs.Prelude.{◌≡◌, ◌+◌, ◌<◌, ◌^◌, slice_index, [], true, length, replicate};
 ghost use Rattle.std.specs.Prelude.{IfOk, OnOk};
 ghost use Rattle.flat_scene.specs.Journals.{seat_number};
@@ -114,61 +114,14 @@ fn start(alloc: Global, script: &Script, keeping: Keeping) -> Result<Play, NoMem
     })
 }
 
-/// Plays all lines of a script in a run of which none is played, in written order, and
-/// shows each frame to the displays before it is finished. Pointers' lines and those of
-/// probes are answered in between, each in its place.
-fn play_each(
-    alloc: Global,
-    script: &Script,
-    play: &mut Play,
-    lines: &[PointerLine],
-    found: &mut Vec<Touch>,
-    answers: &mut Vec<ProbeAnswers>,
-    explaining: &mut Explaining,
-    set: &mut DisplaySet,
-    displays: &mut Vec<Box<dyn Display>>,
-) -> Result<(), NoMemory>
-    requires playable { is_playable script.now ≡ true }
-    requires begins { PlayStands script.now 0 play.old }
-    requires no_entry { play.old.board.history ≡ [] }
-    requires no_answer { found.old.items ≡ [] }
-    requires unasked { answers.old.items ≡ replicate script.now.setup.probes [] }
-    requires rise { rise_after 0 lines.now ≡ true }
-    requires unexplained { StandsExplained script.now [] explaining.old }
-    requires number { length displays.old.items ≡ set.old.displays }
-    requires few { set.old.displays < 2 ^ 32 }
-    requires none { set.old.lost ≡ [] }
-    ensures reads { OnOk result (HasReadLines (λ d. shown d) (λ d. faults d) script.now
-        displays.old.items displays.new.items (keeping_of play.old.store.kept) lines.now play.new
-        found.new.items answers.new.items set.new.lost) }
-    ensures notes { OnOk result (NotesOn script.now play.new.board.history explaining.old
-        explaining.new) }
-    ensures kept { AreKept (λ d. shown d) (λ d. faults d) (AreBegun script.now)
-        displays.old.items displays.new.items (λ d. d.vtable) }
-{
-    let setup = &script.setup;
-    let mut left = lines;
-    for place in 0..script.lines.len() {
-        // proof: the entries so far are legal.
-        let _journal = play.board.journal();
-        let line = script.lines.at(place);
-        left = answer_upto(alloc, setup, &mut play.store.last, left, line.number, found)?;
-        answer_line(alloc, setup, &mut play.store.last, line, answers)?;
-        let entries = play.board.journal().entries.len();
-        let frame = play.store.last.frame;
-        play.play_line(alloc, script, place, set, displays)?;
-        // proof: and so are they with those of the line.
-        let _journal = play.board.journal();
-        explaining.note(alloc, script, play, entries, frame)?;
-    }
-    // proof: so are all of them.
-    let _journal = play.board.journal();
-    answer_all(alloc, setup, &mut play.store.last, left, found)?;
-    Ok(())
+/// What a play reads: a script, and the pointers' lines to answer on the way.
+#[derive(Clone, Copy)]
+pub(crate) struct PlayInput<'a> {
+    pub(crate) script: &'a Script,
+    pub(crate) pointers: &'a [PointerLine],
 }
 
-/// The run of a script to the end of its lines, with the answers to pointers' lines and
-/// to those of probes.
+/// A play of a script's lines, with the answers to the lines of pointers and probes.
 #[derive(Drop)]
 pub(crate) struct LinesPlayed {
     pub(crate) play: Play,
@@ -176,52 +129,101 @@ pub(crate) struct LinesPlayed {
     pub(crate) probes: Vec<ProbeAnswers>,
 }
 
+/// Plays all lines of a script in written order, in a play that has played none. Shows each
+/// frame to the displays before it is finished, and answers each line of a pointer or a probe
+/// at its place among the others.
+fn play_each(
+    alloc: Global,
+    input: PlayInput<'_>,
+    ran: &mut LinesPlayed,
+    explaining: &mut Explaining,
+    set: &mut DisplaySet,
+    displays: &mut Vec<Box<dyn Display>>,
+) -> Result<(), NoMemory>
+    requires playable { is_playable input.script.now ≡ true }
+    requires begins { PlayStands input.script.now 0 ran.old.play }
+    requires no_entry { ran.old.play.board.history ≡ [] }
+    requires no_answer { ran.old.touches.items ≡ [] }
+    requires unasked { ran.old.probes.items ≡ replicate input.script.now.setup.probes [] }
+    requires rise { rise_after 0 input.pointers.now ≡ true }
+    requires unexplained { StandsExplained input.script.now [] explaining.old }
+    requires number { length displays.old.items ≡ set.old.displays }
+    requires few { set.old.displays < 2 ^ 32 }
+    requires none { set.old.lost ≡ [] }
+    ensures reads { OnOk result (HasReadLines (λ d. shown d) (λ d. faults d)
+        input.entry.script.now displays.old.items displays.new.items
+        (keeping_of ran.old.play.store.kept) input.entry.pointers.now ran.new.play
+        ran.new.touches.items ran.new.probes.items set.new.lost) }
+    ensures notes { OnOk result (NotesOn input.entry.script.now ran.new.play.board.history
+        explaining.old explaining.new) }
+    ensures kept { AreKept (λ d. shown d) (λ d. faults d) (AreBegun input.entry.script.now)
+        displays.old.items displays.new.items (λ d. d.vtable) }
+{
+    let script = input.script;
+    let setup = &script.setup;
+    let mut left = input.pointers;
+    for place in 0..script.lines.len() {
+        // proof: the entries so far are legal.
+        let _journal = ran.play.board.journal();
+        let line = script.lines.at(place);
+        let last = &mut ran.play.store.last;
+        left = answer_upto(alloc, setup, last, left, line.number, &mut ran.touches)?;
+        answer_line(alloc, setup, last, line, &mut ran.probes)?;
+        let frame = last.frame;
+        let entries = ran.play.board.journal().entries.len();
+        ran.play.play_line(alloc, script, place, set, displays)?;
+        // proof: and so are they with those of the line.
+        let _journal = ran.play.board.journal();
+        explaining.note(alloc, script, &ran.play, entries, frame)?;
+    }
+    // proof: so are all of them.
+    let _journal = ran.play.board.journal();
+    answer_all(
+        alloc,
+        setup,
+        &mut ran.play.store.last,
+        left,
+        &mut ran.touches,
+    )?;
+    Ok(())
+}
+
 /// Plays a script to the end of its lines.
 pub(crate) fn play_lines(
     alloc: Global,
-    script: &Script,
+    input: PlayInput<'_>,
     keeping: Keeping,
-    lines: &[PointerLine],
     explaining: &mut Explaining,
     set: &mut DisplaySet,
     displays: &mut Vec<Box<dyn Display>>,
 ) -> Result<LinesPlayed, NoMemory>
-    requires playable { is_playable script.now ≡ true }
-    requires rise { rise_after 0 lines.now ≡ true }
-    requires unexplained { StandsExplained script.now [] explaining.old }
+    requires playable { is_playable input.script.now ≡ true }
+    requires rise { rise_after 0 input.pointers.now ≡ true }
+    requires unexplained { StandsExplained input.script.now [] explaining.old }
     requires number { length displays.old.items ≡ set.old.displays }
     requires few { set.old.displays < 2 ^ 32 }
     requires none { set.old.lost ≡ [] }
-    ensures reads { IfOk result (λ ran. HasReadLines (λ d. shown d) (λ d. faults d) script.now
-        displays.old.items displays.new.items keeping lines.now ran.play ran.touches.items
-        ran.probes.items set.new.lost) }
-    ensures notes { IfOk result (λ ran. NotesOn script.now ran.play.board.history explaining.old
-        explaining.new) }
-    ensures kept { AreKept (λ d. shown d) (λ d. faults d) (AreBegun script.now)
+    ensures reads { IfOk result (λ ran. HasReadLines (λ d. shown d) (λ d. faults d)
+        input.entry.script.now displays.old.items displays.new.items keeping
+        input.entry.pointers.now ran.play ran.touches.items ran.probes.items set.new.lost) }
+    ensures notes { IfOk result (λ ran. NotesOn input.entry.script.now ran.play.board.history
+        explaining.old explaining.new) }
+    ensures kept { AreKept (λ d. shown d) (λ d. faults d) (AreBegun input.entry.script.now)
         displays.old.items displays.new.items (λ d. d.vtable) }
 {
-    let mut probes = no_answers(alloc, script.setup.probes)?;
-    let mut touches = Vec::new(alloc);
-    let mut play = start(alloc, script, keeping)?;
-    let ended = play_each(
-        alloc,
-        script,
-        &mut play,
-        lines,
-        &mut touches,
-        &mut probes,
-        explaining,
-        set,
-        displays,
-    );
-    match ended {
-        Ok(()) => Ok(LinesPlayed {
-            play,
-            touches,
-            probes,
-        }),
+    let script = input.script;
+    let probes = no_answers(alloc, script.setup.probes)?;
+    let touches = Vec::new(alloc);
+    let play = start(alloc, script, keeping)?;
+    let mut ran = LinesPlayed {
+        play,
+        touches,
+        probes,
+    };
+    match play_each(alloc, input, &mut ran, explaining, set, displays) {
+        Ok(()) => Ok(ran),
         Err(NoMemory) => {
-            drop(play);
+            drop(ran);
             Err(NoMemory)
         }
     }

@@ -13,7 +13,7 @@ ghost use Rattle.flat_pointer.specs.Lines.{rise_after};
 use crate::explaining::Explaining;
 use crate::kept::{Keeping, Kept};
 use crate::play::Play;
-use crate::run::{LinesPlayed, play_lines};
+use crate::run::{LinesPlayed, PlayInput, play_lines};
 use crate::store::FrameStore;
 use flat_base::NoMemory;
 use flat_core::Board;
@@ -92,13 +92,15 @@ pub(crate) fn play_whole(
         displays.old.items displays.new.items (λ d. d.vtable) }
 {
     let mut set = DisplaySet::new(alloc, displays.len() as u32)?;
+    let input = PlayInput {
+        script,
+        pointers: lines,
+    };
     let LinesPlayed {
         mut play,
         touches,
         probes,
-    } = play_lines(
-        alloc, script, keeping, lines, explaining, &mut set, displays,
-    )?;
+    } = play_lines(alloc, input, keeping, explaining, &mut set, displays)?;
     play.end_all(script);
     let Play {
         board,

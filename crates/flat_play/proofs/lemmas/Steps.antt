@@ -1,6 +1,6 @@
 -- The run after one more line of the script.
 use Rattle.std.proofs.Common.{◌≡◌, ℕ, ◌+◌, ◌<◌, Bool, true, false, cond, ◌==◌, List, [], ◌∷◌, ◌++◌, take, drop, refl, sym, ap, ◌∙◌, subst, arith, append-nil}
-use Rattle.std.proofs.Common.{Some, slice_get}
+use Rattle.std.proofs.Common.{Option, Some, slice_get}
 use Rattle.std.specs.List.{list_all}
 use Rattle.std.proofs.lemmas.Grind.{common_steps, flat_map-append}
 use Rattle.flat_base.specs.declared.ids.SessionNo.{SessionNo}
@@ -46,6 +46,10 @@ at_place script place x playable at =
       split = split;
       rise = rise;
     }
+
+-- A line is the only one at its place.
+pub one_line : (a b : ScriptLine) (at : Option ScriptLine) → at ≡ Some a → at ≡ Some b → a ≡ b
+one_line a b at is also = let both : Some a ≡ Some b = sym is ∙ also in cc
 
 -- A line leaves a history as it was, or adds an entry of its actor and number.
 pub data Step (x : ScriptLine) (old new : List Entry) : Type 0 where

@@ -10,17 +10,18 @@ use Rattle.flat_play.proofs.run.play_each.Given as goal
 
 abbrev pub invariant-loop-place : goal.invariant-loop-place
 invariant-loop-place g l = record {
-  stands : PlayStands l.script l.place l.play;
+  stands : PlayStands l.input.script.now l.place l.ran.play;
   seen : HaveSeen (λ b. (goal.Display-dyn g (b.vtable, b.value)).shown b.value) (λ b. (goal.Display-dyn g (b.vtable, b.value)).faults b.value)
-      (finished l.script.setup l.play.board.history) l.play.board.history l.set.lost l.initial.displays.items l.displays.items;
+      (finished l.input.script.now.setup l.ran.play.board.history) l.ran.play.board.history l.set.lost l.initial.displays.items l.displays.items;
   number : length l.displays.items ≡ l.set.displays;
   kinds : map (λ b. b.vtable) l.displays.items ≡ map (λ b. b.vtable) l.initial.displays.items;
-  keeping : keeping_of l.play.store.kept ≡ keeping_of l.initial.play.store.kept;
+  keeping : keeping_of l.ran.play.store.kept ≡ keeping_of l.initial.ran.play.store.kept;
   same : l.set.displays ≡ l.initial.set.displays;
-  answered : AreAnswered l.script.setup l.play.board.history (last_number 0 (take l.place l.script.lines)) l.lines l.left l.found.items;
-  asked : ProbesStand l.script l.place l.play.board.history l.answers.items;
-  turns : SeeInTurn (take l.place l.script.lines) l.play.board.history l.answers.items;
-  explained : StandsExplained l.script l.play.board.history l.explaining;
+  answered : AreAnswered l.input.script.now.setup l.ran.play.board.history (last_number 0 (take l.place l.input.script.now.lines)) l.input.pointers.now
+      l.left l.ran.touches.items;
+  asked : ProbesStand l.input.script.now l.place l.ran.play.board.history l.ran.probes.items;
+  turns : SeeInTurn (take l.place l.input.script.now.lines) l.ran.play.board.history l.ran.probes.items;
+  explained : StandsExplained l.input.script.now l.ran.play.board.history l.explaining;
   on : is_on l.explaining ≡ is_on l.initial.explaining;
   film : is_film l.explaining ≡ is_film l.initial.explaining;
 }
