@@ -9,7 +9,6 @@ use Rattle.flat_scene.specs.Frames.{ratio}
 use Rattle.flat_scene.specs.Setups.{at_ratio}
 use Rattle.flat_rules.specs.Shown.{shown_states}
 use Rattle.flat_topology.specs.Connected.{joined_lists}
-use Rattle.flat_topology.specs.Shown.{Shown}
 use Rattle.flat_places.specs.declared.script.Script.{Script}
 use Rattle.flat_publish.specs.declared.frame.Frame.{Frame}
 use Rattle.flat_publish.specs.Frames.{frame}

@@ -21,7 +21,7 @@ use Rattle.flat_scene.specs.declared.script.DisplayLine.{DisplayLine}
 use Rattle.flat_scene.specs.declared.script.DisplayLine.TheVariants as display
 use Rattle.flat_scene.specs.declared.script.ScriptLine.{ScriptLine}
 use Rattle.flat_scene.specs.declared.setup.Setup.{Setup}
-use Rattle.flat_scene.specs.History.{◌▹◌, is_begin, is_finish}
+use Rattle.flat_scene.specs.History.{◌▹◌, is_finish}
 use Rattle.flat_scene.specs.Journals.{history_of, seat_number}
 use Rattle.flat_scene.specs.Interleave.{entry_of_display}
 use Rattle.flat_core.specs.Machines.{entry_of, made}
@@ -32,7 +32,7 @@ use Rattle.flat_rules.specs.Legal.{Legal, is_frame_open, begin_time, frames}
 use Rattle.flat_rules.specs.Seats.{DisplayKnowsFrames, JournalsKeepSeats, SeatsTellActors, of_seat}
 use Rattle.flat_report.specs.Report.{finished, frame_at}
 use Rattle.flat_places.specs.declared.script.Script.{Script}
-use Rattle.flat_playable.specs.Playable.{frames_close, is_playable, is_played, keeps_frames}
+use Rattle.flat_playable.specs.Playable.{is_playable, is_played}
 use Rattle.flat_stage.specs.Displays.{CompositorView, DisplayEnters, DisplayView, EndsFrame, HasDisplayRoom, IsNewCompositor, KeepsStart}
 use Rattle.flat_stage.specs.Seats.{StageView, setup_of, entries_of_seat}
 use Rattle.flat_stage.specs.Seats as stage
@@ -48,16 +48,15 @@ use Rattle.flat_play.proofs.lemmas.FramesShown.{few_frames}
 use Rattle.flat_play.proofs.lemmas.Storing.{frames_begin, frames_done, frames_line, frames_none, frames_stay, stays_stored}
 use Rattle.flat_display.specs.Lost.{Driven}
 use Rattle.flat_play.specs.Showing.{HaveSeen, IsShown}
-use Rattle.flat_play.proofs.lemmas.Places.{drop_all}
 use Rattle.flat_play.proofs.lemmas.Starting.{by_at_most, few, first_display}
 use Rattle.flat_play.proofs.lemmas.Steps.{At}
 use Rattle.flat_race.specs.declared.film.Film.{Film}
-use Rattle.flat_race.specs.Directing.{CompositorStands, EntersBeside, FilmStands, HasLooked, SeatStands}
+use Rattle.flat_race.specs.Directing.{CompositorStands, FilmStands, HasLooked, SeatStands}
 use Rattle.flat_race.specs.Sessions.{IsStageOf}
 use Rattle.flat_base.proofs.lemmas.Tests.{and-left, and-right}
 use Rattle.flat_race.proofs.lemmas.Beside.{IsBeside, seen_beside}
 use Rattle.flat_race.specs.Publishing.{FinishesOne}
-use Rattle.flat_race.proofs.Finishing.{finishes_one, finishes_then}
+use Rattle.flat_race.proofs.Finishing.{finishes_one}
 use Rattle.flat_race.proofs.lemmas.StillStands.{display_same, frames_same}
 use Rattle.flat_race.proofs.DirectSteps.{Enters, enters_as, seat_begins, seat_beside, seat_finishes}
 

@@ -5,7 +5,7 @@ use Rattle.flat_scene.specs.Journals.{history_of}
 use Rattle.flat_report.specs.Report.{finished}
 use Rattle.flat_stage.specs.Seats.{StageView}
 use Rattle.flat_places.specs.declared.script.Script.{Script}
-use Rattle.flat_race.specs.declared.running.Ended.{Ended}
+use Rattle.flat_race.specs.declared.running.RaceState.{RaceState}
 use Rattle.flat_race.specs.declared.running.Stopped.{Stopped}
 use Rattle.flat_display.specs.Had.{AreKept}
 use Rattle.flat_play.specs.declared.kept.Keeping.{Keeping}
@@ -14,16 +14,14 @@ use Rattle.flat_play.specs.Beginning.{AreBegun}
 use Rattle.flat_play.specs.Runs.{HasRun}
 use Rattle.flat_play.proofs.lemmas.Begun.{none-begun}
 use Rattle.flat_play.proofs.lemmas.Seen.{kept_none}
-use Rattle.flat_race.specs.declared.film.Film.{Film}
 use Rattle.flat_race.specs.Ends.{HaveRaced, IsStopped}
 
-pub ok_raced : (r : Result Ended (Option Stopped)) (e : Ended) → r ≡ Ok e → {D : Type 0} (told : D → Option (List FrameOut)) (count : D → ℕ)
-    (view : StageView) (script : Script) (olds news : List D) (was : Film)
-    → IfOk r (λ e. HaveRaced told count view script olds news e.compositor.display e.seats was e.film)
-    → HaveRaced told count view script olds news e.compositor.display e.seats was e.film
+pub ok_raced : (r : Result RaceState (Option Stopped)) (e : RaceState) → r ≡ Ok e → {D : Type 0} (told : D → Option (List FrameOut)) (count : D → ℕ)
+    (view : StageView) (script : Script) (olds news : List D) (was : RaceState) → IfOk r (λ e. HaveRaced told count view script olds news was e)
+    → HaveRaced told count view script olds news was e
 ok_raced r e is told count view script olds news was holds =
-    let P : Result Ended (Option Stopped) → Type 0 =
-    λ r. IfOk r (λ e. HaveRaced told count view script olds news e.compositor.display e.seats was e.film) in subst P is holds
+    let P : Result RaceState (Option Stopped) → Type 0 = λ r. IfOk r (λ e. HaveRaced told count view script olds news was e) in
+    subst P is holds
 
 -- frames are kept in the way that was asked for
 pub run_as : {D E : Type 0} (told : D → Option (List FrameOut)) (count : D → ℕ) (script : Script) (olds news : List D) (was now : Keeping) (r : Result Played E)
@@ -43,11 +41,11 @@ module _ {D K : Type 0} (told : D → Option (List FrameOut)) (count : D → ℕ
       let K : List D → Type 0 = λ ds. AreKept told count (AreBegun script) olds ds kind in
       subst K (sym same) (kept_none told count (AreBegun script) kind olds (none-begun script))
 
-  pub kept_stopped : (r : Result Ended (Option Stopped)) → IfErr r (λ stopped. IsStopped told count view script olds news stopped) → (why : Option Stopped)
+  pub kept_stopped : (r : Result RaceState (Option Stopped)) → IfErr r (λ stopped. IsStopped told count view script olds news stopped) → (why : Option Stopped)
       → r ≡ Err why → map kind news ≡ map kind olds → ((one : Stopped) → why ≡ Some one
       → AreBegun script (finished script.setup (history_of one.compositor.display.seen)))
       → AreKept told count (AreBegun script) olds news kind
   kept_stopped r holds why is kinds begun =
-      let P : Result Ended (Option Stopped) → Type 0 = λ r. IfErr r (λ stopped. IsStopped told count view script olds news stopped) in
+      let P : Result RaceState (Option Stopped) → Type 0 = λ r. IfErr r (λ stopped. IsStopped told count view script olds news stopped) in
       let stops : IsStopped told count view script olds news why = subst P is holds in
       kept_where why stops kinds begun

@@ -1,6 +1,6 @@
 -- A session's seat after one more line of the script.
-use Rattle.std.proofs.Common.{◌≡◌, ℕ, zero, suc, ◌+◌, ◌<◌, ◌≤◌, Bool, true, false, cond, ◌==◌, nat_le, List, [], ◌∷◌, ◌++◌, length, take, drop, slice_get}
-use Rattle.std.proofs.Common.{slice_index, get_or, Some, refl, sym, ap, ◌∙◌, subst, arith, append-nil}
+use Rattle.std.proofs.Common.{◌≡◌, ℕ, ◌+◌, ◌<◌, ◌≤◌, Bool, true, false, cond, ◌==◌, nat_le, List, [], ◌∷◌, ◌++◌, length, take, drop, slice_get}
+use Rattle.std.proofs.Common.{slice_index, Some, refl, sym, ap, ◌∙◌, subst, arith, append-nil}
 use Rattle.std.specs.List.{list_all}
 use Rattle.std.proofs.lemmas.Bool.{eqb-true}
 use Rattle.std.proofs.lemmas.Bool.Decides.{nat_tests}
@@ -28,10 +28,10 @@ use Rattle.flat_stage.specs.Readings.{NewSeatsHaveRead, SeatHasRead}
 use Rattle.flat_session.specs.Readings.{Rise}
 use Rattle.flat_stage.specs.Seats as stage
 use Rattle.flat_stage.specs.Seats.{SessionView, StageView, GoesOn, HasRoom, setup_of}
-use Rattle.flat_play.specs.Playing.{last_number, lines_by, shares_of}
+use Rattle.flat_play.specs.Playing.{lines_by}
 use Rattle.flat_play.proofs.lemmas.Begun.{follows-so-far}
 use Rattle.flat_play.proofs.lemmas.PlaySteps.{share_is, below_declared}
-use Rattle.flat_play.proofs.lemmas.Steps.{At, at_place}
+use Rattle.flat_play.proofs.lemmas.Steps.{At}
 use Rattle.flat_play.proofs.lemmas.Places.{counted, few_lines, rises, split_at}
 use Rattle.flat_play.proofs.lemmas.Readers.{session_rise}
 use Rattle.flat_race.specs.Sessions.{IsStageOf, SessionStands}

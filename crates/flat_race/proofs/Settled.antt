@@ -19,7 +19,6 @@ use Rattle.flat_scene.specs.Frames.{ratio}
 use Rattle.flat_scene.specs.Setups.{at_ratio}
 use Rattle.flat_rules.specs.Shown.{shown_states}
 use Rattle.flat_topology.specs.Hits.{hit_list}
-use Rattle.flat_topology.specs.Shown.{Shown}
 use Rattle.flat_places.specs.declared.script.Script.{Script}
 use Rattle.flat_publish.specs.Frames.{last_number}
 use Rattle.flat_publish.specs.State.{Publishing}

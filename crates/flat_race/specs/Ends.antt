@@ -3,7 +3,7 @@ use Rattle.std.specs.Prelude.{◌≡◌, ℕ, Bool, true, List, length, Option, 
 use Rattle.flat_scene.specs.declared.frames.FrameOut.{FrameOut}
 use Rattle.flat_scene.specs.Journals.{history_of}
 use Rattle.flat_places.specs.declared.script.Script.{Script}
-use Rattle.flat_stage.specs.Displays.{CompositorView, DisplayView, IsNewCompositor}
+use Rattle.flat_stage.specs.Displays.{DisplayView, IsNewCompositor}
 use Rattle.flat_stage.specs.Homes.{AreFresh, SeatsView}
 use Rattle.flat_stage.specs.Seats.{StageView}
 use Rattle.flat_race.specs.declared.film.Film.{Film}
@@ -19,18 +19,18 @@ use Rattle.flat_race.specs.Directing.{FilmStands, HasStopped, IsNewFilm, SeatSta
 use Rattle.flat_race.specs.Sessions.{IsStageOf}
 use Rattle.flat_race.specs.declared.running.Halt.{Halt}
 use Rattle.flat_race.specs.declared.running.Halt.TheVariants.{Early, Late}
+use Rattle.flat_race.specs.declared.running.RaceState.{RaceState}
 use Rattle.flat_race.specs.declared.running.Stopped.{Stopped}
 use Rattle.flat_race.specs.SessionThreads.{AreBack}
 
 -- A race of the script may start on its stage: no actor has made an entry, and there is no frame yet.
-pub record MayRace (view : StageView) (script : Script) (displays : ℕ) (compositor : CompositorView)
-    (seats : SeatsView) (film : Film) : Type 0 where
+pub record MayRace (view : StageView) (script : Script) (displays : ℕ) (state : RaceState) : Type 0 where
   pub playable : is_playable script ≡ true
   pub of : IsStageOf view script
-  pub fresh : IsNewCompositor view compositor
-  pub own : seats.stage ≡ view
-  pub sessions : AreFresh view script.setup.sessions seats.seats
-  pub none : IsNewFilm script displays film
+  pub fresh : IsNewCompositor view state.compositor
+  pub own : state.seats.stage ≡ view
+  pub sessions : AreFresh view script.setup.sessions state.seats.seats
+  pub none : IsNewFilm script displays state.film
 
 -- The compositor has read all its lines, and so has each session, which ended; and the lines of all probes
 -- are answered.
@@ -64,11 +64,11 @@ module _ {D : Type 0} (told : D → Option (List FrameOut)) (count : D → ℕ) 
     (olds news : List D) where
   -- All actors came to their end. What is kept of frames, in the same way as before, and what the displays have had
   -- is that of the history that the compositor has seen.
-  pub record HaveRaced (compositor : DisplayView) (seats : SeatsView) (was now : Film) : Type 0 where
-    pub ended : HaveEnded view script compositor seats now
-    pub keeping : keeping_of now.store.kept ≡ keeping_of was.store.kept
-    pub seen : HaveSeen told count (finished script.setup (history_of compositor.seen)) (history_of compositor.seen)
-        now.set.lost olds news
+  pub record HaveRaced (was now : RaceState) : Type 0 where
+    pub ended : HaveEnded view script now.compositor.display now.seats now.film
+    pub keeping : keeping_of now.film.store.kept ≡ keeping_of was.film.store.kept
+    pub seen : HaveSeen told count (finished script.setup (history_of now.compositor.display.seen))
+        (history_of now.compositor.display.seen) now.film.set.lost olds news
 
   -- All actors stopped, and the displays have had the frames of the history that the compositor has seen.
   pub record HaveStopped (compositor : DisplayView) (seats : SeatsView) : Type 0 where

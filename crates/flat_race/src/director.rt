@@ -35,6 +35,13 @@ use flat_scene::{Body, DisplayLine, Reply};
 use flat_stage::Compositor;
 use std::sync::Wait;
 
+/// A line of the display, with its number in the script.
+#[derive(Clone, Copy)]
+struct NumberedLine {
+    number: u32,
+    text: DisplayLine,
+}
+
 /// Makes the entry of a line that begins no frame and ends none, once the gate lets it in. A
 /// point that it asks for is answered by the last finished frame. The gate hears of it.
 fn enter_beside<R: Wait, G: Gate>(
@@ -129,11 +136,10 @@ fn direct_line<R: Wait, G: Gate>(
     film: &mut Film,
     displays: &mut Vec<Box<dyn Display>>,
     place: usize,
-    number: u32,
-    text: DisplayLine,
+    line: NumberedLine,
 ) -> Result<(), NoMemory>
     requires line { slice_get lent.now.script.now.lines place
-        ≡ Some (record { number = number; actor = Display; body = body.Display text }) }
+        ≡ Some (record { number = line.number; actor = Display; body = body.Display line.text }) }
     requires playable { is_playable lent.now.script.now ≡ true }
     requires of { IsStageOf lent.now.stage.now lent.now.script.now }
     requires stands { CompositorStands lent.now.script.now lent.now.stage.now place compositor.old
@@ -153,17 +159,17 @@ fn direct_line<R: Wait, G: Gate>(
     seats_tell_actors();
     journals_keep_seats();
     shown_states_fit();
-    match text {
+    match line.text {
         DisplayLine::Begin(time) => {
-            begin(lent, compositor, number, time);
+            begin(lent, compositor, line.number, time);
             Ok(())
         }
         DisplayLine::Done => {
-            finish(lent, compositor, film, displays, number)?;
+            finish(lent, compositor, film, displays, line.number)?;
             Ok(())
         }
         _ => {
-            enter_beside(lent, compositor, film, number, text)?;
+            enter_beside(lent, compositor, film, line.number, line.text)?;
             Ok(())
         }
     }
@@ -197,7 +203,11 @@ fn direct_next<R: Wait, G: Gate>(
     let line = lent.script.lines.at(place);
     match line.body {
         Body::Display(text) => {
-            direct_line(lent, compositor, film, displays, place, line.number, text)
+            let line = NumberedLine {
+                number: line.number,
+                text,
+            };
+            direct_line(lent, compositor, film, displays, place, line)
         }
         _ => Ok(()),
     }

@@ -17,7 +17,7 @@ ghost use Rattle.flat_race.specs.Sessions.{IsStageOf};
 
 use crate::film::Film;
 use crate::gate::Gate;
-use crate::running::{Ended, Raced, Stopped, on_threads};
+use crate::running::{RaceContext, RaceState, Raced, Stopped, on_threads};
 use flat_base::NoMemory;
 use flat_display::{Display, DisplaySet};
 use flat_places::Script;
@@ -62,7 +62,7 @@ fn new_stage(alloc: Global, script: &Script) -> Result<(Stage, Compositor, Sessi
 }
 
 /// Ends a race: all seats are handed back, and the board out.
-fn close(stage: Stage, script: &Script, ended: Ended) -> Played
+fn close(stage: Stage, script: &Script, ended: RaceState) -> Played
     requires playable { is_playable script.now ≡ true }
     requires of { IsStageOf stage script.now }
     requires ended { HaveEnded stage script.now ended.compositor.display ended.seats ended.film }
@@ -72,7 +72,7 @@ fn close(stage: Stage, script: &Script, ended: Ended) -> Played
 {
     seats_tell_actors();
     journals_keep_seats();
-    let Ended {
+    let RaceState {
         compositor,
         seats,
         film,
@@ -113,34 +113,27 @@ fn close_stopped(stage: Stage, script: &Script, stopped: Option<Stopped>)
 
 /// Runs a race on a stage before any entry, and hands out what it leaves.
 fn race_on<T: Threads + Wait + Sync, G: Gate>(
-    rt: &T,
-    alloc: Global,
+    context: &RaceContext<T, G>,
     stage: Stage,
-    script: &Script,
-    gate: &G,
-    compositor: Compositor,
-    seats: SessionSeats,
-    film: Film,
+    state: RaceState,
     displays: &mut Vec<Box<dyn Display>>,
 ) -> Result<Played, NoMemory>
-    requires may { MayRace stage script.now (length displays.old.items) compositor seats film }
-    ensures run { IfOk result (HasRun (λ d. shown d) (λ d. faults d) script.now displays.old.items
-        displays.new.items (keeping_of film.store.kept)) }
-    ensures kept { AreKept (λ d. shown d) (λ d. faults d) (AreBegun script.now)
+    requires may { MayRace stage context.now.script.now (length displays.old.items) state }
+    ensures run { IfOk result (HasRun (λ d. shown d) (λ d. faults d) context.now.script.now
+        displays.old.items displays.new.items (keeping_of state.film.store.kept)) }
+    ensures kept { AreKept (λ d. shown d) (λ d. faults d) (AreBegun context.now.script.now)
         displays.old.items displays.new.items (λ d. d.vtable) }
 {
-    let shown_here = mem::replace(displays, Vec::new(alloc));
+    let shown_here = mem::replace(displays, Vec::new(context.alloc));
     let Raced {
         displays: shown,
         ended,
-    } = on_threads(
-        rt, alloc, &stage, script, gate, compositor, seats, film, shown_here,
-    );
+    } = on_threads(context, &stage, state, shown_here);
     *displays = shown;
     match ended {
-        Ok(ended) => Ok(close(stage, script, ended)),
+        Ok(ended) => Ok(close(stage, context.script, ended)),
         Err(stopped) => {
-            close_stopped(stage, script, stopped);
+            close_stopped(stage, context.script, stopped);
             Err(NoMemory)
         }
     }
@@ -177,7 +170,16 @@ pub fn race_script<T: Threads + Wait + Sync, G: Gate>(
         drop(film);
         return Err(NoMemory);
     };
-    race_on(
-        rt, alloc, stage, script, gate, compositor, seats, film, displays,
-    )
+    let context = RaceContext {
+        rt,
+        alloc,
+        script,
+        gate,
+    };
+    let state = RaceState {
+        compositor,
+        seats,
+        film,
+    };
+    race_on(&context, stage, state, displays)
 }

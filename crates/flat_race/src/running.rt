@@ -20,15 +20,26 @@ use std::sync::Wait;
 use std::thread;
 use std::thread::{Scope, Threads};
 
-/// What all actors leave, where each came to its end.
+/// What a race is run with: threads and waits, memory, the script, and the gate.
 #[derive(Drop)]
-pub(crate) struct Ended {
+pub(crate) struct RaceContext<'a, T, G> {
+    pub(crate) rt: &'a T,
+    pub(crate) alloc: Global,
+    pub(crate) script: &'a Script,
+    pub(crate) gate: &'a G,
+}
+
+/// What a race changes, beside its stage and the displays: the compositor, the seats of the
+/// sessions, and what is kept of frames. It goes into the race, and comes back if every actor
+/// reached its end.
+#[derive(Drop)]
+pub(crate) struct RaceState {
     pub(crate) compositor: Compositor,
     pub(crate) seats: SessionSeats,
     pub(crate) film: Film,
 }
 
-/// What they leave where one of them found no memory.
+/// What comes back if an actor ran out of memory once the compositor had begun.
 #[derive(Drop)]
 pub(crate) struct Stopped {
     pub(crate) compositor: Compositor,
@@ -45,12 +56,12 @@ pub(crate) enum Halt {
     Late,
 }
 
-/// The displays that come back from a race, and what its actors leave. Where not even the
-/// compositor began, they leave nothing.
+/// What comes back from a race: the displays, and the state or what [`Stopped`] keeps of it. If an
+/// actor ran out of memory before the compositor began, the displays alone come back.
 #[derive(Drop)]
 pub(crate) struct Raced {
     pub(crate) displays: Vec<Box<dyn Display>>,
-    pub(crate) ended: Result<Ended, Option<Stopped>>,
+    pub(crate) ended: Result<RaceState, Option<Stopped>>,
 }
 
 /// Runs the sessions and the probes beside the compositor, and puts the seats of all
@@ -58,29 +69,26 @@ pub(crate) struct Raced {
 fn run_beside<'s, E, T: Threads + Wait + Sync, G: Gate>(
     scope: &Scope<'s, E>,
     lent: &Lent<'s, T, G>,
-    compositor: &mut Compositor,
-    seats: &mut SessionSeats,
-    film: &mut Film,
+    state: &mut RaceState,
     displays: &mut Vec<Box<dyn Display>>,
     published: &mut Published,
     probes: &mut ProbeSeats,
 ) -> Result<(), Halt>
     requires may { MayRace lent.now.stage.now lent.now.script.now (length displays.old.items)
-        compositor.old seats.old film.old }
+        state.old }
     requires unpublished { published.old
         ≡ record { home = published.old.home; frames = []; refused = []; given = 0 } }
     requires probes { probes.old ≡ replicate lent.now.script.now.setup.probes
         (Some (newcomer published.old.home)) }
     ensures raced { OnOk result (HaveRaced (λ d. shown d) (λ d. faults d) lent.now.stage.now
-        lent.now.script.now displays.old.items displays.new.items compositor.new.display seats.new
-        film.old film.new) }
+        lent.now.script.now displays.old.items displays.new.items state.old state.new) }
     ensures stopped { IfErr result (StopsAt (λ d. shown d) (λ d. faults d)
         lent.now.stage.now lent.now.script.now displays.old.items displays.new.items
-        compositor.new.display seats.new) }
+        state.new.compositor.display state.new.seats) }
     ensures kinds { map (λ d. d.vtable) displays.new.items
         ≡ map (λ d. d.vtable) displays.old.items }
 {
-    let Ok(out) = start_each(scope, lent, seats) else {
+    let Ok(out) = start_each(scope, lent, &mut state.seats) else {
         return Err(Halt::Early);
     };
     let Ok(asked) = start_probes(scope, lent, published, probes) else {
@@ -88,9 +96,15 @@ fn run_beside<'s, E, T: Threads + Wait + Sync, G: Gate>(
         drop(out);
         return Err(Halt::Early);
     };
-    let directed = direct(lent, compositor, film, displays, published);
+    let directed = direct(
+        lent,
+        &mut state.compositor,
+        &mut state.film,
+        displays,
+        published,
+    );
     lent.waits.end_frames();
-    let are_whole = put_back(lent, seats, out);
+    let are_whole = put_back(lent, &mut state.seats, out);
     let Ok(()) = directed else {
         drop(asked);
         return Err(Halt::Late);
@@ -104,12 +118,12 @@ fn run_beside<'s, E, T: Threads + Wait + Sync, G: Gate>(
         lent.alloc,
         lent.script,
         published,
-        &mut film.store.last,
+        &mut state.film.store.last,
         asked,
     ) else {
         return Err(Halt::Late);
     };
-    film.probes = answers;
+    state.film.probes = answers;
     Ok(())
 }
 
@@ -118,19 +132,16 @@ fn run_beside<'s, E, T: Threads + Wait + Sync, G: Gate>(
 fn run_all<'s, E, T: Threads + Wait + Sync, G: Gate>(
     scope: &Scope<'s, E>,
     lent: &Lent<'s, T, G>,
-    compositor: &mut Compositor,
-    seats: &mut SessionSeats,
-    film: &mut Film,
+    state: &mut RaceState,
     displays: &mut Vec<Box<dyn Display>>,
 ) -> Result<(), Halt>
     requires may { MayRace lent.now.stage.now lent.now.script.now (length displays.old.items)
-        compositor.old seats.old film.old }
+        state.old }
     ensures raced { OnOk result (HaveRaced (λ d. shown d) (λ d. faults d) lent.now.stage.now
-        lent.now.script.now displays.old.items displays.new.items compositor.new.display seats.new
-        film.old film.new) }
+        lent.now.script.now displays.old.items displays.new.items state.old state.new) }
     ensures stopped { IfErr result (StopsAt (λ d. shown d) (λ d. faults d)
         lent.now.stage.now lent.now.script.now displays.old.items displays.new.items
-        compositor.new.display seats.new) }
+        state.new.compositor.display state.new.seats) }
     ensures kinds { map (λ d. d.vtable) displays.new.items
         ≡ map (λ d. d.vtable) displays.old.items }
 {
@@ -141,16 +152,7 @@ fn run_all<'s, E, T: Threads + Wait + Sync, G: Gate>(
     ) else {
         return Err(Halt::Early);
     };
-    let run = run_beside(
-        scope,
-        lent,
-        compositor,
-        seats,
-        film,
-        displays,
-        &mut published,
-        &mut probes,
-    );
+    let run = run_beside(scope, lent, state, displays, &mut published, &mut probes);
     published.close(lent.rt);
     run
 }
@@ -159,38 +161,28 @@ fn run_all<'s, E, T: Threads + Wait + Sync, G: Gate>(
 fn run_in<'s, E, T: Threads + Wait + Sync, G: Gate>(
     scope: &Scope<'s, E>,
     lent: &Lent<'s, T, G>,
-    mut compositor: Compositor,
-    mut seats: SessionSeats,
-    mut film: Film,
+    mut state: RaceState,
     mut displays: Vec<Box<dyn Display>>,
 ) -> Raced
-    requires may { MayRace lent.now.stage.now lent.now.script.now (length displays.items) compositor
-        seats film }
+    requires may { MayRace lent.now.stage.now lent.now.script.now (length displays.items) state }
     ensures raced { IfOk result.ended (λ e. HaveRaced (λ d. shown d) (λ d. faults d)
-        lent.now.stage.now lent.now.script.now displays.items result.displays.items
-        e.compositor.display e.seats film e.film) }
+        lent.now.stage.now lent.now.script.now displays.items result.displays.items state e) }
     ensures stopped { IfErr result.ended (λ stopped. IsStopped (λ d. shown d) (λ d. faults d)
         lent.now.stage.now lent.now.script.now displays.items result.displays.items stopped) }
     ensures kinds { map (λ d. d.vtable) result.displays.items
         ≡ map (λ d. d.vtable) displays.items }
 {
-    match run_all(
-        scope,
-        lent,
-        &mut compositor,
-        &mut seats,
-        &mut film,
-        &mut displays,
-    ) {
+    match run_all(scope, lent, &mut state, &mut displays) {
         Ok(()) => Raced {
             displays,
-            ended: Ok(Ended {
+            ended: Ok(state),
+        },
+        Err(Halt::Late) => {
+            let RaceState {
                 compositor,
                 seats,
                 film,
-            }),
-        },
-        Err(Halt::Late) => {
+            } = state;
             drop(film);
             Raced {
                 displays,
@@ -198,9 +190,7 @@ fn run_in<'s, E, T: Threads + Wait + Sync, G: Gate>(
             }
         }
         Err(Halt::Early) => {
-            drop(compositor);
-            drop(seats);
-            drop(film);
+            drop(state);
             Raced {
                 displays,
                 ended: Err(None),
@@ -211,34 +201,29 @@ fn run_in<'s, E, T: Threads + Wait + Sync, G: Gate>(
 
 /// Runs each session on a thread of its own, and the compositor on this one.
 pub(crate) fn on_threads<T: Threads + Wait + Sync, G: Gate>(
-    rt: &T,
-    alloc: Global,
+    context: &RaceContext<T, G>,
     stage: &Stage,
-    script: &Script,
-    gate: &G,
-    compositor: Compositor,
-    seats: SessionSeats,
-    film: Film,
+    state: RaceState,
     displays: Vec<Box<dyn Display>>,
 ) -> Raced
-    requires may { MayRace stage.now script.now (length displays.items) compositor seats film }
+    requires may { MayRace stage.now context.now.script.now (length displays.items) state }
     ensures raced { IfOk result.ended (λ e. HaveRaced (λ d. shown d) (λ d. faults d) stage.now
-        script.now displays.items result.displays.items e.compositor.display e.seats film e.film) }
+        context.now.script.now displays.items result.displays.items state e) }
     ensures stopped { IfErr result.ended (λ stopped. IsStopped (λ d. shown d) (λ d. faults d)
-        stage.now script.now displays.items result.displays.items stopped) }
+        stage.now context.now.script.now displays.items result.displays.items stopped) }
     ensures kinds { map (λ d. d.vtable) result.displays.items
         ≡ map (λ d. d.vtable) displays.items }
 {
+    let (rt, alloc, script, gate) = (context.rt, context.alloc, context.script, context.gate);
     let waits = Waits::new(script.setup.sessions.saturating_add(COMPOSITOR));
     let waits = &waits;
     thread::scope(
         thread::scope_env(),
         rt,
         move |scope| -> Raced
-            requires { MayRace stage.now script.now (length displays.items) compositor seats film }
+            requires { MayRace stage.now script.now (length displays.items) state }
             ensures { IfOk result.ended (λ e. HaveRaced (λ d. shown d) (λ d. faults d)
-                stage.entry.now script.entry.now displays.items result.displays.items
-                e.compositor.display e.seats film e.film)
+                stage.entry.now script.entry.now displays.items result.displays.items state e)
                 × IfErr result.ended (λ stopped. IsStopped (λ d. shown d) (λ d. faults d)
                 stage.entry.now script.entry.now displays.items result.displays.items stopped)
                 × (map (λ d. d.vtable) result.displays.items ≡ map (λ d. d.vtable)
@@ -252,7 +237,7 @@ pub(crate) fn on_threads<T: Threads + Wait + Sync, G: Gate>(
                 gate,
                 waits,
             };
-            run_in(scope, &lent, compositor, seats, film, displays)
+            run_in(scope, &lent, state, displays)
         },
     )
 }

@@ -37,7 +37,7 @@ pub begin-requires-clause-room : goal.begin-requires-clause-room
 begin-requires-clause-room g c κs within =
     let script = c.args.lent.now.script.now in
     let view = c.args.lent.now.stage.now in
-    let x : ScriptLine = record { number = c.args.number; actor = Display; body = body.Display c.args.text } in
+    let x : ScriptLine = record { number = c.args.line.number; actor = Display; body = body.Display c.args.line.text } in
     let at : At script c.args.place x = at_place script c.args.place x c.requires.playable c.requires.line in
     seat_room script view c.args.place x at refl c.requires.of c.args.compositor.now.display c.requires.stands.seat
 
@@ -49,7 +49,7 @@ pub finish-requires-clause-room : goal.finish-requires-clause-room
 finish-requires-clause-room g c κs within =
     let script = c.args.lent.now.script.now in
     let view = c.args.lent.now.stage.now in
-    let x : ScriptLine = record { number = c.args.number; actor = Display; body = body.Display c.args.text } in
+    let x : ScriptLine = record { number = c.args.line.number; actor = Display; body = body.Display c.args.line.text } in
     let at : At script c.args.place x = at_place script c.args.place x c.requires.playable c.requires.line in
     seat_room script view c.args.place x at refl c.requires.of c.args.compositor.now.display c.requires.stands.seat
 
@@ -61,7 +61,7 @@ pub enter_beside-requires-clause-room : goal.enter_beside-requires-clause-room
 enter_beside-requires-clause-room g c κs within =
     let script = c.args.lent.now.script.now in
     let view = c.args.lent.now.stage.now in
-    let x : ScriptLine = record { number = c.args.number; actor = Display; body = body.Display c.args.text } in
+    let x : ScriptLine = record { number = c.args.line.number; actor = Display; body = body.Display c.args.line.text } in
     let at : At script c.args.place x = at_place script c.args.place x c.requires.playable c.requires.line in
     seat_room script view c.args.place x at refl c.requires.of c.args.compositor.now.display c.requires.stands.seat
 
@@ -69,7 +69,7 @@ pub begin-requires-clause-closed : goal.begin-requires-clause-closed
 begin-requires-clause-closed g c κs within =
     let script = c.args.lent.now.script.now in
     let view = c.args.lent.now.stage.now in
-    let x : ScriptLine = record { number = c.args.number; actor = Display; body = body.Display c.args.text } in
+    let x : ScriptLine = record { number = c.args.line.number; actor = Display; body = body.Display c.args.line.text } in
     let at : At script c.args.place x = at_place script c.args.place x c.requires.playable c.requires.line in
     let is : x.body ≡ body.Display (display.Begin c.in-Begin.time) = ap (λ t. body.Display t) c.in-Begin.is in
     begins_closed script view c.args.place x at refl c.requires.of c.in-Begin.time is c.args.compositor.now c.args.film.now c.requires.stands
@@ -78,7 +78,7 @@ pub begin-requires-clause-time : goal.begin-requires-clause-time
 begin-requires-clause-time g c κs within =
     let script = c.args.lent.now.script.now in
     let view = c.args.lent.now.stage.now in
-    let x : ScriptLine = record { number = c.args.number; actor = Display; body = body.Display c.args.text } in
+    let x : ScriptLine = record { number = c.args.line.number; actor = Display; body = body.Display c.args.line.text } in
     let at : At script c.args.place x = at_place script c.args.place x c.requires.playable c.requires.line in
     let is : x.body ≡ body.Display (display.Begin c.in-Begin.time) = ap (λ t. body.Display t) c.in-Begin.is in
     time_fits script view c.args.place x at refl c.requires.of c.display_knows_frames.ensures.frames c.seats_tell_actors.ensures
@@ -89,7 +89,7 @@ pub finish-requires-clause-open : goal.finish-requires-clause-open
 finish-requires-clause-open g c κs within =
     let script = c.args.lent.now.script.now in
     let view = c.args.lent.now.stage.now in
-    let x : ScriptLine = record { number = c.args.number; actor = Display; body = body.Display c.args.text } in
+    let x : ScriptLine = record { number = c.args.line.number; actor = Display; body = body.Display c.args.line.text } in
     let at : At script c.args.place x = at_place script c.args.place x c.requires.playable c.requires.line in
     let is : x.body ≡ body.Display display.Done = ap (λ t. body.Display t) c.in-Done.is in
     finishes_open script view c.args.place x at refl c.requires.of is c.args.compositor.now c.args.film.now c.requires.stands
@@ -106,7 +106,7 @@ pub finish-requires-clause-follows : goal.finish-requires-clause-follows
 finish-requires-clause-follows g c κs within =
     let script = c.args.lent.now.script.now in
     let view = c.args.lent.now.stage.now in
-    let x : ScriptLine = record { number = c.args.number; actor = Display; body = body.Display c.args.text } in
+    let x : ScriptLine = record { number = c.args.line.number; actor = Display; body = body.Display c.args.line.text } in
     let at : At script c.args.place x = at_place script c.args.place x c.requires.playable c.requires.line in
     may_follow c.shown_states_fit.ensures.begun c.shown_states_fit.ensures.each script (history_of c.args.compositor.now.display.seen)
     c.args.compositor.now.start c.args.film.now.store c.requires.stands.seat.legal
@@ -121,20 +121,20 @@ pub enter_beside-requires-clause-acts : goal.enter_beside-requires-clause-acts
 enter_beside-requires-clause-acts g c κs within =
     let script = c.args.lent.now.script.now in
     let view = c.args.lent.now.stage.now in
-    let x : ScriptLine = record { number = c.args.number; actor = Display; body = body.Display c.args.text } in
+    let x : ScriptLine = record { number = c.args.line.number; actor = Display; body = body.Display c.args.line.text } in
     let at : At script c.args.place x = at_place script c.args.place x c.requires.playable c.requires.line in
-    let beside : is_beside c.args.text ≡ true = search rules in
-    (beside_fits script.setup c.args.text beside at.played).0
+    let beside : is_beside c.args.line.text ≡ true = search rules in
+    (beside_fits script.setup c.args.line.text beside at.played).0
 
 pub enter_beside-requires-clause-named : goal.enter_beside-requires-clause-named
 enter_beside-requires-clause-named g c κs within =
     let script = c.args.lent.now.script.now in
     let view = c.args.lent.now.stage.now in
-    let x : ScriptLine = record { number = c.args.number; actor = Display; body = body.Display c.args.text } in
+    let x : ScriptLine = record { number = c.args.line.number; actor = Display; body = body.Display c.args.line.text } in
     let at : At script c.args.place x = at_place script c.args.place x c.requires.playable c.requires.line in
-    let beside : is_beside c.args.text ≡ true = search rules in
-    let N : Setup → Type 0 = λ s. names_declared s (entry_of_display c.args.text) ≡ true in
-    subst N (sym c.requires.of.setup) (beside_fits script.setup c.args.text beside at.played).1
+    let beside : is_beside c.args.line.text ≡ true = search rules in
+    let N : Setup → Type 0 = λ s. names_declared s (entry_of_display c.args.line.text) ≡ true in
+    subst N (sym c.requires.of.setup) (beside_fits script.setup c.args.line.text beside at.played).1
 
 pub enter_beside-requires-clause-legal : goal.enter_beside-requires-clause-legal
 enter_beside-requires-clause-legal g c κs within =
@@ -153,7 +153,7 @@ pub returns-in-Begin-clause-stands : goal.returns-in-Begin-clause-stands
 returns-in-Begin-clause-stands g c =
     let script = c.args.lent.now.script.now in
     let view = c.args.lent.now.stage.now in
-    let x : ScriptLine = record { number = c.args.number; actor = Display; body = body.Display c.args.text } in
+    let x : ScriptLine = record { number = c.args.line.number; actor = Display; body = body.Display c.args.line.text } in
     let at : At script c.args.place x = at_place script c.args.place x c.requires.playable c.requires.line in
     let is : x.body ≡ body.Display (display.Begin c.in-Begin.time) = ap (λ t. body.Display t) c.in-Begin.is in
     line_begins script view c.args.place x at refl c.requires.of c.args.compositor.now c.begin.new.compositor c.args.film.now c.requires.stands c.in-Begin.time
@@ -165,7 +165,7 @@ pub returns-in-Begin-clause-directs : goal.returns-in-Begin-clause-directs
 returns-in-Begin-clause-directs g c =
     let script = c.args.lent.now.script.now in
     let view = c.args.lent.now.stage.now in
-    let x : ScriptLine = record { number = c.args.number; actor = Display; body = body.Display c.args.text } in
+    let x : ScriptLine = record { number = c.args.line.number; actor = Display; body = body.Display c.args.line.text } in
     let at : At script c.args.place x = at_place script c.args.place x c.requires.playable c.requires.line in
     let still = finished_still script view c.args.place x at refl c.requires.of c.args.compositor.now c.begin.new.compositor c.args.film.now c.requires.stands
     (Begin c.in-Begin.time) Done refl c.begin.ensures.enters in
@@ -175,7 +175,7 @@ pub returns-in_ok-finish-in-Done-clause-stands : goal.returns-in_ok-finish-in-Do
 returns-in_ok-finish-in-Done-clause-stands g c =
     let script = c.args.lent.now.script.now in
     let view = c.args.lent.now.stage.now in
-    let x : ScriptLine = record { number = c.args.number; actor = Display; body = body.Display c.args.text } in
+    let x : ScriptLine = record { number = c.args.line.number; actor = Display; body = body.Display c.args.line.text } in
     let at : At script c.args.place x = at_place script c.args.place x c.requires.playable c.requires.line in
     let is : x.body ≡ body.Display display.Done = ap (λ t. body.Display t) c.in-Done.is in
     let finishes = c.in_ok-finish-in-Done.ensures.finishes (history_of c.args.compositor.now.display.seen) c.requires.stands.frames.stored
@@ -187,7 +187,7 @@ pub returns-in_ok-finish-in-Done-clause-directs : goal.returns-in_ok-finish-in-D
 returns-in_ok-finish-in-Done-clause-directs g c =
     let script = c.args.lent.now.script.now in
     let view = c.args.lent.now.stage.now in
-    let x : ScriptLine = record { number = c.args.number; actor = Display; body = body.Display c.args.text } in
+    let x : ScriptLine = record { number = c.args.line.number; actor = Display; body = body.Display c.args.line.text } in
     let at : At script c.args.place x = at_place script c.args.place x c.requires.playable c.requires.line in
     let is : x.body ≡ body.Display display.Done = ap (λ t. body.Display t) c.in-Done.is in
     let finishes = c.in_ok-finish-in-Done.ensures.finishes (history_of c.args.compositor.now.display.seen) c.requires.stands.frames.stored
@@ -204,25 +204,24 @@ pub returns-in_ok-enter_beside-in_default : goal.returns-in_ok-enter_beside-in_d
 returns-in_ok-enter_beside-in_default g c =
     let script = c.args.lent.now.script.now in
     let view = c.args.lent.now.stage.now in
-    let x : ScriptLine = record { number = c.args.number; actor = Display; body = body.Display c.args.text } in
+    let x : ScriptLine = record { number = c.args.line.number; actor = Display; body = body.Display c.args.line.text } in
     let at : At script c.args.place x = at_place script c.args.place x c.requires.playable c.requires.line in
-    let beside : is_beside c.args.text ≡ true = search rules in
-    let e : EntersBeside (setup_of view) c.args.number c.args.text c.args.compositor.now c.enter_beside.new.compositor =
+    let beside : is_beside c.args.line.text ≡ true = search rules in
+    let e : EntersBeside (setup_of view) c.args.line.number c.args.line.text c.args.compositor.now c.enter_beside.new.compositor =
     c.in_ok-enter_beside-in_default.ensures.enters in
     let there = looked_there _ _ _ _ c.requires.of.setup e.looks in
     let looked = compositor_looks script view c.args.place c.args.compositor.now e.looked c.args.film.now there c.requires.stands in
     let still = finished_still script view c.args.place x at refl c.requires.of e.looked c.enter_beside.new.compositor c.args.film.now looked
-    (entry_of_display c.args.text) e.reply (leaves_frames c.args.text beside).no_finish e.enters in
+    (entry_of_display c.args.line.text) e.reply (leaves_frames c.args.line.text beside).no_finish e.enters in
     let seen = looked_beside script view c.args.place c.args.compositor.now e.looked c.args.film.now there c.requires.stands in
     record {
-      stands = line_beside script view c.args.place x at refl c.requires.of e.looked c.enter_beside.new.compositor c.args.film.now looked c.args.text beside
-          refl
-          e.reply c.enter_beside.new.film e.enters e.keeps c.in_ok-enter_beside-in_default.ensures.answers;
+      stands = line_beside script view c.args.place x at refl c.requires.of e.looked c.enter_beside.new.compositor c.args.film.now looked c.args.line.text
+          beside refl e.reply c.enter_beside.new.film e.enters e.keeps c.in_ok-enter_beside-in_default.ensures.answers;
       directs = record {
         finishes = finishes_then script.setup (history_of c.args.compositor.now.display.seen) (history_of e.looked.display.seen)
             (history_of c.enter_beside.new.compositor.display.seen) seen still.1;
         shown = IsShown.shows_none (still.0 ∙ seen.finishing) (ap (λ (f : Film). f.set) c.enter_beside.ensures.others) refl;
-        keeping = ap keeping_of (answers_keep script.setup c.args.number c.args.text c.args.film.now.store c.enter_beside.new.film.store
+        keeping = ap keeping_of (answers_keep script.setup c.args.line.number c.args.line.text c.args.film.now.store c.enter_beside.new.film.store
             c.in_ok-enter_beside-in_default.ensures.answers);
       };
       stays = tt;

@@ -1,8 +1,8 @@
-use Rattle.std.proofs.Common.{[], ◌∷◌, ◌++◌, ◌≡◌, ◌≤◌, ◌+◌, ℕ, List, length, take, ap, sym, ◌∙◌, subst, arith}
+use Rattle.std.proofs.Common.{[], ◌∷◌, ◌++◌, ◌≡◌, ◌+◌, ℕ, List, length, take, ap, sym, ◌∙◌, subst, arith}
 use Rattle.std.proofs.lemmas.List.{length-replicate, length-take, replicate-append-replicate, take_all}
 use Rattle.flat_scene.specs.declared.script.ScriptLine.{ScriptLine}
 use Rattle.flat_play.proofs.lemmas.Places.{take_at}
-use Rattle.flat_race.specs.PlaceLists.{ArePlaces, noted}
+use Rattle.flat_race.specs.PlaceLists.{ArePlaces}
 use Rattle.flat_race.proofs.PlaceLists.{declared-at, none-repeated, noted-line, noted-long, placed-none}
 use Rattle.std.proofs.lemmas.Result.{IfOk-from_err}
 use Rattle.flat_race.proofs.own_lines.places_by_session.Goals as goal

@@ -1,4 +1,4 @@
-use Rattle.std.proofs.Common.{◌≡◌, ap, ◌∙◌}
+use Rattle.std.proofs.Common.{ap, ◌∙◌}
 use Rattle.flat_stage.specs.Displays.{DisplayView}
 use Rattle.flat_race.proofs.Looks.{looked_none, looked_more}
 use Rattle.flat_race.proofs.pausing.look_again.Goals as goal

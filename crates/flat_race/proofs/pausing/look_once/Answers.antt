@@ -1,4 +1,4 @@
-use Rattle.flat_race.proofs.Looks.{looked_none, looked_more, may_look, legal_there}
+use Rattle.flat_race.proofs.Looks.{may_look}
 use Rattle.flat_race.proofs.pausing.look_once.Goals as goal
 
 pub look-requires-clause-may : goal.look-requires-clause-may

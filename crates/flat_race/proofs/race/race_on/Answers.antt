@@ -9,7 +9,7 @@ use Rattle.flat_race.proofs.race.race_on.Goals as goal
 
 pub on_threads-shown-requires-clause-may : goal.on_threads-shown-requires-clause-may
 on_threads-shown-requires-clause-may g c κs within =
-    let M : ℕ → Type 0 = λ n. MayRace c.args.stage c.args.script.now n c.args.compositor c.args.seats c.args.film in
+    let M : ℕ → Type 0 = λ n. MayRace c.args.stage c.args.context.now.script.now n c.args.state in
     subst M (ap (λ v. length v.items) (sym c.replace-shown_here.ensures.value)) c.requires.may
 
 pub close-requires-clause-playable : goal.close-requires-clause-playable
@@ -20,11 +20,11 @@ close-requires-clause-of g c = c.requires.may.of
 
 pub close-requires-clause-ended : goal.close-requires-clause-ended
 close-requires-clause-ended g c =
-    (ok_raced _ c.in-Ok.ended c.in-Ok.is _ _ c.args.stage c.args.script.now _ _ c.args.film c.on_threads-shown.ensures.raced).ended
+    (ok_raced _ c.in-Ok.ended c.in-Ok.is _ _ c.args.stage c.args.context.now.script.now _ _ c.args.state c.on_threads-shown.ensures.raced).ended
 
 pub returns-in-Ok-clause-run : goal.returns-in-Ok-clause-run
 returns-in-Ok-clause-run g c =
-    let raced = ok_raced _ c.in-Ok.ended c.in-Ok.is _ _ c.args.stage c.args.script.now _ _ c.args.film c.on_threads-shown.ensures.raced in
+    let raced = ok_raced _ c.in-Ok.ended c.in-Ok.is _ _ c.args.stage c.args.context.now.script.now _ _ c.args.state c.on_threads-shown.ensures.raced in
     let out = c.close.ensures.out in
     record {
       played = out.played;
@@ -36,12 +36,12 @@ returns-in-Ok-clause-run g c =
 
 pub returns-in-Ok-clause-kept : goal.returns-in-Ok-clause-kept
 returns-in-Ok-clause-kept g c =
-    let raced = ok_raced _ c.in-Ok.ended c.in-Ok.is _ _ c.args.stage c.args.script.now _ _ c.args.film c.on_threads-shown.ensures.raced in
+    let raced = ok_raced _ c.in-Ok.ended c.in-Ok.is _ _ c.args.stage c.args.context.now.script.now _ _ c.args.state c.on_threads-shown.ensures.raced in
     kept_from _ _ _ _ _ _ _ (ap (λ v. v.items) (sym c.replace-shown_here.ensures.value))
-    (kept_seen _ _ (AreBegun c.args.script.now) _ _ _ _ _ _ c.on_threads-shown.ensures.kinds c.close.ensures.begun raced.seen)
+    (kept_seen _ _ (AreBegun c.args.context.now.script.now) _ _ _ _ _ _ c.on_threads-shown.ensures.kinds c.close.ensures.begun raced.seen)
 
 pub returns-in-Err-clause-kept : goal.returns-in-Err-clause-kept
 returns-in-Err-clause-kept g c =
     kept_from _ _ _ _ _ _ _ (ap (λ v. v.items) (sym c.replace-shown_here.ensures.value))
-    (kept_stopped _ _ _ c.args.stage c.args.script.now _ _ _ c.on_threads-shown.ensures.stopped c.in-Err.stopped c.in-Err.is c.on_threads-shown.ensures.kinds
-    c.close_stopped.ensures)
+    (kept_stopped _ _ _ c.args.stage c.args.context.now.script.now _ _ _ c.on_threads-shown.ensures.stopped c.in-Err.stopped c.in-Err.is
+    c.on_threads-shown.ensures.kinds c.close_stopped.ensures)

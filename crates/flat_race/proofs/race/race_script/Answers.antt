@@ -2,6 +2,7 @@ use Rattle.std.proofs.Common.{arith, length}
 use Rattle.std.proofs.lemmas.Result.{IfOk-from_err}
 use Rattle.flat_play.proofs.lemmas.Begun.{none-begun}
 use Rattle.flat_play.proofs.lemmas.Seen.{kept_none}
+use Rattle.flat_race.specs.declared.running.RaceState.{RaceState}
 use Rattle.flat_race.specs.Ends.{MayRace}
 use Rattle.flat_race.proofs.RaceEnds.{run_as}
 use Rattle.flat_race.proofs.race.race_script.Goals as goal
@@ -16,7 +17,8 @@ pub race_on-requires : goal.race_on-requires
 race_on-requires g c =
     let new = c.in_ok-film.ensures.new in
     let stage = c.in-Ok.ensures in
-    let may : MayRace c.in-Ok.stage c.args.script.now (length c.args.displays.now.items) c.in-Ok.compositor c.in-Ok.seats c.in_ok-film.film = record {
+    let state : RaceState = record { compositor = c.in-Ok.compositor; seats = c.in-Ok.seats; film = c.in_ok-film.film } in
+    let may : MayRace c.in-Ok.stage c.args.script.now (length c.args.displays.now.items) state = record {
       playable = c.requires.playable;
       of = stage.of;
       fresh = stage.compositor;

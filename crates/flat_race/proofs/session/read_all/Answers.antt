@@ -1,15 +1,12 @@
-use Rattle.std.proofs.Common.{◌≡◌, ◌<◌, ◌≤◌, ◌+◌, ◌∷◌, [], List, ℕ, length, drop, slice_index_or, slice_get, get_or, Some, true, sym, ap, ◌∙◌, subst, arith}
-use Rattle.std.proofs.Common.{add-one}
-use Rattle.std.proofs.Math.Seq.{drop-cons}
+use Rattle.std.proofs.Common.{◌≡◌, ◌+◌, [], List, ℕ, length, drop, slice_index_or, sym, ap, ◌∙◌, subst, arith}
 use Rattle.std.proofs.lemmas.List.{drop_all}
 use Rattle.flat_base.specs.declared.ids.SessionNo.{SessionNo}
-use Rattle.flat_scene.specs.declared.script.ScriptLine.{ScriptLine}
 use Rattle.flat_scene.specs.History.{is_session}
 use Rattle.flat_scene.specs.Journals.{history_of}
 use Rattle.flat_scene.specs.Interleave.{IsReading, session_lines}
 use Rattle.flat_race.specs.OwnLines.{StandsBefore}
 use Rattle.flat_race.specs.Sessions.{SessionStands}
-use Rattle.flat_race.proofs.ReadLines.{all-read, line-here, line-mine, line-read, line-within, next-line, stands-at}
+use Rattle.flat_race.proofs.ReadLines.{all-read, line-here, line-mine, line-within, stands-at}
 use Rattle.flat_race.proofs.SessionSteps.{begun_at, fresh_stands}
 use Rattle.flat_race.proofs.session.read_all.Goals as goal
 

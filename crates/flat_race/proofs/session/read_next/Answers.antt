@@ -1,6 +1,4 @@
-use Rattle.std.proofs.Common.{rules, ◌≡◌, ℕ, ◌<◌, ◌≤◌, ◌+◌, true, false, refl, sym, ap, ◌∙◌, subst, arith}
-use Rattle.flat_scene.specs.declared.script.Body.TheVariants as body
-use Rattle.flat_scene.specs.declared.script.ScriptLine.{ScriptLine}
+use Rattle.std.proofs.Common.{◌≡◌, true}
 use Rattle.flat_scene.specs.History.{is_session}
 use Rattle.flat_play.proofs.lemmas.Steps.{At, at_place}
 use Rattle.flat_race.proofs.SessionSteps.{line_few, line_owned, line_room, no_text, reads, skips}

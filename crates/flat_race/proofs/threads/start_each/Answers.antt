@@ -1,5 +1,5 @@
-use Rattle.std.proofs.Common.{rules, ◌≡◌, ◌+◌, [], ◌∷◌, ◌++◌, ◌∙◌, refl}
-use Rattle.flat_race.proofs.Outs.{left-all, out-more}
+use Rattle.std.proofs.Common.{rules, ◌≡◌, [], ◌∷◌, ◌++◌, ◌∙◌, refl}
+use Rattle.flat_race.proofs.Outs.{out-more}
 use Rattle.std.proofs.lemmas.Result.{IfOk-from_err}
 use Rattle.flat_race.proofs.threads.start_each.Goals as goal
 
