@@ -1,4 +1,4 @@
-use crate::call::{Asked, call};
+use crate::calls::{Asked, call};
 use flat_base::NoMemory;
 use flat_call_checks::{Count, Flag};
 use flat_display::Display;

@@ -1,4 +1,4 @@
-use crate::call::race;
+use crate::calls::race;
 use flat_base::NoMemory;
 use flat_call_checks::Count;
 use flat_race::Gate;

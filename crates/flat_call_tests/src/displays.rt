@@ -1,7 +1,7 @@
 ghost use Rattle.std.specs.Prelude.{◌≡◌, ◌≢◌, ◌-◌};
 ghost use Rattle.flat_io.specs.Counts.{count_end};
 
-use crate::call::{Asked, Called, call};
+use crate::calls::{Asked, Called, call};
 use crate::six::{SIX_FRAMES, SIX_REPORTED};
 use flat_base::NoMemory;
 use flat_display::{Display, MemDisplay};

@@ -1,6 +1,6 @@
 ghost use Rattle.std.specs.Prelude.{◌<◌, ◌≤◌, IfOk};
 
-use crate::call::{Asked, Called, call};
+use crate::calls::{Asked, Called, call};
 use flat_base::NoMemory;
 use flat_call_checks::SHELL;
 use flat_race::OpenGate;

@@ -1,4 +1,4 @@
-use crate::call::race;
+use crate::calls::race;
 use crate::composing::presents_while_composed;
 use crate::counting::asked_for;
 use crate::holding::race_held;

@@ -1,4 +1,4 @@
-use crate::call::{Asked, Called, call};
+use crate::calls::{Asked, Called, call};
 use flat_base::NoMemory;
 use flat_call_checks::{FILL, Flag, answered};
 use flat_display::Display;

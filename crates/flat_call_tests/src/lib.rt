@@ -1,13 +1,13 @@
 //! Tests of `flatland`: races under gates, and plays where what is around them fails; of
 //! its displays and its command words; and of the judge.
 //!
-//! `call` (call) is a whole call of the service in memory. On it stand races under a gate with a
+//! `call` (calls) is a whole call of the service in memory. On it stand races under a gate with a
 //! display (asking, holding, composing, counting), displays that fail (displays, six), sources and
 //! sinks that fail (faults), and a play of a slice (slices).
 #![tactic(auto)]
 
 mod asking;
-mod call;
+mod calls;
 mod composing;
 mod counting;
 #[cfg(test)]
@@ -31,7 +31,7 @@ mod source;
 mod words;
 
 pub use asking::race_asked;
-pub use call::{Asked, Called, call, play, race};
+pub use calls::{Asked, Called, call, play, race};
 pub use composing::presents_while_composed;
 pub use counting::asked_for;
 pub use displays::{FRAMES, frames_before, play_six, report_with};

@@ -1,5 +1,5 @@
 use crate::asking::race_asked;
-use crate::call::race;
+use crate::calls::race;
 use flat_call_checks::{
     InOrder, Meeting, PROBED, PROBED_AT_ONCE, PROBED_EARLY, PROBED_ORDER, PROBED_REPORTED, RATIOS,
     RATIOS_ORDER, RATIOS_REPORTED, SHELL, SHELL_ORDER, SHELL_REPORTED, TWO, TWO_REPORTED,

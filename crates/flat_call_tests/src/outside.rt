@@ -1,4 +1,4 @@
-use crate::call::play;
+use crate::calls::play;
 use crate::displays::{FRAMES, frames_before, play_six, report_with};
 use crate::faults::{Fault, first_spared};
 use flat_call_checks::{
