@@ -93,18 +93,22 @@ is_second call words = is_word_at call words 1
 
 -- whether all number words are of their ranges; an Up has no point
 abbrev pub has_numbers : List (List ℕ) → Bool
-has_numbers words = may_be (pointer_at words) words 2 && (is_second (codes "Up") words || (may_be (units_at words 3) words 3 && may_be (units_at words 4) words 4))
+has_numbers words = may_be (pointer_at words) words 2
+    && (is_second (codes "Up") words || (may_be (units_at words 3) words 3 && may_be (units_at words 4) words 4))
 
 abbrev pub word_count : List (List ℕ) → ℕ
 word_count words = if is_second (codes "Up") words then 3 else 5
 
 abbrev pub pointer_tests : ℕ → List (List ℕ) → List (FaultKind × Bool)
 pointer_tests before words =
-    (UnknownActor, is_word_at (codes "display") words 0) ∷ (BadNumber, has_numbers words) ∷ (WrongCount, length words == word_count words) ∷ (Limit, has_room before) ∷ []
+    (UnknownActor, is_word_at (codes "display") words 0) ∷ (BadNumber, has_numbers words)
+    ∷ (WrongCount, length words == word_count words) ∷ (Limit, has_room before) ∷ []
 
 abbrev pub pointer_call : List (List ℕ) → PointerCall
 pointer_call words =
-    if is_second (codes "Up") words then Up else (if is_second (codes "Down") words then Down (unwrap_or (units_at words 3) (pos 0)) (unwrap_or (units_at words 4) (pos 0))
+    if is_second (codes "Up") words then Up
+    else (if is_second (codes "Down") words
+    then Down (unwrap_or (units_at words 3) (pos 0)) (unwrap_or (units_at words 4) (pos 0))
     else Move (unwrap_or (units_at words 3) (pos 0)) (unwrap_or (units_at words 4) (pos 0)))
 
 abbrev pub pointer_value : ℕ → List (List ℕ) → PointerLine

@@ -25,7 +25,9 @@ answer_word Denied = codes "denied"
 
 -- the line of a session that asks, where this is the answer, and the chain after it
 abbrev pub ask_line : List Word → FocusLine → FocusAnswer → List SessionNo → List Word
-ask_line names line answer chain = codes "focus" ∷ number line.number ∷ session_name names line.by ∷ session_name names line.of ∷ answer_word answer ∷ chain_words names chain
+ask_line names line answer chain =
+    codes "focus" ∷ number line.number ∷ session_name names line.by ∷ session_name names line.of ∷ answer_word answer
+    ∷ chain_words names chain
 
 -- the last line
 abbrev pub end_line : ℕ → List Word

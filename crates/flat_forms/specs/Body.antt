@@ -139,10 +139,16 @@ begin_place s = place (λ w. in_order (greatest (begin_times s)) (whole time (w 
 abbrev pub ratio_line : Form DisplayLine
 ratio_line = display.Dpr <$> ratio
 
+-- the time of a begin, of which there may be so many, and none while a frame is open
+abbrev pub begin_time : Script → List Word → Reading ℕ
+begin_time s rest =
+    unless_kind Limit (nat_lt (length (begin_times s)) FRAMES_MAX)
+    (unless_kind BadOrder (not (is_open s)) (whole (begin_place s) rest))
+
 -- a line of the display
 abbrev pub display_line : Script → List Word → Reading DisplayLine
 display_line s = named s.version UnknownCall (
-    (codes "begin", (λ rest. mapped display.Begin (unless_kind Limit (nat_lt (length (begin_times s)) FRAMES_MAX) (unless_kind BadOrder (not (is_open s)) (whole (begin_place s) rest))))) ∷
+    (codes "begin", (λ rest. mapped display.Begin (begin_time s rest))) ∷
     (codes "done", (λ rest. unless_kind BadOrder (is_open s) (whole (give display.Done) rest))) ∷
     (codes "Signal", whole (display.Signal <$> fence s Display)) ∷
     (codes "Wait", (λ rest. mapped display.Wait (display_condition s rest))) ∷

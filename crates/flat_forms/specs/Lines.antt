@@ -18,5 +18,6 @@ abbrev pub words_read : ℕ → Sofar → List Word → Reading Sofar
 words_read n (Start, s) words = mapped (λ version. (Head, with_version s version)) (first_line words)
 words_read n (Head, s) [] = Err BadHead
 words_read n (Head, s) (w ∷ words) =
-    if bytes_eq w (codes "run") then mapped (λ _. (Body, s)) (run_line s words) else mapped (λ t. (Head, t)) (head_line s (w ∷ words))
+    if bytes_eq w (codes "run") then mapped (λ _. (Body, s)) (run_line s words)
+    else mapped (λ t. (Head, t)) (head_line s (w ∷ words))
 words_read n (Body, s) words = mapped (λ t. (Body, t)) (body_line s n words)

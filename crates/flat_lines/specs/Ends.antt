@@ -9,4 +9,5 @@ title_line version = codes "report" ∷ codes "flatland" ∷ number version ∷ 
 
 -- the last line, after so many entries and finished frames
 abbrev pub end_line : ℕ → ℕ → List Word
-end_line entries finished = codes "report" ∷ codes "ends" ∷ codes "entries" ∷ number entries ∷ codes "frames" ∷ number finished ∷ []
+end_line entries finished =
+    codes "report" ∷ codes "ends" ∷ codes "entries" ∷ number entries ∷ codes "frames" ∷ number finished ∷ []

@@ -31,7 +31,8 @@ use Rattle.flat_lines.specs.Names.{pair_name}
 abbrev pub layout_words : Layout → List Word
 layout_words layout =
     numbers (pos layout.w ∷ pos layout.h ∷ []) ++ codes "inset"
-    ∷ numbers (pos layout.inset.top ∷ pos layout.inset.right ∷ pos layout.inset.bottom ∷ pos layout.inset.left ∷ []) ++ codes "ratio" ∷ number layout.ratio ∷ []
+    ∷ numbers (pos layout.inset.top ∷ pos layout.inset.right ∷ pos layout.inset.bottom ∷ pos layout.inset.left ∷ [])
+    ++ codes "ratio" ∷ number layout.ratio ∷ []
 
 abbrev pub value_words : Told → List Word
 value_words (told.Layout layout) = layout_words layout
@@ -92,7 +93,8 @@ asked_words _ = []
 -- what stands behind the actor and the line's number
 abbrev pub reply_words : Kind → Reply → List Word
 reply_words made reply.Done = done_words made
-reply_words made (reply.Presented count credits) = codes "Present" ∷ number count ∷ codes "credits" ∷ number credits ∷ []
+reply_words made (reply.Presented count credits) =
+    codes "Present" ∷ number count ∷ codes "credits" ∷ number credits ∷ []
 reply_words made reply.Held = asked_words made ++ codes "held" ∷ []
 reply_words made (reply.Now value) = asked_words made ++ codes "now" ∷ value_words value
 reply_words made (reply.Polled count) = codes "Poll" ∷ number count ∷ []
@@ -107,13 +109,15 @@ hit_words script hits =
 
 -- what is said of a point: it, the frame in which it was asked, and who is hit
 abbrev pub point_words : Script → ℤ → ℤ → ℕ → List Hit → List Word
-point_words script x y frame hits = codes "hit" ∷ numbers (x ∷ y ∷ []) ++ codes "frame" ∷ number frame ∷ hit_words script hits
+point_words script x y frame hits =
+    codes "hit" ∷ numbers (x ∷ y ∷ []) ++ codes "frame" ∷ number frame ∷ hit_words script hits
 
 -- What stands behind the number of the line.
 -- The number of finished frames is that before the entry, and the hits are those of the last of them.
 abbrev pub answer_words : Script → ℕ → (ℤ → ℤ → List Hit) → Kind → Reply → List Word
 answer_words script frames hits (kind.End refused) answer = []
-answer_words script frames hits (kind.Begin time) answer = codes "begin" ∷ number time ∷ codes "frame" ∷ number (suc frames) ∷ []
+answer_words script frames hits (kind.Begin time) answer =
+    codes "begin" ∷ number time ∷ codes "frame" ∷ number (suc frames) ∷ []
 answer_words script frames hits kind.Finish answer = codes "done" ∷ codes "frame" ∷ number (suc frames) ∷ []
 answer_words script frames hits (kind.Hit x y) answer = point_words script x y frames (hits x y)
 answer_words script frames hits made answer = reply_words made answer

@@ -28,9 +28,11 @@ blend_word SrcOver = codes "over"
 -- what is painted, at which size
 abbrev pub paint_words : Script → ℕ → ℕ → Paint → List Word
 paint_words script w h (Fill rgba) =
-    codes "fill" ∷ numbers (pos (slice_index rgba 0) ∷ pos (slice_index rgba 1) ∷ pos (slice_index rgba 2) ∷ pos (slice_index rgba 3) ∷ pos w ∷ pos h ∷ [])
+    codes "fill" ∷ numbers (pos (slice_index rgba 0) ∷ pos (slice_index rgba 1) ∷ pos (slice_index rgba 2)
+    ∷ pos (slice_index rgba 3) ∷ pos w ∷ pos h ∷ [])
 paint_words script w h (Image buffers index sample flip) =
-    codes "image" ∷ buffers_name script buffers ∷ number index ∷ codes "sample" ∷ numbers (sample.x ∷ sample.y ∷ sample.w ∷ sample.h ∷ [])
+    codes "image" ∷ buffers_name script buffers ∷ number index ∷ codes "sample"
+    ∷ numbers (sample.x ∷ sample.y ∷ sample.w ∷ sample.h ∷ [])
     ++ codes "size" ∷ number w ∷ number h ∷ codes "flip" ∷ number (flip_number flip) ∷ []
 
 abbrev pub matrix_words : SceneMatrix → List Word
@@ -38,7 +40,8 @@ matrix_words m = codes "m" ∷ numbers (pos (cond m.swap 1 0) ∷ m.a ∷ m.b �
 
 abbrev pub item_line : Script → DrawItem → List Word
 item_line script item =
-    codes "item" ∷ session_name script.sessions item.session ∷ number item.serial ∷ paint_words script item.w item.h item.paint ++ matrix_words item.matrix
+    codes "item" ∷ session_name script.sessions item.session ∷ number item.serial
+    ∷ paint_words script item.w item.h item.paint ++ matrix_words item.matrix
     ++ (codes "v" ∷ rect_words item.visible) ++ (codes "o" ∷ number item.opacity ∷ blend_word item.blend ∷ [])
 
 -- the name of a view's parent, or `-`
@@ -47,13 +50,15 @@ parent_word script (Some s) = session_name script.sessions s
 parent_word script None = codes "-"
 
 abbrev pub view_line : Script → ViewNode → List Word
-view_line script view = codes "view" ∷ session_name script.sessions view.session ∷ parent_word script view.parent ∷ rect_words view.bounds
+view_line script view =
+    codes "view" ∷ session_name script.sessions view.session ∷ parent_word script view.parent ∷ rect_words view.bounds
 
 abbrev pub apart_line : Script → SessionNo → List Word
 apart_line script s = codes "apart" ∷ session_name script.sessions s ∷ []
 
 abbrev pub lost_line : Lost → List Word
-lost_line lost = codes "display" ∷ number lost.display ∷ codes "lost" ∷ codes "at" ∷ codes "frame" ∷ number lost.frame.0 ∷ []
+lost_line lost =
+    codes "display" ∷ number lost.display ∷ codes "lost" ∷ codes "at" ∷ codes "frame" ∷ number lost.frame.0 ∷ []
 
 -- the displays that were lost at the frame of a number
 abbrev pub lost_at : ℕ → List Lost → List Lost

@@ -129,7 +129,8 @@ regions words = both (λ r rest. r ∷ rest) (region words).0 (Ok [])
 -- whether `unsquashable` stands here, where that version knows it; it is taken then
 abbrev pub unsquashable : ℕ → Form Bool
 unsquashable version [] = (Ok false, [])
-unsquashable version (w ∷ words) = if bytes_eq w (codes "unsquashable") && knows version w then (Ok true, words) else (Ok false, w ∷ words)
+unsquashable version (w ∷ words) =
+    if bytes_eq w (codes "unsquashable") && knows version w then (Ok true, words) else (Ok false, w ∷ words)
 
 -- a pixel ratio of the display
 abbrev pub ratio : Form ℕ
@@ -197,7 +198,9 @@ new_name s = place (λ w. if is_name w && not (is_declared s w) then Ok w else E
 
 -- a session, or the display where no pair has it yet
 abbrev pub pair_owner : Script → Form Actor
-pair_owner s = place (λ w. unless_kind BadHead (not (bytes_eq w (codes "display") && has_display_pair s)) (or_kind UnknownName (owner_named s w)))
+pair_owner s =
+    place (λ w. unless_kind BadHead (not (bytes_eq w (codes "display") && has_display_pair s))
+    (or_kind UnknownName (owner_named s w)))
 
 -- an owner of a fence, as a word
 abbrev pub owner_word : Script → Word → Reading Actor

@@ -34,7 +34,8 @@ answer_words names call Busy = codes "busy" ∷ []
 
 -- the line of a pointer's line that is answered so
 abbrev pub touch_line : List Word → PointerLine → PointerAnswer → List Word
-touch_line names line answer = codes "pointer" ∷ number line.number ∷ number line.pointer ∷ answer_words names line.call answer
+touch_line names line answer =
+    codes "pointer" ∷ number line.number ∷ number line.pointer ∷ answer_words names line.call answer
 
 -- the line of a pointer at the frame of a number, if its stream is cancelled
 abbrev pub cancel_line : List Word → ℕ → ℕ → Option SessionNo → List (List Word)

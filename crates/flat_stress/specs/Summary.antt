@@ -7,5 +7,5 @@ use Rattle.flat_page.specs.Words.{number}
 unfoldable pub summary_line : Totals → List ℕ
 summary_line t =
     line_text
-    (codes "stress" ∷ number t.load ∷ codes "sessions" ∷ number t.sessions ∷ codes "entries" ∷ number t.entries ∷ codes "frames" ∷ number t.frames
-    ∷ codes "presents" ∷ number t.presents ∷ codes "items" ∷ number t.items ∷ [])
+    (codes "stress" ∷ number t.load ∷ codes "sessions" ∷ number t.sessions ∷ codes "entries" ∷ number t.entries
+    ∷ codes "frames" ∷ number t.frames ∷ codes "presents" ∷ number t.presents ∷ codes "items" ∷ number t.items ∷ [])

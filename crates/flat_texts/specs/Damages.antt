@@ -25,7 +25,9 @@ rect_line r = codes "rect" ∷ numbers (r.x0 ∷ r.y0 ∷ r.x1 ∷ r.y1 ∷ [])
 
 -- the lines of a frame
 abbrev pub damaged_lines : Damaged → List (List Word)
-damaged_lines one = (codes "damage" ∷ codes "frame" ∷ number one.frame.0 ∷ codes "rects" ∷ number (length one.rects) ∷ []) ∷ map rect_line one.rects
+damaged_lines one =
+    (codes "damage" ∷ codes "frame" ∷ number one.frame.0 ∷ codes "rects" ∷ number (length one.rects) ∷ [])
+    ∷ map rect_line one.rects
 
 -- the last line
 abbrev pub end_line : ℕ → List Word
