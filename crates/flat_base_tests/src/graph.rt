@@ -1,6 +1,6 @@
 use flat_base::TransformId;
 use flat_graph::Graph;
-use flat_scene::{GraphFault, Held};
+use flat_scene::{GraphFault, HeldContent};
 use std::alloc::Global;
 
 pub const FIRST: TransformId = TransformId(1);
@@ -18,13 +18,16 @@ pub fn create_three(graph: &mut Graph) -> Result<(), GraphFault> {
 }
 
 /// What the root's transform holds.
-fn held_by_root(graph: &Graph) -> Option<Held> {
+fn held_by_root(graph: &Graph) -> Option<HeldContent> {
     graph.node(graph.root()?)?.content
 }
 
 /// What the root of a new graph holds, where first all that is dropped is another content,
 /// then its own, and then another transform that held it is the root.
-fn drop_contents(graph: &mut Graph, held: Held) -> Result<[Option<Held>; 3], GraphFault> {
+fn drop_contents(
+    graph: &mut Graph,
+    held: HeldContent,
+) -> Result<[Option<HeldContent>; 3], GraphFault> {
     create_three(graph)?;
     graph.set_root(FIRST)?;
     graph.set_content(FIRST, Some(held))?;
@@ -37,14 +40,14 @@ fn drop_contents(graph: &mut Graph, held: Held) -> Result<[Option<Held>; 3], Gra
     Ok([kept, dropped, held_by_root(graph)])
 }
 
-fn dropped(alloc: Global, held: Held) -> Result<[Option<Held>; 3], GraphFault> {
+fn dropped(alloc: Global, held: HeldContent) -> Result<[Option<HeldContent>; 3], GraphFault> {
     let mut graph = Graph::new(alloc);
     drop_contents(&mut graph, held)
 }
 
 #[test]
 fn drops_a_content(rt: HostRuntime) {
-    let held = Held {
+    let held = HeldContent {
         serial: 7,
         viewport: true,
     };

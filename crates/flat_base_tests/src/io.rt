@@ -2,20 +2,20 @@ ghost use Rattle.std.specs.Prelude.{◌≡◌, ◌<◌};
 
 use flat_base::NoMemory;
 use flat_io::{
-    Failed, MemSink, MemSource, ReadAll, Sink, Source, StdSink, StdSource, SteadySink,
-    SteadySource, WriteAll, read_all, write_all,
+    MemSink, MemSource, ReadAll, Sink, Source, StdSink, StdSource, SteadySink, SteadySource,
+    StreamFailed, WriteAll, read_all, write_all,
 };
 use std::alloc::Global;
 use std::io::Cursor;
 
 /// A source that gives one byte a read.
 #[derive(Drop)]
-struct Drops(MemSource);
+struct ByteSource(MemSource);
 
-impl Source for Drops {
+impl Source for ByteSource {
     ghost faults = { λ s. s.0.faults };
 
-    fn read(&mut self, into: &mut [u8]) -> Result<usize, Failed> {
+    fn read(&mut self, into: &mut [u8]) -> Result<usize, StreamFailed> {
         if into.is_empty() {
             return Ok(0);
         }
@@ -25,14 +25,14 @@ impl Source for Drops {
 
 /// A sink that takes one byte a write.
 #[derive(Drop)]
-struct Sips(MemSink);
+struct ByteSink(MemSink);
 
-impl Sink for Sips {
+impl Sink for ByteSink {
     ghost faults = { λ s. s.0.faults };
 
     ghost stalls = { λ s. s.0.stalls };
 
-    fn write(&mut self, piece: &[u8]) -> Result<usize, Failed> {
+    fn write(&mut self, piece: &[u8]) -> Result<usize, StreamFailed> {
         if piece.is_empty() {
             return Ok(0);
         }
@@ -50,7 +50,7 @@ fn mem_sink(alloc: Global, room: usize, fail: &[u32], zero: &[u32]) -> Result<Me
 
 /// What writes to a sink with room for four bytes answer, and whether the first is what it
 /// has kept.
-fn write_three(alloc: Global) -> Result<([Result<usize, Failed>; 3], bool), NoMemory> {
+fn write_three(alloc: Global) -> Result<([Result<usize, StreamFailed>; 3], bool), NoMemory> {
     let mut sink = SteadySink::new(alloc, 4)?;
     let writes = [sink.write(b"ab"), sink.write(b"cde"), sink.write(b"f")];
     Ok((writes, sink.bytes() == b"ab".as_slice()))
@@ -64,7 +64,7 @@ fn a_steady_sink_drops_all_from_the_first_piece_that_does_not_fit(rt: HostRuntim
 
 /// What three reads of a byte each answer, of which the second has to fail, and the bytes
 /// after the second and the third.
-fn read_three(alloc: Global) -> Result<([Result<usize, Failed>; 3], [[u8; 1]; 2]), NoMemory> {
+fn read_three(alloc: Global) -> Result<([Result<usize, StreamFailed>; 3], [[u8; 1]; 2]), NoMemory> {
     let mut source = mem_source(alloc, b"ab", &[2])?;
     let mut into = [0u8; 1];
     let first = source.read(&mut into);
@@ -76,13 +76,13 @@ fn read_three(alloc: Global) -> Result<([Result<usize, Failed>; 3], [[u8; 1]; 2]
 
 #[test]
 fn a_source_fails_at_the_chosen_calls(rt: HostRuntime) {
-    let expected = ([Ok(1), Err(Failed), Ok(1)], [*b"a", *b"b"]);
+    let expected = ([Ok(1), Err(StreamFailed), Ok(1)], [*b"a", *b"b"]);
     assert_eq!(rt; read_three(rt.alloc()), Ok(expected));
 }
 
 /// What writes answer of which some have to fail or to stall, and whether the sink keeps
 /// what the others wrote.
-fn write_five(alloc: Global) -> Result<([Result<usize, Failed>; 5], bool), NoMemory> {
+fn write_five(alloc: Global) -> Result<([Result<usize, StreamFailed>; 5], bool), NoMemory> {
     let mut sink = mem_sink(alloc, 8, &[1, 4], &[2, 4])?;
     let writes = [
         sink.write(b"ab"),
@@ -96,7 +96,7 @@ fn write_five(alloc: Global) -> Result<([Result<usize, Failed>; 5], bool), NoMem
 
 #[test]
 fn a_sink_fails_at_the_chosen_calls(rt: HostRuntime) {
-    let writes = [Err(Failed), Ok(0), Ok(2), Err(Failed), Ok(2)];
+    let writes = [Err(StreamFailed), Ok(0), Ok(2), Err(StreamFailed), Ok(2)];
     assert_eq!(rt; write_five(rt.alloc()), Ok((writes, true)));
 }
 
@@ -146,7 +146,7 @@ fn is_read_on(
 }
 
 fn read_through(alloc: Global, place: u32) -> Result<bool, NoMemory> {
-    let mut source = Drops(mem_source(alloc, TEXT, &[place])?);
+    let mut source = ByteSource(mem_source(alloc, TEXT, &[place])?);
     let read = read_all(alloc, &mut source, 100);
     let rest = read_all(alloc, &mut source, 100);
     Ok(is_read_on(&read, &rest, place))
@@ -189,7 +189,7 @@ fn is_written(written: &Result<(), WriteAll>, bytes: &[u8], place: u32) -> bool
 fn write_through(alloc: Global, place: u32, stalls: bool) -> Result<bool, NoMemory>
     requires { 0 < place }
 {
-    let mut sink = Sips(bad_sink(alloc, place, stalls)?);
+    let mut sink = ByteSink(bad_sink(alloc, place, stalls)?);
     let written = write_all(&mut sink, TEXT);
     Ok(is_written(&written, sink.0.bytes(), place))
 }

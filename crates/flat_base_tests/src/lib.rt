@@ -1,6 +1,6 @@
-//! Tests of the lower layers: numbers and rectangles, sources and sinks, a session's draft and
-//! what it is made of, watchers, and who waits in vain. They ask what no contract says, and what no worked case
-//! on the program reaches.
+//! Tests of the lower layers: numbers and rectangles, sources and sinks, a session's draft and what
+//! it is made of, watchers, and who waits in vain. They ask what no contract says, and what no
+//! worked case on the program reaches.
 #![tactic(auto)]
 
 #[cfg(test)]

@@ -1,4 +1,4 @@
-use flat_waits::{Waiter, Waits};
+use flat_waits::{SharedWaits, Waiter};
 
 /// An actor that looks if there is news, finds too little, and says whether it is over then.
 fn gives_up(waiter: &mut Waiter<'_>) -> bool {
@@ -10,7 +10,7 @@ fn gives_up(waiter: &mut Waiter<'_>) -> bool {
 
 #[test]
 fn waiting_is_over_once_all_wait(rt: HostRuntime) {
-    let waits = Waits::new(2);
+    let waits = SharedWaits::new(2);
     let (mut one, mut other) = (Waiter::new(&waits), Waiter::new(&waits));
     assert_eq!(rt;
         [gives_up(&mut one), gives_up(&mut other), gives_up(&mut one)],
@@ -23,7 +23,7 @@ fn waiting_is_over_once_all_wait(rt: HostRuntime) {
 
 #[test]
 fn an_entry_is_news(rt: HostRuntime) {
-    let waits = Waits::new(2);
+    let waits = SharedWaits::new(2);
     let mut one = Waiter::new(&waits);
     let alone = gives_up(&mut one);
     waits.enter();
@@ -43,7 +43,7 @@ fn an_entry_is_news(rt: HostRuntime) {
 
 #[test]
 fn one_that_stopped_is_not_counted(rt: HostRuntime) {
-    let waits = Waits::new(2);
+    let waits = SharedWaits::new(2);
     let mut one = Waiter::new(&waits);
     let alone = gives_up(&mut one);
     one.stop();
@@ -54,7 +54,7 @@ fn one_that_stopped_is_not_counted(rt: HostRuntime) {
 
 #[test]
 fn who_left_is_not_waited_for(rt: HostRuntime) {
-    let waits = Waits::new(3);
+    let waits = SharedWaits::new(3);
     let mut one = Waiter::new(&waits);
     let among_three = gives_up(&mut one);
     waits.end_frames();

@@ -1,14 +1,14 @@
-use flat_scene::{Inset, Layout, Told, Watch};
-use flat_watch::{Answer, Cell, GetAnswer};
+use flat_scene::{Inset, Layout, Watch, WatcherValue};
+use flat_watch::{GetAnswer, HangingGet, HeldAnswer};
 
-fn sized(w: u32) -> Told {
+fn sized(w: u32) -> WatcherValue {
     let inset = Inset {
         top: 0,
         right: 0,
         bottom: 0,
         left: 7,
     };
-    Told::Layout(Layout {
+    WatcherValue::Layout(Layout {
         w,
         h: 9,
         inset,
@@ -18,7 +18,7 @@ fn sized(w: u32) -> Told {
 
 #[test]
 fn a_get_is_answered_by_news(rt: HostRuntime) {
-    let mut cell = Cell::new();
+    let mut cell = HangingGet::new();
     let unasked = cell.tell(Some(sized(5)));
     let now = Some(sized(5));
     let gets = [
@@ -29,7 +29,7 @@ fn a_get_is_answered_by_news(rt: HostRuntime) {
     let same = cell.tell(now);
     let other = cell.tell(Some(sized(6)));
     let after = cell.tell(Some(sized(7)));
-    let answer = Answer {
+    let answer = HeldAnswer {
         get: Watch::Layout,
         value: sized(6),
     };
@@ -48,13 +48,13 @@ fn a_get_is_answered_by_news(rt: HostRuntime) {
 
 #[test]
 fn what_is_there_no_more_answers_nothing(rt: HostRuntime) {
-    let mut cell = Cell::new();
-    let unasked = cell.tell(Some(Told::HasPresented));
+    let mut cell = HangingGet::new();
+    let unasked = cell.tell(Some(WatcherValue::HasPresented));
     let get = cell.get(Watch::Status, None);
-    let gone = cell.tell(Some(Told::Gone));
-    let answer = Answer {
+    let gone = cell.tell(Some(WatcherValue::Gone));
+    let answer = HeldAnswer {
         get: Watch::Status,
-        value: Told::Gone,
+        value: WatcherValue::Gone,
     };
     assert!(rt; get == GetAnswer::Held && [unasked, gone] == [None, Some(answer)]);
 }

@@ -22,12 +22,12 @@ pub fn answered(is_open: bool) -> bool {
 
 /// A flag that threads share, not set at first.
 #[derive(Drop)]
-pub struct Flag(AtomicBool);
+pub struct SharedFlag(AtomicBool);
 
-impl Flag {
+impl SharedFlag {
     /// One that isn't set.
-    pub fn new() -> Flag {
-        Flag(AtomicBool::new(false))
+    pub fn new() -> SharedFlag {
+        SharedFlag(AtomicBool::new(false))
     }
 
     /// Sets it.
@@ -54,12 +54,12 @@ impl Flag {
 
 /// A count that threads share, from 0 on.
 #[derive(Drop)]
-pub struct Count(AtomicU32);
+pub struct SharedCount(AtomicU32);
 
-impl Count {
+impl SharedCount {
     /// Nothing was counted.
-    pub fn new() -> Count {
-        Count(AtomicU32::new(0))
+    pub fn new() -> SharedCount {
+        SharedCount(AtomicU32::new(0))
     }
 
     /// Counts once more, and answers what was counted before.

@@ -1,28 +1,29 @@
 //! Scripts with their reports, and gates, of which tests of `flatland` are made.
 //!
-//! A gate keeps an order of the lines (order, meeting, looking) or hears of them (hearing); flags
-//! has what its threads share. The scripts stand in texts, shell, sorts and ratios.
+//! A gate keeps an order of the lines (order_gate, meeting_gate, look_gate) or hears of them
+//! (reply_gate); flags has what its threads share. The scripts stand in texts, shell, sorts and
+//! ratios.
 #![tactic(auto)]
 
 mod flags;
-mod hearing;
 mod leaving;
-mod looking;
-mod meeting;
-mod order;
+mod look_gate;
+mod meeting_gate;
+mod order_gate;
 mod ratios;
+mod reply_gate;
 mod reports;
 mod shell;
 mod sorts;
 mod texts;
 
-pub use flags::{Count, Flag, answered};
-pub use hearing::{Hearing, HearsBegin};
+pub use flags::{SharedCount, SharedFlag, answered};
 pub use leaving::{has_answer, mail_leaves_before, moved};
-pub use looking::Looking;
-pub use meeting::Meeting;
-pub use order::{InOrder, is_at};
+pub use look_gate::LookGate;
+pub use meeting_gate::MeetingGate;
+pub use order_gate::{OrderGate, is_at};
 pub use ratios::{RATIOS, RATIOS_ORDER, RATIOS_REPORTED};
+pub use reply_gate::{BeginGate, ReplyGate};
 pub use reports::{has_line, is_fault, is_report};
 pub use shell::{SHELL, SHELL_ORDER, SHELL_REPORTED};
 pub use sorts::{SORTS, SORTS_REPORTED, SORTS_TOLD};

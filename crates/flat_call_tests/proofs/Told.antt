@@ -2,8 +2,8 @@
 use Rattle.std.proofs.Common.{◌≡◌, ◌==◌, ℕ, Bool, true, false, List, [], ◌∷◌, Option, Some, refl, sym, ap, ◌∙◌, subst, arith}
 use Rattle.flat_io.specs.Told.{Appends}
 use Rattle.flat_scene.specs.declared.frames.FrameOut.{FrameOut}
-use Rattle.flat_words.specs.declared.form.Form.{Form}
-use Rattle.flat_words.specs.declared.form.Form.TheVariants.{Play, Race, Stress, Render, Damage, Focus, Pointer, Judge, Why, Film}
+use Rattle.flat_words.specs.declared.service_word.ServiceWord.{ServiceWord}
+use Rattle.flat_words.specs.declared.service_word.ServiceWord.TheVariants.{Play, Race, Stress, Render, Damage, Focus, Pointer, Judge, Why, Film}
 use Rattle.flat_words.specs.Forms.{CallFor, words_of}
 use Rattle.flat_run.specs.Promise.{AreTextOf, IsAnswer, IsWhole, Tells}
 
@@ -15,7 +15,7 @@ second ((a ∷ []) ∷ words) = 0
 second ((a ∷ b ∷ bytes) ∷ words) = b
 
 -- the word `play` calls for nothing else
-play_alone : (form : Form) → words_of Play ≡ words_of form → form ≡ Play
+play_alone : (form : ServiceWord) → words_of Play ≡ words_of form → form ≡ Play
 play_alone Play same = refl
 play_alone Race same = absurd (let wrong : true ≡ false = ap (λ ws. second ws == 108) same in cc)
 play_alone (Stress asked) same = absurd (let wrong : true ≡ false = ap (λ ws. second ws == 108) same in cc)
@@ -37,9 +37,9 @@ module _ {D : Type 0} (shown : D → Option (List FrameOut)) (faults : D → ℕ
       absurd (let wrong : Judge ≡ Play = play_alone Judge (sym play ∙ calls.0) in cc)
   answer_told words play status is_0 text (IsAnswer.told form read calls of told) =
       let is : form ≡ Play = play_alone form (sym play ∙ calls.0) in
-      let all : AreTextOf Play (Some bytes) (Some after) read = subst (λ (f : Form). AreTextOf f (Some bytes) (Some after) read) is of in
+      let all : AreTextOf Play (Some bytes) (Some after) read = subst (λ (f : ServiceWord). AreTextOf f (Some bytes) (Some after) read) is of in
       let B : List ℕ → Type 0 = λ b. Tells Play b text in
-      subst B (sym all.0) (subst (λ (f : Form). Tells f read text) is told.0)
+      subst B (sym all.0) (subst (λ (f : ServiceWord). Tells f read text) is told.0)
 
   -- it stands in a vector that was empty
   pub play_told : (words : List (List ℕ)) → words ≡ words_of Play → (found : List ℕ) → found ≡ bytes → (before : List ℕ) → before ≡ [] → (held given : List ℕ)

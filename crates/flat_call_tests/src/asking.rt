@@ -1,8 +1,8 @@
-use crate::calls::{Asked, Called, call};
+use crate::calls::{FinishedCall, ServiceRequest, call};
 use flat_base::NoMemory;
-use flat_call_checks::{Count, Flag, PROBED, answered, is_at};
+use flat_call_checks::{PROBED, SharedCount, SharedFlag, answered, is_at};
 use flat_display::Display;
-use flat_io::Failed;
+use flat_io::StreamFailed;
 use flat_race::Gate;
 use flat_scene::{FrameOut, Reply};
 use std::alloc::Global;
@@ -18,13 +18,13 @@ const ORDER: [(u32, u32); 7] = [(1, 7), (1, 13), (0, 14), (0, 15), (0, 17), (0, 
 /// Opens the entries of `PROBED` in order, and the probe's line once a display shows the
 /// first frame.
 #[derive(Drop)]
-struct Asking {
-    next: Count,
-    shows: Flag,
-    answered: Flag,
+struct ProbeGate {
+    next: SharedCount,
+    shows: SharedFlag,
+    answered: SharedFlag,
 }
 
-impl Gate for Asking {
+impl Gate for ProbeGate {
     fn open(&self, actor: u32, line: u32) -> bool {
         if actor == PROBE {
             return answered(self.shows.is_set());
@@ -44,13 +44,13 @@ impl Gate for Asking {
 /// A display that shows until the probe's line was answered.
 #[derive(Drop)]
 struct Slow {
-    gate: Arc<Asking>,
+    gate: Arc<ProbeGate>,
 }
 
 impl Display for Slow {
     ghost faults = { λ _. 0 };
 
-    fn show(&mut self, _frame: &FrameOut) -> Result<(), Failed> {
+    fn show(&mut self, _frame: &FrameOut) -> Result<(), StreamFailed> {
         self.gate.shows.set();
         self.gate.answered.is_set_in_time();
         Ok(())
@@ -59,11 +59,14 @@ impl Display for Slow {
 
 /// Races `PROBED` on a display that shows its first frame until the probe was answered:
 /// nothing is published by then.
-pub fn race_asked<T: Threads + Wait + Sync>(rt: &T, alloc: Global) -> Result<Called, NoMemory> {
-    let asking = Asking {
-        next: Count::new(),
-        shows: Flag::new(),
-        answered: Flag::new(),
+pub fn race_asked<T: Threads + Wait + Sync>(
+    rt: &T,
+    alloc: Global,
+) -> Result<FinishedCall, NoMemory> {
+    let asking = ProbeGate {
+        next: SharedCount::new(),
+        shows: SharedFlag::new(),
+        answered: SharedFlag::new(),
     };
     let gate = Arc::new(alloc, asking)?;
     let mut displays: Vec<Box<dyn Display>> = Vec::new(alloc);
@@ -71,5 +74,11 @@ pub fn race_asked<T: Threads + Wait + Sync>(rt: &T, alloc: Global) -> Result<Cal
         gate: gate.clone()?,
     };
     displays.push(Box::new(alloc, slow)?)?;
-    call(rt, alloc, Asked::of("race", PROBED), &mut displays, &*gate)
+    call(
+        rt,
+        alloc,
+        ServiceRequest::of("race", PROBED),
+        &mut displays,
+        &*gate,
+    )
 }

@@ -5,7 +5,7 @@ use flat_base::NoMemory;
 use flat_display::Display;
 use flat_io::{MemSink, MemSource};
 use flat_race::{Gate, OpenGate};
-use flat_run::flatland;
+use flat_run::{RaceHost, flatland};
 use std::alloc::Global;
 use std::slice;
 use std::sync::Wait;
@@ -16,12 +16,12 @@ const ROOM: usize = 8192;
 
 /// A call that has ended.
 #[derive(Drop)]
-pub struct Called {
+pub struct FinishedCall {
     status: u8,
     sink: MemSink,
 }
 
-impl Called {
+impl FinishedCall {
     /// Its status.
     pub fn status(&self) -> u8
         ensures { result ≡ self.now.status }
@@ -60,7 +60,7 @@ fn sink_of(alloc: Global, faults: Faults) -> Result<MemSink, NoMemory> {
 
 /// What the service is called with.
 #[derive(Clone, Copy)]
-pub struct Asked<'a> {
+pub struct ServiceRequest<'a> {
     /// Its one command word.
     pub word: &'a str,
     pub text: &'a [u8],
@@ -68,10 +68,10 @@ pub struct Asked<'a> {
     pub faults: Faults,
 }
 
-impl<'a> Asked<'a> {
+impl<'a> ServiceRequest<'a> {
     /// A word on a text, where nothing fails.
-    pub fn of(word: &'a str, text: &'a [u8]) -> Asked<'a> {
-        Asked {
+    pub fn of(word: &'a str, text: &'a [u8]) -> ServiceRequest<'a> {
+        ServiceRequest {
             word,
             text,
             faults: NONE,
@@ -83,10 +83,10 @@ impl<'a> Asked<'a> {
 pub fn call<T: Threads + Wait + Sync, G: Gate>(
     rt: &T,
     alloc: Global,
-    asked: Asked<'_>,
+    asked: ServiceRequest<'_>,
     displays: &mut Vec<Box<dyn Display>>,
     gate: &G,
-) -> Result<Called, NoMemory>
+) -> Result<FinishedCall, NoMemory>
     requires { length displays.old.items < 2 ^ 32 }
 {
     let word = String::from_str(alloc, asked.word)?;
@@ -96,9 +96,10 @@ pub fn call<T: Threads + Wait + Sync, G: Gate>(
         drop(source);
         return Err(NoMemory);
     };
-    let status = flatland(rt, alloc, words, &mut source, &mut sink, displays, gate);
+    let host = RaceHost { rt, gate };
+    let status = flatland(&host, alloc, words, &mut source, &mut sink, displays);
     drop(source);
-    Ok(Called { status, sink })
+    Ok(FinishedCall { status, sink })
 }
 
 /// Plays a script, in written order, on no display.
@@ -106,9 +107,15 @@ pub fn play<T: Threads + Wait + Sync>(
     rt: &T,
     alloc: Global,
     text: &[u8],
-) -> Result<Called, NoMemory> {
+) -> Result<FinishedCall, NoMemory> {
     let displays = &mut Vec::new(alloc);
-    call(rt, alloc, Asked::of("play", text), displays, &OpenGate)
+    call(
+        rt,
+        alloc,
+        ServiceRequest::of("play", text),
+        displays,
+        &OpenGate,
+    )
 }
 
 /// Races a script under a gate, on no display.
@@ -117,7 +124,7 @@ pub fn race<T: Threads + Wait + Sync, G: Gate>(
     alloc: Global,
     text: &[u8],
     gate: &G,
-) -> Result<Called, NoMemory> {
+) -> Result<FinishedCall, NoMemory> {
     let displays = &mut Vec::new(alloc);
-    call(rt, alloc, Asked::of("race", text), displays, gate)
+    call(rt, alloc, ServiceRequest::of("race", text), displays, gate)
 }

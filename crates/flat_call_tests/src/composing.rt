@@ -1,8 +1,8 @@
-use crate::calls::{Asked, call};
+use crate::calls::{ServiceRequest, call};
 use flat_base::NoMemory;
-use flat_call_checks::{Count, Flag};
+use flat_call_checks::{SharedCount, SharedFlag};
 use flat_display::Display;
-use flat_io::Failed;
+use flat_io::StreamFailed;
 use flat_race::Gate;
 use flat_scene::{FrameOut, Reply};
 use std::alloc::Global;
@@ -71,13 +71,13 @@ fn frame_of(line: u32, which: u32) -> Option<u32> {
 /// Holds each present of the small session until the done of its frame asks, and notes
 /// whether one was made before the frame was shown.
 #[derive(Drop)]
-struct Composing {
-    asked: Count,
-    shown: Count,
-    presented: Flag,
+struct ComposeGate {
+    asked: SharedCount,
+    shown: SharedCount,
+    presented: SharedFlag,
 }
 
-impl Gate for Composing {
+impl Gate for ComposeGate {
     fn open(&self, actor: u32, line: u32) -> bool {
         match actor {
             0 => {
@@ -109,13 +109,13 @@ impl Gate for Composing {
 /// A display that counts what it was shown.
 #[derive(Drop)]
 struct Counting {
-    gate: Arc<Composing>,
+    gate: Arc<ComposeGate>,
 }
 
 impl Display for Counting {
     ghost faults = { λ _. 0 };
 
-    fn show(&mut self, _frame: &FrameOut) -> Result<(), Failed> {
+    fn show(&mut self, _frame: &FrameOut) -> Result<(), StreamFailed> {
         self.gate.shown.add();
         Ok(())
     }
@@ -137,10 +137,10 @@ pub fn presents_while_composed<T: Threads + Wait + Sync>(
 
 /// The same of one race.
 fn presents_in_race<T: Threads + Wait + Sync>(rt: &T, alloc: Global) -> Result<bool, NoMemory> {
-    let composing = Composing {
-        asked: Count::new(),
-        shown: Count::new(),
-        presented: Flag::new(),
+    let composing = ComposeGate {
+        asked: SharedCount::new(),
+        shown: SharedCount::new(),
+        presented: SharedFlag::new(),
     };
     let gate = Arc::new(alloc, composing)?;
     let mut displays: Vec<Box<dyn Display>> = Vec::new(alloc);
@@ -149,7 +149,7 @@ fn presents_in_race<T: Threads + Wait + Sync>(rt: &T, alloc: Global) -> Result<b
     };
     displays.push(Box::new(alloc, counting)?)?;
     let text = script(alloc)?;
-    let asked = Asked::of("race", text.as_slice());
+    let asked = ServiceRequest::of("race", text.as_slice());
     let called = call(rt, alloc, asked, &mut displays, &*gate)?;
     drop(called);
     Ok(gate.presented.is_set())

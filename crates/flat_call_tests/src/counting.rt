@@ -1,6 +1,6 @@
 use crate::calls::race;
 use flat_base::NoMemory;
-use flat_call_checks::Count;
+use flat_call_checks::SharedCount;
 use flat_race::Gate;
 use flat_scene::Reply;
 use std::alloc::Global;
@@ -12,7 +12,7 @@ use std::thread::Threads;
 struct Counting {
     line: u32,
     shut: u32,
-    asked: Count,
+    asked: SharedCount,
 }
 
 impl Gate for Counting {
@@ -35,7 +35,7 @@ pub fn asked_for<T: Threads + Wait + Sync>(
     let gate = Counting {
         line,
         shut,
-        asked: Count::new(),
+        asked: SharedCount::new(),
     };
     let _ = race(rt, alloc, text, &gate)?;
     Ok(gate.asked.number())

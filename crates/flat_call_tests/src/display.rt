@@ -1,5 +1,5 @@
 use flat_base::{FrameNo, Items};
-use flat_display::{Display, MemDisplay, Tally};
+use flat_display::{CountingDisplay, Display, MemDisplay};
 use flat_scene::{FrameOut, ViewTree};
 use std::alloc::Global;
 use std::test::Fail;
@@ -41,7 +41,7 @@ fn memory_fails_at_its_calls(rt: HostRuntime) -> Result<(), Fail> {
 
 #[test]
 fn a_tally_counts(rt: HostRuntime) {
-    let mut tally = Tally::new();
+    let mut tally = CountingDisplay::new();
     for number in 1..=3 {
         assert_eq!(rt; tally.show(&frame_of(rt.alloc(), number)), Ok(()));
     }

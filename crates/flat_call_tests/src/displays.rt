@@ -1,11 +1,11 @@
 ghost use Rattle.std.specs.Prelude.{◌≡◌, ◌≢◌, ◌-◌};
 ghost use Rattle.flat_io.specs.Counts.{count_end};
 
-use crate::calls::{Asked, Called, call};
+use crate::calls::{FinishedCall, ServiceRequest, call};
 use crate::six::{SIX_FRAMES, SIX_REPORTED};
 use flat_base::NoMemory;
 use flat_display::{Display, MemDisplay};
-use flat_io::Failed;
+use flat_io::StreamFailed;
 use flat_race::OpenGate;
 use flat_scene::FrameOut;
 use std::alloc::Global;
@@ -25,10 +25,10 @@ struct Shared(Rc<RefCell<MemDisplay>>);
 impl Display for Shared {
     ghost faults = { λ _. count_end };
 
-    fn show(&mut self, frame: &FrameOut) -> Result<(), Failed> {
+    fn show(&mut self, frame: &FrameOut) -> Result<(), StreamFailed> {
         match self.0.try_borrow_mut() {
             Ok(mut display) => display.show(frame),
-            Err(_) => Err(Failed),
+            Err(_) => Err(StreamFailed),
         }
     }
 }
@@ -52,12 +52,12 @@ pub fn play_six<T: Threads + Wait + Sync>(
     alloc: Global,
     first: u32,
     second: u32,
-) -> Result<(Called, [Option<u32>; 2]), NoMemory> {
+) -> Result<(FinishedCall, [Option<u32>; 2]), NoMemory> {
     let (one, other) = (failing(alloc, first)?, failing(alloc, second)?);
     let mut displays: Vec<Box<dyn Display>> = Vec::new(alloc);
     displays.push(Box::new(alloc, Shared(one.clone()?))?)?;
     displays.push(Box::new(alloc, Shared(other.clone()?))?)?;
-    let asked = Asked::of("play", SIX_FRAMES);
+    let asked = ServiceRequest::of("play", SIX_FRAMES);
     let called = call(rt, alloc, asked, &mut displays, &OpenGate)?;
     Ok((called, [frames_had(&one), frames_had(&other)]))
 }

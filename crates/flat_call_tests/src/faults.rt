@@ -1,6 +1,6 @@
 ghost use Rattle.std.specs.Prelude.{◌<◌, ◌≤◌, IfOk};
 
-use crate::calls::{Asked, Called, call};
+use crate::calls::{FinishedCall, ServiceRequest, call};
 use flat_base::NoMemory;
 use flat_call_checks::SHELL;
 use flat_race::OpenGate;
@@ -64,9 +64,9 @@ fn play_failing<T: Threads + Wait + Sync>(
     alloc: Global,
     fault: Fault,
     number: u32,
-) -> Result<Called, NoMemory> {
+) -> Result<FinishedCall, NoMemory> {
     let faults = Faults::at(fault, number);
-    let asked = Asked {
+    let asked = ServiceRequest {
         word: "play",
         text: SHELL,
         faults,
@@ -83,7 +83,7 @@ pub fn first_spared<T: Threads + Wait + Sync>(
     fault: Fault,
     status: u8,
     text: &[u8],
-) -> Result<(u32, Called), NoMemory>
+) -> Result<(u32, FinishedCall), NoMemory>
     ensures { IfOk result (λ spared. (1 ≤ spared.0) × (spared.0 < CALLS)) }
 {
     let mut number = 1;

@@ -3,8 +3,8 @@ use crate::composing::presents_while_composed;
 use crate::counting::asked_for;
 use crate::holding::race_held;
 use flat_call_checks::{
-    AWAIT, AWAIT_REPORTED, DISPLAY_WAIT, DISPLAY_WAIT_ORDER, DISPLAY_WAIT_REPORTED, FILL,
-    FILL_REPORTED, Hearing, HearsBegin, Looking, NEVER, PROBED_ORDER, SORTS, SORTS_REPORTED,
+    AWAIT, AWAIT_REPORTED, BeginGate, DISPLAY_WAIT, DISPLAY_WAIT_ORDER, DISPLAY_WAIT_REPORTED,
+    FILL, FILL_REPORTED, LookGate, NEVER, PROBED_ORDER, ReplyGate, SORTS, SORTS_REPORTED,
     SORTS_TOLD, WAIT, WAIT_ORDER, WAIT_REPORTED,
 };
 use std::test::Fail;
@@ -65,7 +65,7 @@ const WAITS: [(&[u8], Order, u32, u32, &[u8]); 3] = [
 #[test]
 fn what_waits_looks_again(rt: HostRuntime) -> Result<(), Fail> {
     for (text, order, waits, held, reported) in WAITS.iter() {
-        let gate = Looking::new(order, *waits, *held);
+        let gate = LookGate::new(order, *waits, *held);
         let called = race(&rt, rt.alloc(), text, &gate)?;
         assert_eq!(rt;
             (called.answer(), gate.looks()),
@@ -78,7 +78,7 @@ fn what_waits_looks_again(rt: HostRuntime) -> Result<(), Fail> {
 
 #[test]
 fn the_gate_hears_each_entry(rt: HostRuntime) -> Result<(), Fail> {
-    let gate = Hearing::new(&SORTS_TOLD);
+    let gate = ReplyGate::new(&SORTS_TOLD);
     let called = race(&rt, rt.alloc(), SORTS, &gate)?;
     assert_eq!(rt;
         (gate.heard(), gate.was_mistold()),
@@ -90,7 +90,7 @@ fn the_gate_hears_each_entry(rt: HostRuntime) -> Result<(), Fail> {
 
 #[test]
 fn a_begin_is_made_before_the_gate_hears_of_it(rt: HostRuntime) -> Result<(), Fail> {
-    let gate = HearsBegin::new();
+    let gate = BeginGate::new();
     let called = race(&rt, rt.alloc(), FILL, &gate)?;
     assert!(rt; !gate.was_missed());
     assert_eq!(rt; called.answer(), (0, FILL_REPORTED));

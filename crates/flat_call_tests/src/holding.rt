@@ -1,8 +1,8 @@
-use crate::calls::{Asked, Called, call};
+use crate::calls::{FinishedCall, ServiceRequest, call};
 use flat_base::NoMemory;
-use flat_call_checks::{FILL, Flag, answered};
+use flat_call_checks::{FILL, SharedFlag, answered};
 use flat_display::Display;
-use flat_io::Failed;
+use flat_io::StreamFailed;
 use flat_race::Gate;
 use flat_scene::{FrameOut, Reply};
 use std::alloc::Global;
@@ -18,25 +18,25 @@ const SECOND: Reply = Reply::Presented {
 /// Holds the second present of `FILL` until the display shows, and the session's End until
 /// the frame is done.
 #[derive(Drop)]
-pub struct Holding {
-    shows: Flag,
-    presented: Flag,
-    presented_while_it_showed: Flag,
-    first_presented: Flag,
-    done: Flag,
-    is_asked_late: Flag,
+pub struct HoldGate {
+    shows: SharedFlag,
+    presented: SharedFlag,
+    presented_while_it_showed: SharedFlag,
+    first_presented: SharedFlag,
+    done: SharedFlag,
+    is_asked_late: SharedFlag,
 }
 
-impl Holding {
+impl HoldGate {
     /// Nothing was presented yet.
-    fn new() -> Holding {
-        Holding {
-            shows: Flag::new(),
-            presented: Flag::new(),
-            presented_while_it_showed: Flag::new(),
-            first_presented: Flag::new(),
-            done: Flag::new(),
-            is_asked_late: Flag::new(),
+    fn new() -> HoldGate {
+        HoldGate {
+            shows: SharedFlag::new(),
+            presented: SharedFlag::new(),
+            presented_while_it_showed: SharedFlag::new(),
+            first_presented: SharedFlag::new(),
+            done: SharedFlag::new(),
+            is_asked_late: SharedFlag::new(),
         }
     }
 
@@ -52,7 +52,7 @@ impl Holding {
     }
 }
 
-impl Gate for Holding {
+impl Gate for HoldGate {
     fn open(&self, _actor: u32, line: u32) -> bool {
         answered(match line {
             13 => self.first_presented.is_set(),
@@ -82,13 +82,13 @@ impl Gate for Holding {
 /// A display that shows until the gate hears of the second present.
 #[derive(Drop)]
 struct Slow {
-    gate: Arc<Holding>,
+    gate: Arc<HoldGate>,
 }
 
 impl Display for Slow {
     ghost faults = { λ _. 0 };
 
-    fn show(&mut self, _frame: &FrameOut) -> Result<(), Failed> {
+    fn show(&mut self, _frame: &FrameOut) -> Result<(), StreamFailed> {
         self.gate.shows.set();
         if self.gate.presented.is_set_in_time() {
             self.gate.presented_while_it_showed.set();
@@ -102,13 +102,19 @@ impl Display for Slow {
 pub fn race_held<T: Threads + Wait + Sync>(
     rt: &T,
     alloc: Global,
-) -> Result<(Called, Arc<Holding>), NoMemory> {
-    let gate = Arc::new(alloc, Holding::new())?;
+) -> Result<(FinishedCall, Arc<HoldGate>), NoMemory> {
+    let gate = Arc::new(alloc, HoldGate::new())?;
     let mut displays: Vec<Box<dyn Display>> = Vec::new(alloc);
     let slow = Slow {
         gate: gate.clone()?,
     };
     displays.push(Box::new(alloc, slow)?)?;
-    let called = call(rt, alloc, Asked::of("race", FILL), &mut displays, &*gate)?;
+    let called = call(
+        rt,
+        alloc,
+        ServiceRequest::of("race", FILL),
+        &mut displays,
+        &*gate,
+    )?;
     Ok((called, gate))
 }

@@ -31,10 +31,10 @@ mod source;
 mod words;
 
 pub use asking::race_asked;
-pub use calls::{Asked, Called, call, play, race};
+pub use calls::{FinishedCall, ServiceRequest, call, play, race};
 pub use composing::presents_while_composed;
 pub use counting::asked_for;
 pub use displays::{FRAMES, frames_before, play_six, report_with};
 pub use faults::{Fault, Faults, first_spared};
-pub use holding::{Holding, race_held};
+pub use holding::{HoldGate, race_held};
 pub use slices::play_slice;

@@ -1,8 +1,8 @@
 use crate::asking::race_asked;
 use crate::calls::race;
 use flat_call_checks::{
-    InOrder, Meeting, PROBED, PROBED_AT_ONCE, PROBED_EARLY, PROBED_ORDER, PROBED_REPORTED, RATIOS,
-    RATIOS_ORDER, RATIOS_REPORTED, SHELL, SHELL_ORDER, SHELL_REPORTED, TWO, TWO_REPORTED,
+    MeetingGate, OrderGate, PROBED, PROBED_AT_ONCE, PROBED_EARLY, PROBED_ORDER, PROBED_REPORTED,
+    RATIOS, RATIOS_ORDER, RATIOS_REPORTED, SHELL, SHELL_ORDER, SHELL_REPORTED, TWO, TWO_REPORTED,
 };
 use std::test::Fail;
 
@@ -19,7 +19,7 @@ const ORDERS: [(&[u8], &[(u32, u32)], &[u8]); 4] = [
 #[test]
 fn lines_are_raced_in_an_order(rt: HostRuntime) -> Result<(), Fail> {
     for (text, order, reported) in ORDERS.iter() {
-        let gate = InOrder::new(order);
+        let gate = OrderGate::new(order);
         let called = race(&rt, rt.alloc(), text, &gate)?;
         assert_eq!(rt; called.answer(), (0, *reported));
     }
@@ -28,7 +28,7 @@ fn lines_are_raced_in_an_order(rt: HostRuntime) -> Result<(), Fail> {
 
 #[test]
 fn race_against_the_written_order(rt: HostRuntime) -> Result<(), Fail> {
-    let gate = Meeting::new();
+    let gate = MeetingGate::new();
     let called = race(&rt, rt.alloc(), TWO, &gate)?;
     assert!(rt; !gate.was_missed());
     assert_eq!(rt; called.answer(), (0, TWO_REPORTED));

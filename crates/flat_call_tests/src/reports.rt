@@ -1,5 +1,5 @@
 use flat_call_checks::{FILL, FILL_REPORTED, RATIOS, RATIOS_REPORTED, SHELL, SHELL_REPORTED};
-use flat_judge::{Judged, Verdict, judge_text};
+use flat_judge::{JudgedText, ReportVerdict, judge_text};
 use std::alloc::{AllocError, Global};
 use std::test::Fail;
 
@@ -71,14 +71,15 @@ enum Said<'a> {
 /// Whether this is said of a text.
 fn is_said(alloc: Global, text: &[u8], said: Said<'_>) -> bool {
     match (judge_text(alloc, text), said) {
-        (Ok(Judged::Said(Verdict::Legal(entries, frames))), Said::Legal(many, finished)) => {
-            entries == many && frames == finished
-        }
-        (Ok(Judged::Said(Verdict::Wrong(line, Some(want)))), Said::Wants(number, text)) => {
-            line == number && want.as_slice() == text.as_bytes()
-        }
-        (Ok(Judged::Said(Verdict::Wrong(line, None))), Said::Ends(number)) => line == number,
-        (Ok(Judged::Refused(fault)), Said::Fault(number)) => fault.line == number,
+        (
+            Ok(JudgedText::Said(ReportVerdict::Legal(entries, frames))),
+            Said::Legal(many, finished),
+        ) => { entries == many && frames == finished }
+        (Ok(JudgedText::Said(ReportVerdict::Wrong(line, Some(want)))), Said::Wants(number, text)) =>
+            { line == number && want.as_slice() == text.as_bytes() }
+        (Ok(JudgedText::Said(ReportVerdict::Wrong(line, None))), Said::Ends(number)) => line
+            == number,
+        (Ok(JudgedText::Refused(fault)), Said::Fault(number)) => fault.line == number,
         (Err(_), Said::Memory) => true,
         _ => false,
     }
@@ -162,7 +163,7 @@ fn reports_of_no_run(rt: HostRuntime) {
 fn is_legal(alloc: Global, text: &[u8]) -> bool {
     matches!(
         judge_text(alloc, text),
-        Ok(Judged::Said(Verdict::Legal(_, _)))
+        Ok(JudgedText::Said(ReportVerdict::Legal(_, _)))
     )
 }
 

@@ -1,11 +1,11 @@
 ghost use Rattle.std.specs.Prelude.{◌≡◌, IfOk};
-ghost use Rattle.flat_words.specs.declared.form.Form.TheVariants.{Play};
+ghost use Rattle.flat_words.specs.declared.service_word.ServiceWord.TheVariants.{Play};
 ghost use Rattle.flat_run.specs.Promise.{Tells};
 
 use flat_base::NoMemory;
 use flat_io::{StdSink, StdSource};
 use flat_race::OpenGate;
-use flat_run::flatland;
+use flat_run::{RaceHost, flatland};
 use std::alloc::Global;
 use std::slice;
 use std::sync::Wait;
@@ -24,14 +24,11 @@ pub fn play_slice<T: Threads + Wait + Sync>(
     let mut source = StdSource::new(script);
     let mut sink = StdSink::new(Vec::new(alloc));
     let mut displays = Vec::new(alloc);
-    let status = flatland(
+    let host = RaceHost {
         rt,
-        alloc,
-        slice::from_ref(&word),
-        &mut source,
-        &mut sink,
-        &mut displays,
-        &OpenGate,
-    );
+        gate: &OpenGate,
+    };
+    let words = slice::from_ref(&word);
+    let status = flatland(&host, alloc, words, &mut source, &mut sink, &mut displays);
     Ok((status, sink.into_inner()))
 }

@@ -1,8 +1,8 @@
 use crate::slices::play_slice;
-use flat_display::{Display, Tally};
+use flat_display::{CountingDisplay, Display};
 use flat_io::{StdSource, SteadySink};
 use flat_race::OpenGate;
-use flat_run::flatland;
+use flat_run::{RaceHost, flatland};
 use std::io::Cursor;
 use std::test::Fail;
 
@@ -39,16 +39,12 @@ fn a_source_that_tells_nothing_is_played(rt: HostRuntime) -> Result<(), Fail> {
     let mut source = StdSource::new(Cursor::new(THREE_FRAMES));
     let mut sink = SteadySink::new(alloc, 512)?;
     let mut displays: Vec<Box<dyn Display>> = Vec::new(alloc);
-    displays.push(Box::new(alloc, Tally::new())?)?;
-    let status = flatland(
-        &rt,
-        alloc,
-        &words,
-        &mut source,
-        &mut sink,
-        &mut displays,
-        &OpenGate,
-    );
+    displays.push(Box::new(alloc, CountingDisplay::new())?)?;
+    let host = RaceHost {
+        rt: &rt,
+        gate: &OpenGate,
+    };
+    let status = flatland(&host, alloc, &words, &mut source, &mut sink, &mut displays);
     assert_eq!(rt; status, 0);
     assert_eq!(rt; sink.bytes(), THREE_REPORTED);
     Ok(())

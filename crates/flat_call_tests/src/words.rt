@@ -1,13 +1,13 @@
-use flat_words::{Form, read};
+use flat_words::{ServiceWord, read};
 use std::test::Fail;
 
-const CALLS: [(&[&str], Option<Form>); 28] = [
-    (&["play"], Some(Form::Play)),
-    (&["race"], Some(Form::Race)),
-    (&["judge"], Some(Form::Judge)),
-    (&["stress", "1"], Some(Form::Stress(1))),
-    (&["stress", "500"], Some(Form::Stress(500))),
-    (&["film"], Some(Form::Film)),
+const CALLS: [(&[&str], Option<ServiceWord>); 28] = [
+    (&["play"], Some(ServiceWord::Play)),
+    (&["race"], Some(ServiceWord::Race)),
+    (&["judge"], Some(ServiceWord::Judge)),
+    (&["stress", "1"], Some(ServiceWord::Stress(1))),
+    (&["stress", "500"], Some(ServiceWord::Stress(500))),
+    (&["film"], Some(ServiceWord::Film)),
     (&["film", "film"], None),
     (&[], None),
     (&[""], None),

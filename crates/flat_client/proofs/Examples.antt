@@ -5,10 +5,10 @@ use Rattle.flat_base.specs.declared.errors.Reason.TheVariants.{IdInUse, ZeroId}
 use Rattle.flat_scene.specs.declared.calls.Call.{Call}
 use Rattle.flat_scene.specs.declared.calls.Call.TheVariants.{CreateTransform, CreateView}
 use Rattle.flat_scene.specs.declared.journal.Entry.{Entry}
-use Rattle.flat_scene.specs.declared.journal.Kind.TheVariants as kinds
+use Rattle.flat_scene.specs.declared.journal.EntryKind.TheVariants as kinds
 use Rattle.flat_scene.specs.declared.journal.Reply.{Reply}
-use Rattle.flat_scene.specs.declared.script.Line.TheVariants.{Disconnect, Poll, Signal}
-use Rattle.flat_scene.specs.declared.script.Line.TheVariants as line
+use Rattle.flat_scene.specs.declared.script.SessionLine.TheVariants.{Disconnect, Poll, Signal}
+use Rattle.flat_scene.specs.declared.script.SessionLine.TheVariants as line
 use Rattle.flat_scene.specs.declared.setup.Setup.{Setup}
 use Rattle.flat_stage.specs.Homes.{fresh_view}
 use Rattle.flat_stage.specs.Readings.{entry_by}

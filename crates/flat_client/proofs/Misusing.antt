@@ -5,13 +5,13 @@ use Rattle.flat_base.specs.declared.errors.FlatlandError.TheVariants.{BadOperati
 use Rattle.flat_base.specs.declared.errors.Reason.{Reason}
 use Rattle.flat_base.specs.declared.ids.Actor.TheVariants.{Session}
 use Rattle.flat_scene.specs.declared.calls.Call.{Call}
-use Rattle.flat_scene.specs.declared.journal.Kind.{Kind}
-use Rattle.flat_scene.specs.declared.journal.Kind.TheVariants as kinds
+use Rattle.flat_scene.specs.declared.journal.EntryKind.{EntryKind}
+use Rattle.flat_scene.specs.declared.journal.EntryKind.TheVariants as kinds
 use Rattle.flat_scene.specs.declared.journal.Reply.{Reply}
 use Rattle.flat_scene.specs.declared.journal.Reply.TheVariants.{Closed}
-use Rattle.flat_scene.specs.declared.script.Cond.{Cond}
-use Rattle.flat_scene.specs.declared.script.Line.{Line}
-use Rattle.flat_scene.specs.declared.script.Line.TheVariants as line
+use Rattle.flat_scene.specs.declared.script.WaitCondition.{WaitCondition}
+use Rattle.flat_scene.specs.declared.script.SessionLine.{SessionLine}
+use Rattle.flat_scene.specs.declared.script.SessionLine.TheVariants as line
 use Rattle.flat_scene.specs.Interleave.{entry_of_call, or_close}
 use Rattle.flat_rules.specs.Legal.{reply_to}
 use Rattle.flat_client.specs.declared.error.CallError.{CallError}
@@ -46,7 +46,7 @@ module _ (call : Call) (reason : Reason) (owing : ClientView) (opened : owing.se
   free-not : IsFree owing → ⊥
   free-not free = let wrong : Some call ≡ None = sym owes ∙ free.nothing_owed in cc
 
-  entry_closes : (text : Line) (answer : Result Reply CallError) (new : ClientView) → Enters text owing new answer → ClosesFor reason answer
+  entry_closes : (text : SessionLine) (answer : Result Reply CallError) (new : ClientView) → Enters text owing new answer → ClosesFor reason answer
   entry_closes text (Ok answer) new enters = absurd (free-not enters.0)
   entry_closes text (Err error.NoMemory) new enters = tt
   entry_closes text (Err error.NotOwned) new enters = absurd (free-not enters.0)
@@ -68,7 +68,7 @@ module _ (call : Call) (reason : Reason) (owing : ClientView) (opened : owing.se
       let M : Call → Type 0 = λ it. MakesEntry (line.Call it) (Closed why because) owing new in
       closed_for call reason owing new why because first (subst M same settled.2)
 
-  wait_closes : (c : Cond) (answer : Result ℕ CallError) (new : ClientView) → Waits c owing new answer → ClosesFor reason answer
+  wait_closes : (c : WaitCondition) (answer : Result ℕ CallError) (new : ClientView) → Waits c owing new answer → ClosesFor reason answer
   wait_closes c (Ok value) new waits = absurd (free-not waits.0)
   wait_closes c (Err error.NoMemory) new waits = tt
   wait_closes c (Err error.NotOwned) new waits = absurd (free-not waits.0)

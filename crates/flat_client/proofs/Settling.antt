@@ -7,13 +7,13 @@ use Rattle.flat_base.specs.declared.ids.Actor.TheVariants.{Session}
 use Rattle.flat_base.specs.declared.ids.SessionNo.{SessionNo}
 use Rattle.flat_scene.specs.declared.calls.Call.{Call}
 use Rattle.flat_scene.specs.declared.journal.Entry.{Entry}
-use Rattle.flat_scene.specs.declared.journal.Kind.TheVariants as kinds
+use Rattle.flat_scene.specs.declared.journal.EntryKind.TheVariants as kinds
 use Rattle.flat_scene.specs.declared.journal.Reply.{Reply}
 use Rattle.flat_scene.specs.declared.journal.Reply.TheVariants.{Closed}
-use Rattle.flat_scene.specs.declared.script.Cond.{Cond}
-use Rattle.flat_scene.specs.declared.script.Cond.TheVariants as asks
-use Rattle.flat_scene.specs.declared.script.Line.{Line}
-use Rattle.flat_scene.specs.declared.script.Line.TheVariants as line
+use Rattle.flat_scene.specs.declared.script.WaitCondition.{WaitCondition}
+use Rattle.flat_scene.specs.declared.script.WaitCondition.TheVariants as asks
+use Rattle.flat_scene.specs.declared.script.SessionLine.{SessionLine}
+use Rattle.flat_scene.specs.declared.script.SessionLine.TheVariants as line
 use Rattle.flat_scene.specs.declared.setup.Setup.{Setup}
 use Rattle.flat_scene.specs.History.{closes}
 use Rattle.flat_scene.specs.Setups.{is_declared}
@@ -32,7 +32,7 @@ use Rattle.flat_client.proofs.Standing.{owed_enters}
 
 -- ---- the stage and the session stay
 
-pub stays_made : (text : Line) (answer : Reply) (old new : ClientView) → MakesEntry text answer old new → Stays old new
+pub stays_made : (text : SessionLine) (answer : Reply) (old new : ClientView) → MakesEntry text answer old new → Stays old new
 stays_made text answer old new makes = record {
   stage = ap (λ (v : SessionView). v.stage) makes.entry.rest;
   session =
@@ -51,12 +51,12 @@ stays_same old new same = record { stage = ap (λ (v : ClientView). v.seat.stage
 
 -- ---- what is owed
 
-pub owed_line : (text : Line) (owed : Option Call) → Some text ≡ option_map line.Call owed → (call : Call) × (owed ≡ Some call) × (text ≡ line.Call call)
+pub owed_line : (text : SessionLine) (owed : Option Call) → Some text ≡ option_map line.Call owed → (call : Call) × (owed ≡ Some call) × (text ≡ line.Call call)
 owed_line text None is = absurd (cc)
 owed_line text (Some call) is = (call, refl, cc)
 
 -- what `make` needs of it
-pub record Sayable (text : Line) (client : ClientView) : Type 0 where
+pub record Sayable (text : SessionLine) (client : ClientView) : Type 0 where
   pub own : may_say client text ≡ true
   pub enters : is_some (entry_by client.seat text) ≡ true
   pub closes : is_close (entry_by client.seat text) ≡ true
@@ -66,14 +66,14 @@ room_to_close : (close : Bool) (made share : ℕ) → close ≡ true → made + 
 room_to_close true made share is room = room
 room_to_close false made share is room = absurd (let wrong : false ≡ true = is in cc)
 
-pub sayable : (text : Line) (client : ClientView) → Some text ≡ option_map line.Call client.owed → Owes client client.owed
+pub sayable : (text : SessionLine) (client : ClientView) → Some text ≡ option_map line.Call client.owed → Owes client client.owed
     → length client.seat.mine + 2 ≤ share_of client.seat → Sayable text client
 sayable text client is owes room =
     let found = owed_line text client.owed is in
     let O : Option Call → Type 0 = Owes client in
     let so : O (Some found.0) = subst O found.1 owes in
     let some = owed_enters client found.0 so.2 in
-    let L : Line → Type 0 = λ t. Sayable t client in
+    let L : SessionLine → Type 0 = λ t. Sayable t client in
     let this : L (line.Call found.0) = record {
       own = so.1;
       enters = some.0;
@@ -82,17 +82,18 @@ sayable text client is owes room =
     } in
     subst L (sym found.2) this
 
-pub settled_by : (text : Line) (cause : Cause) (old new : ClientView) → Some text ≡ option_map line.Call old.owed → old.seat.closed ≡ false
+pub settled_by : (text : SessionLine) (cause : Cause) (old new : ClientView) → Some text ≡ option_map line.Call old.owed → old.seat.closed ≡ false
     → MakesEntry text (Closed cause.0 cause.1) old new → IsSettledBy cause old new old.seat.closed
 settled_by text cause old new is opened makes =
     let found = owed_line text old.owed is in
     let S : Bool → Type 0 = IsSettledBy cause old new in
-    let M : Line → Type 0 = λ t. MakesEntry t (Closed cause.0 cause.1) old new in
+    let M : SessionLine → Type 0 = λ t. MakesEntry t (Closed cause.0 cause.1) old new in
     let said : M (line.Call found.0) = subst M found.2 makes in
     let this : S false = (found.0, found.1, said) in
     subst S (sym opened) this
 
-settled_closed : (text : Line) (cause : Cause) (old new : ClientView) (closed : Bool) → IsSettledBy cause old new closed → IsClosedBy text cause old new closed
+settled_closed : (text : SessionLine) (cause : Cause) (old new : ClientView) (closed : Bool) → IsSettledBy cause old new closed
+    → IsClosedBy text cause old new closed
 settled_closed text cause old new true settled = settled
 settled_closed text cause old new false settled =
     let M : Option Call → Type 0 = λ o. MakesEntry (due text o) (Closed cause.0 cause.1) old new in
@@ -100,7 +101,7 @@ settled_closed text cause old new false settled =
     subst M (sym settled.1) said
 
 -- what keeps a client from saying what it owes keeps it from a line
-pub settles_enters : (text : Line) (old new : ClientView) (why : CallError) → Settles old new (Err why) → Enters text old new (Err why)
+pub settles_enters : (text : SessionLine) (old new : ClientView) (why : CallError) → Settles old new (Err why) → Enters text old new (Err why)
 settles_enters text old new error.NoMemory settles = settles
 settles_enters text old new error.NotOwned settles = absurd settles
 settles_enters text old new error.Full settles = absurd settles
@@ -109,7 +110,7 @@ settles_enters text old new (error.Unmet value) settles = absurd settles
 settles_enters text old new (error.Closed why reason) settles = settled_closed text (why, reason) old new old.seat.closed settles
 
 -- and from a wait
-pub settles_waits : (c : Cond) (old new : ClientView) (why : CallError) → Settles old new (Err why) → Waits c old new (Err why)
+pub settles_waits : (c : WaitCondition) (old new : ClientView) (why : CallError) → Settles old new (Err why) → Waits c old new (Err why)
 settles_waits c old new error.NoMemory settles = settles
 settles_waits c old new error.NotOwned settles = absurd settles
 settles_waits c old new error.Full settles = absurd settles
@@ -132,7 +133,7 @@ stays_settled old new (Err (error.Closed why reason)) settles = stays_settled_by
 
 -- ---- a line, once nothing is owed
 
-pub closed_by : (text : Line) (cause : Cause) (old new : ClientView) → IsFree old → MakesEntry text (Closed cause.0 cause.1) old new
+pub closed_by : (text : SessionLine) (cause : Cause) (old new : ClientView) → IsFree old → MakesEntry text (Closed cause.0 cause.1) old new
     → IsClosedBy text cause old new old.seat.closed
 closed_by text cause old new free makes =
     let C : Bool → Type 0 = IsClosedBy text cause old new in
@@ -147,7 +148,7 @@ no_close _ never = refl
 pub never_open : (answer : Reply) → closes answer ≡ true → ((why : Cause) → answer ≡ Closed why.0 why.1 → ⊥) → ⊥
 never_open answer closed never = let wrong : true ≡ false = sym closed ∙ no_close answer never in cc
 
-stays_open : (text : Line) (answer : Reply) → is_answer text answer ≡ true → is_farewell text ≡ false
+stays_open : (text : SessionLine) (answer : Reply) → is_answer text answer ≡ true → is_farewell text ≡ false
 stays_open line.Disconnect answer sort = absurd (let wrong : false ≡ true = sort in cc)
 stays_open _ answer sort = refl
 
@@ -156,12 +157,12 @@ some_room zero farewell not_full opened = absurd (not_full refl opened)
 some_room (suc room) farewell not_full opened = omega arith
 
 -- a line was answered, so that there was room
-pub had_room : (text : Line) (answer : Reply) (room : ℕ) → is_answer text answer ≡ true → (room ≡ 0 → is_farewell text ≡ false → ⊥) → 0 < room
+pub had_room : (text : SessionLine) (answer : Reply) (room : ℕ) → is_answer text answer ≡ true → (room ≡ 0 → is_farewell text ≡ false → ⊥) → 0 < room
 had_room text answer room sort not_full = some_room room (is_farewell text) not_full (stays_open text answer sort)
 
 -- ---- looks
 
-module _ (c : Cond) (a b d : ClientView) where
+module _ (c : WaitCondition) (a b d : ClientView) where
   pub looks_more : (one other : ℕ) → HasLooked c one a b → HasLooked c other b d → HasLooked c other a d
   looks_more one other first then =
       let more : List Entry = first.looks.sees.longer.0 ++ then.looks.sees.longer.0 in
@@ -182,7 +183,7 @@ module _ (c : Cond) (a b d : ClientView) where
       }
 
 -- a session may look at what it may wait for
-may_wait : (setup : Setup) (s : SessionNo) (c : Cond) → is_played_condition setup s c ≡ true → session_may (kinds.Wait c) ≡ true
+may_wait : (setup : Setup) (s : SessionNo) (c : WaitCondition) → is_played_condition setup s c ≡ true → session_may (kinds.Wait c) ≡ true
 may_wait setup s (asks.Presents other n) own = absurd (let wrong : false ≡ true = own in cc)
 may_wait setup s (asks.Frames n) own = refl
 may_wait setup s (asks.Credits n) own = refl
@@ -194,5 +195,6 @@ both_true : (a b : Bool) → a ≡ true → b ≡ true → (a && b) ≡ true
 both_true true b first then = then
 both_true false b first then = absurd (let wrong : false ≡ true = first in cc)
 
-pub may_look : (setup : Setup) (s : SessionNo) (c : Cond) → is_played_condition setup s c ≡ true → is_declared setup s ≡ true → MayLook setup (Session s) c
+pub may_look : (setup : Setup) (s : SessionNo) (c : WaitCondition) → is_played_condition setup s c ≡ true → is_declared setup s ≡ true
+    → MayLook setup (Session s) c
 may_look setup s c own declared = record { acts = both_true (session_may (kinds.Wait c)) (is_declared setup s) (may_wait setup s c own) declared; named = refl }

@@ -5,12 +5,12 @@ use Rattle.std.proofs.Common.{IfOk, OnErr, Result, Ok, Err}
 use Rattle.flat_base.specs.declared.errors.Reason.{Reason}
 use Rattle.flat_scene.specs.declared.calls.Call.{Call}
 use Rattle.flat_scene.specs.declared.journal.Entry.{Entry}
-use Rattle.flat_scene.specs.declared.journal.Kind.{Kind}
-use Rattle.flat_scene.specs.declared.journal.Kind.TheVariants.{Close}
+use Rattle.flat_scene.specs.declared.journal.EntryKind.{EntryKind}
+use Rattle.flat_scene.specs.declared.journal.EntryKind.TheVariants.{Close}
 use Rattle.flat_scene.specs.declared.journal.Reply.{Reply}
 use Rattle.flat_scene.specs.declared.journal.Reply.TheVariants.{Done, Closed}
-use Rattle.flat_scene.specs.declared.script.Line.{Line}
-use Rattle.flat_scene.specs.declared.script.Line.TheVariants as line
+use Rattle.flat_scene.specs.declared.script.SessionLine.{SessionLine}
+use Rattle.flat_scene.specs.declared.script.SessionLine.TheVariants as line
 use Rattle.flat_scene.specs.declared.setup.Setup.{Setup}
 use Rattle.flat_scene.specs.History.{closes}
 use Rattle.flat_scene.specs.Interleave.{entry_of_call, or_close, calls_of_line}
@@ -23,25 +23,27 @@ use Rattle.flat_client.proofs.Answering.{closing}
 
 -- ---- an entry
 
-pub record Entered (number : ℕ) (text : Line) (answer : Reply) (old new : SessionView) : Type 0 where
-  pub kind : Kind
+pub record Entered (number : ℕ) (text : SessionLine) (answer : Reply) (old new : SessionView) : Type 0 where
+  pub kind : EntryKind
   pub of_line : entry_by old text ≡ Some kind
   pub entry : SessionEnters number (old.pending ++ calls_of_line text) kind answer old new
 
-entered_by : (number : ℕ) (text : Line) (answer : Reply) (old new : SessionView) (made : Option Kind) → entry_by old text ≡ made → is_some made ≡ true
+entered_by : (number : ℕ) (text : SessionLine) (answer : Reply) (old new : SessionView) (made : Option EntryKind) → entry_by old text ≡ made
+    → is_some made ≡ true
     → SessionMakes number text answer old new made → Entered number text answer old new
 entered_by number text answer old new None is some makes = absurd (let wrong : false ≡ true = some in cc)
 entered_by number text answer old new (Some kind) is some makes = record { kind = kind; of_line = is; entry = makes }
 
 -- a line of an opened session that makes an entry was read: it made one
-pub entered : (number : ℕ) (text : Line) (answer : Reply) (old new : SessionView) → old.closed ≡ false → is_some (entry_by old text) ≡ true
+pub entered : (number : ℕ) (text : SessionLine) (answer : Reply) (old new : SessionView) → old.closed ≡ false → is_some (entry_by old text) ≡ true
     → SessionReads number text answer old new old.closed → Entered number text answer old new
 entered number text answer old new opened some reads =
     let R : Bool → Type 0 = SessionReads number text answer old new in
     entered_by number text answer old new (entry_by old text) refl some (subst R opened reads)
 
 -- the client made it
-pub makes_entered : (number : ℕ) (text : Line) (answer : Reply) (old : ClientView) (seat : SessionView) (cause : Cause) → number ≡ length old.seat.mine + 1
+pub makes_entered : (number : ℕ) (text : SessionLine) (answer : Reply) (old : ClientView) (seat : SessionView) (cause : Cause)
+    → number ≡ length old.seat.mine + 1
     → old.seat.closed ≡ false → may_say old text ≡ true
     → Entered number text answer old.seat seat → cause ≡ cause_then answer old.cause
     → MakesEntry text answer old (record { seat = seat; owed = None; cause = cause })
@@ -68,12 +70,13 @@ room_now : (close : Bool) (made share : ℕ) → made + cond close 2 3 ≤ share
 room_now true made share room = omega arith
 room_now false made share room = omega arith
 
-pub has_room : (text : Line) (client : ClientView) → HasRoomFor text client → length client.seat.mine < share_of client.seat
+pub has_room : (text : SessionLine) (client : ClientView) → HasRoomFor text client → length client.seat.mine < share_of client.seat
 has_room text client room = room_now (is_close (entry_by client.seat text)) (length client.seat.mine) (share_of client.seat) room
 
 -- it stands again
 module _ (stage : StageView) (setup : Setup) (share made : ℕ) (old : ClientView) (stands : IsClient stage setup share made old) where
-  pub stands_entered : (text : Line) (answer : Reply) (seat : SessionView) (cause : Cause) → HasRoomFor text old → is_ended seat.mine ≡ is_ended old.seat.mine
+  pub stands_entered : (text : SessionLine) (answer : Reply) (seat : SessionView) (cause : Cause) → HasRoomFor text old
+      → is_ended seat.mine ≡ is_ended old.seat.mine
       → MakesEntry text answer old (record { seat = seat; owed = None; cause = cause })
       → IsClient stage setup share (made + 1) (record { seat = seat; owed = None; cause = cause })
   stands_entered text answer seat cause room ended makes =
@@ -153,15 +156,16 @@ module _ (stage : StageView) (setup : Setup) (share made : ℕ) (old : ClientVie
 
 -- ---- a private call
 
-right_call : (why : Option Reason) (entry : Option Kind) → or_close why entry ≡ None → why ≡ None
+right_call : (why : Option Reason) (entry : Option EntryKind) → or_close why entry ≡ None → why ≡ None
 right_call None entry is = refl
 right_call (Some reason) entry is = absurd (cc)
 
-wrong_call : (why : Option Reason) (entry : Option Kind) → entry ≡ None → is_some (or_close why entry) ≡ true → is_some why ≡ true
+wrong_call : (why : Option Reason) (entry : Option EntryKind) → entry ≡ None → is_some (or_close why entry) ≡ true → is_some why ≡ true
 wrong_call None entry none some = ap is_some (sym none) ∙ some
 wrong_call (Some reason) entry none some = refl
 
-owed_call : (why : Option Reason) (entry : Option Kind) → is_some why ≡ true → (is_some (or_close why entry) ≡ true) × (is_close (or_close why entry) ≡ true)
+owed_call : (why : Option Reason) (entry : Option EntryKind) → is_some why ≡ true → (is_some (or_close why entry) ≡ true)
+    × (is_close (or_close why entry) ≡ true)
 owed_call None entry some = absurd (let wrong : false ≡ true = some in cc)
 owed_call (Some reason) entry some = (refl, refl)
 
@@ -175,11 +179,11 @@ pub waits_now : (call : Call) (answer : Reply) (old new : SessionView) → old.c
     ≡ record old { pending = old.pending ++ call ∷ [] }
 waits_now call answer old new opened alone =
     let R : Bool → Type 0 = SessionReads 0 (line.Call call) answer old new in
-    let M : Option Kind → Type 0 = SessionMakes 0 (line.Call call) answer old new in
+    let M : Option EntryKind → Type 0 = SessionMakes 0 (line.Call call) answer old new in
     (subst M (alone.alone opened) (subst R opened (alone.reads 0))).1
 
 -- a private call that came back is a misuse
-pub is_misuse : (call : Call) (back : Line) (client : ClientView) (seat : SessionView) → entry_of_call call ≡ None
+pub is_misuse : (call : Call) (back : SessionLine) (client : ClientView) (seat : SessionView) → entry_of_call call ≡ None
     → IsUnread (line.Call call) back client.seat seat → is_some (misuse_now client call) ≡ true
 is_misuse call back client seat private unread = wrong_call (misuse_now client call) (entry_of_call call) private unread.enters
 
@@ -200,7 +204,8 @@ answers_waiting call answer old seat free own alone =
       waits = ap (λ (v : SessionView). let then : ClientView = record old { seat = v } in then) (waits_now call answer old.seat seat free.opened alone);
     }
 
-pub answers_owed : (call : Call) (back : Line) (old : ClientView) (seat : SessionView) (owed : Option Call) → IsFree old → may_say old (line.Call call) ≡ true
+pub answers_owed : (call : Call) (back : SessionLine) (old : ClientView) (seat : SessionView) (owed : Option Call) → IsFree old
+    → may_say old (line.Call call) ≡ true
     → entry_of_call call ≡ None → IsUnread (line.Call call) back old.seat seat
     → owed ≡ call_of back → IsMisused call old (record old { seat = seat; owed = owed }) old.owed
 answers_owed call back old seat owed free own private unread is =
@@ -214,7 +219,8 @@ answers_owed call back old seat owed free own private unread is =
     subst M (sym free.nothing_owed) this
 
 pub stands_owed : (stage : StageView) (setup : Setup) (share made : ℕ) (old : ClientView) → IsClient stage setup share made old
-    → (call : Call) (back : Line) (seat : SessionView) (owed : Option Call) → IsFree old → may_say old (line.Call call) ≡ true → entry_of_call call ≡ None
+    → (call : Call) (back : SessionLine) (seat : SessionView) (owed : Option Call) → IsFree old → may_say old (line.Call call) ≡ true
+    → entry_of_call call ≡ None
     → IsUnread (line.Call call) back old.seat seat → owed ≡ call_of back
     → IsClient stage setup share made (record old { seat = seat; owed = owed })
 stands_owed stage setup share made old stands call back seat owed free own private unread is =
@@ -225,7 +231,7 @@ stands_owed stage setup share made old stands call back seat owed free own priva
 -- ---- a line of an opened client was read
 
 module _ (stage : StageView) (setup : Setup) (share made : ℕ) (old view : ClientView) (stands : IsClient stage setup share made old) (is : old ≡ view) where
-  pub made_now : (text : Line) (answer : Reply) (seat : SessionView) (cause : Cause) → view.seat.closed ≡ false → may_say view text ≡ true
+  pub made_now : (text : SessionLine) (answer : Reply) (seat : SessionView) (cause : Cause) → view.seat.closed ≡ false → may_say view text ≡ true
       → is_some (entry_by view.seat text) ≡ true
       → SessionReads (made + 1) text answer old.seat seat old.seat.closed → cause ≡ cause_then answer old.cause
       → MakesEntry text answer old (record { seat = seat; owed = None; cause = cause })
@@ -236,14 +242,15 @@ module _ (stage : StageView) (setup : Setup) (share made : ℕ) (old view : Clie
       makes_entered (made + 1) text answer old seat cause (ap (λ (n : ℕ). n + 1) stands.counted) open_then own_then
       (entered (made + 1) text answer old.seat seat open_then some_then reads) because
 
-  pub stands_now : (text : Line) (answer : Reply) (seat : SessionView) (cause : Cause) → HasRoomFor text view → is_ended seat.mine ≡ is_ended old.seat.mine
+  pub stands_now : (text : SessionLine) (answer : Reply) (seat : SessionView) (cause : Cause) → HasRoomFor text view
+      → is_ended seat.mine ≡ is_ended old.seat.mine
       → MakesEntry text answer old (record { seat = seat; owed = None; cause = cause })
       → IsClient stage setup share (made + 1) (record { seat = seat; owed = None; cause = cause })
   stands_now text answer seat cause room ended makes =
       let R : ClientView → Type 0 = HasRoomFor text in
       stands_entered stage setup share made old stands text answer seat cause (subst R (sym is) room) ended makes
 
-  pub seen_from : (text : Line) (answer : Reply) (new : ClientView) → MakesEntry text answer old new → MakesEntry text answer view new
+  pub seen_from : (text : SessionLine) (answer : Reply) (new : ClientView) → MakesEntry text answer old new → MakesEntry text answer view new
   seen_from text answer new makes =
       let M : ClientView → Type 0 = λ v. MakesEntry text answer v new in
       subst M is makes

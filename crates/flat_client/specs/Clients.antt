@@ -6,15 +6,15 @@ use Rattle.flat_base.specs.declared.errors.Reason.{Reason}
 use Rattle.flat_base.specs.declared.ids.Actor.TheVariants.{Session}
 use Rattle.flat_scene.specs.declared.calls.Call.{Call}
 use Rattle.flat_scene.specs.declared.journal.Event.{Event}
-use Rattle.flat_scene.specs.declared.journal.Kind.{Kind}
-use Rattle.flat_scene.specs.declared.journal.Kind.TheVariants.{Close}
+use Rattle.flat_scene.specs.declared.journal.EntryKind.{EntryKind}
+use Rattle.flat_scene.specs.declared.journal.EntryKind.TheVariants.{Close}
 use Rattle.flat_scene.specs.declared.journal.Reply.{Reply}
 use Rattle.flat_scene.specs.declared.journal.Reply.TheVariants.{Done, Presented, Held, Now, Polled, Met, Closed}
 use Rattle.flat_scene.specs.declared.journal.Reply.TheVariants as reply
-use Rattle.flat_scene.specs.declared.journal.Told.{Told}
-use Rattle.flat_scene.specs.declared.script.Cond.{Cond}
-use Rattle.flat_scene.specs.declared.script.Line.{Line}
-use Rattle.flat_scene.specs.declared.script.Line.TheVariants as line
+use Rattle.flat_scene.specs.declared.journal.WatcherValue.{WatcherValue}
+use Rattle.flat_scene.specs.declared.script.WaitCondition.{WaitCondition}
+use Rattle.flat_scene.specs.declared.script.SessionLine.{SessionLine}
+use Rattle.flat_scene.specs.declared.script.SessionLine.TheVariants as line
 use Rattle.flat_scene.specs.declared.setup.Setup.{Setup}
 use Rattle.flat_scene.specs.Draft.{Draft}
 use Rattle.flat_scene.specs.History.{closes}
@@ -58,7 +58,7 @@ abbrev pub misuse_now : ClientView → Call → Option Reason
 misuse_now client call = misuse (setup_for client) (draft_now client) call
 
 -- a line names only what the session owns
-abbrev pub may_say : ClientView → Line → Bool
+abbrev pub may_say : ClientView → SessionLine → Bool
 may_say client text = is_played_line (setup_for client) client.seat.session text
 
 -- how many entries its session may make in all
@@ -135,17 +135,17 @@ Answers call old new (Err (error.Closed why reason)) =
 -- ---- an entry
 
 -- the call that a line is
-abbrev pub call_of : Line → Option Call
+abbrev pub call_of : SessionLine → Option Call
 call_of (line.Call call) = Some call
 call_of _ = None
 
 -- a line that makes an entry of each open session: all but a private call
-abbrev pub makes_entry : Line → Bool
+abbrev pub makes_entry : SessionLine → Bool
 makes_entry (line.Call call) = is_some (entry_of_call call)
 makes_entry _ = true
 
 -- the line by which a session closes of its own wish
-abbrev pub is_farewell : Line → Bool
+abbrev pub is_farewell : SessionLine → Bool
 is_farewell line.Disconnect = true
 is_farewell _ = false
 
@@ -155,21 +155,21 @@ cause_then (Closed why reason) cause = (why, reason)
 cause_then _ cause = cause
 
 -- an entry that closes its session for sure
-abbrev pub is_close : Option Kind → Bool
+abbrev pub is_close : Option EntryKind → Bool
 is_close (Some (Close why)) = true
 is_close _ = false
 
 -- there is room for a line's entry, beside what must still be said after it
-abbrev pub HasRoomFor : Line → ClientView → Type 0
+abbrev pub HasRoomFor : SessionLine → ClientView → Type 0
 HasRoomFor text client =
     length client.seat.mine + cond (is_close (entry_by client.seat text)) 2 3 ≤ share_of client.seat
 
 -- An open client made the entry of a line, as the rules say: with all calls that waited, at a point of one legal
 -- history. It owes nothing any more.
-pub record MakesEntry (text : Line) (reply : Reply) (old new : ClientView) : Type 0 where
+pub record MakesEntry (text : SessionLine) (reply : Reply) (old new : ClientView) : Type 0 where
   pub opened : old.seat.closed ≡ false
   pub own : may_say old text ≡ true
-  pub kind : Kind
+  pub kind : EntryKind
   pub of_line : entry_by old.seat text ≡ Some kind
   pub entry : SessionEnters (length old.seat.mine + 1) (old.seat.pending ++ calls_of_line text) kind reply
       old.seat new.seat
@@ -177,17 +177,17 @@ pub record MakesEntry (text : Line) (reply : Reply) (old new : ClientView) : Typ
   pub because : new.cause ≡ cause_then reply old.cause
 
 -- the line whose entry comes next: that of the misuse that is owed, or else the one at hand
-abbrev pub due : Line → Option Call → Line
+abbrev pub due : SessionLine → Option Call → SessionLine
 due text (Some call) = line.Call call
 due text None = text
 
 -- A client is closed: it was so before, and nothing changed, or the entry that came next closed it.
-abbrev pub IsClosedBy : Line → Cause → ClientView → ClientView → Bool → Type 0
+abbrev pub IsClosedBy : SessionLine → Cause → ClientView → ClientView → Bool → Type 0
 IsClosedBy text cause old new true = (old.cause ≡ cause) × (new ≡ old)
 IsClosedBy text cause old new false = MakesEntry (due text old.owed) (Closed cause.0 cause.1) old new
 
 -- What came of a line that makes an entry.
-abbrev pub Enters : Line → ClientView → ClientView → Result Reply CallError → Type 0
+abbrev pub Enters : SessionLine → ClientView → ClientView → Result Reply CallError → Type 0
 Enters text old new (Ok answer) =
     IsFree old × (0 < room_of old) × (closes answer ≡ false) × MakesEntry text answer old new
 Enters text old new (Err error.NoMemory) = (old.seat.closed ≡ false) × LooksOn old new
@@ -204,12 +204,12 @@ replied reply_for (Ok answer) = Ok (reply_for answer)
 replied reply_for (Err why) = Err why
 
 -- a get is held, or told a value at once
-abbrev pub reply_told : Option Told → Reply
+abbrev pub reply_told : Option WatcherValue → Reply
 reply_told None = Held
 reply_told (Some told) = Now told
 
 -- whether a reply that doesn't close is one to this line
-abbrev pub is_answer : Line → Reply → Bool
+abbrev pub is_answer : SessionLine → Reply → Bool
 is_answer (line.Call call) Done = true
 is_answer (line.Present args) (Presented number credits) = true
 is_answer (line.Get get) Held = true
@@ -250,14 +250,14 @@ Disconnects old new (Err why) = Enters line.Disconnect old new (Err why)
 
 -- A client looked at a condition, and had that value, at a point of a legal history that begins with all that it had
 -- seen.
-pub record HasLooked (c : Cond) (value : ℕ) (old new : ClientView) : Type 0 where
+pub record HasLooked (c : WaitCondition) (value : ℕ) (old new : ClientView) : Type 0 where
   pub own : is_played_condition (setup_for old) old.seat.session c ≡ true
   pub value_then : value ≡ value_of (setup_for old) (history_of new.seat.seen) (Session old.seat.session) c
   pub legal : Legal (setup_for old) (history_of new.seat.seen)
   pub looks : LooksOn old new
 
 -- What came of a wait.
-abbrev pub Waits : Cond → ClientView → ClientView → Result ℕ CallError → Type 0
+abbrev pub Waits : WaitCondition → ClientView → ClientView → Result ℕ CallError → Type 0
 Waits c old new (Ok value) = IsFree old × HasLooked c value old new × (asked_of c ≤ value)
 Waits c old new (Err (error.Unmet value)) = IsFree old × HasLooked c value old new × (value < asked_of c)
 Waits c old new (Err error.NotOwned) =

@@ -4,8 +4,8 @@ use Rattle.flat_base.specs.declared.errors.FlatlandError.TheVariants.{BadOperati
 use Rattle.flat_base.specs.declared.errors.Reason.{Reason}
 use Rattle.flat_scene.specs.declared.calls.Call.{Call}
 use Rattle.flat_scene.specs.declared.journal.Reply.{Reply}
-use Rattle.flat_scene.specs.declared.script.Cond.{Cond}
-use Rattle.flat_scene.specs.declared.script.Line.{Line}
+use Rattle.flat_scene.specs.declared.script.WaitCondition.{WaitCondition}
+use Rattle.flat_scene.specs.declared.script.SessionLine.{SessionLine}
 use Rattle.flat_scene.specs.Interleave.{entry_of_call}
 use Rattle.flat_client.specs.declared.error.CallError.{CallError}
 use Rattle.flat_client.specs.declared.error.CallError.TheVariants as error
@@ -26,9 +26,9 @@ ClosesFor reason _ = ⊥
 -- A misuse is owed: whatever entry or wait comes next, the session closes for the first reason that the rules have
 -- against the call.
 pub record IsOwedFor (reason : Reason) (owing : ClientView) : Type 0 where
-  pub enters : (text : Line) (answer : Result Reply CallError) (new : ClientView) → Enters text owing new answer
+  pub enters : (text : SessionLine) (answer : Result Reply CallError) (new : ClientView) → Enters text owing new answer
       → ClosesFor reason answer
-  pub waits : (c : Cond) (answer : Result ℕ CallError) (new : ClientView) → Waits c owing new answer
+  pub waits : (c : WaitCondition) (answer : Result ℕ CallError) (new : ClientView) → Waits c owing new answer
       → ClosesFor reason answer
 
 -- a private call of a client that owed nothing is a misuse for the first reason of the rules

@@ -1,7 +1,7 @@
 ghost use Rattle.std.specs.Prelude.{◌≡◌, ◌+◌, ◌≤◌, true, false, Some, None, IfOk, IsTrue, OnErr, length, not};
 ghost use Rattle.std.specs.Arc.{arc_value};
 ghost use Rattle.std.specs.Option.{is_some, option_map};
-ghost use Rattle.flat_scene.specs.declared.script.Line.TheVariants as line;
+ghost use Rattle.flat_scene.specs.declared.script.SessionLine.TheVariants as line;
 ghost use Rattle.flat_scene.specs.Interleave.{entry_of_call};
 ghost use Rattle.flat_stage.specs.Homes.{fresh_view};
 ghost use Rattle.flat_stage.specs.Readings.{entry_by};
@@ -12,8 +12,8 @@ ghost use Rattle.flat_client.specs.Clients.{IsFree, Owes, call_of, kept_back};
 
 use crate::error::CallError;
 use flat_base::{FlatlandError, NoMemory, Reason, SessionNo, TryCopy};
-use flat_scene::{Call, Line, Reply, Setup};
-use flat_session::Edit;
+use flat_scene::{Call, Reply, SessionLine, Setup};
+use flat_session::EditOutcome;
 use flat_setup::{may_call, may_use};
 use flat_stage::{SessionSeat, Stage};
 use std::alloc::Global;
@@ -99,7 +99,7 @@ impl Client {
     }
 
     /// Whether a line names only what the session owns.
-    pub fn may_use(&self, text: &Line) -> bool
+    pub fn may_use(&self, text: &SessionLine) -> bool
         ensures { result ≡ may_say self.now text.now }
     {
         may_use(&self.setup, self.seat.session(), text)
@@ -143,9 +143,9 @@ impl Client {
             drop(call);
             return Err(CallError::NotOwned);
         }
-        match self.seat.edit(Line::Call(call)) {
-            Ok(Edit::Read(_)) => Ok(()),
-            Ok(Edit::Unread(text)) => {
+        match self.seat.edit(SessionLine::Call(call)) {
+            Ok(EditOutcome::Read(_)) => Ok(()),
+            Ok(EditOutcome::Unread(text)) => {
                 self.owed = call_of(text);
                 Err(CallError::Misused)
             }
@@ -154,7 +154,7 @@ impl Client {
     }
 
     /// Makes the entry of a line of the open session, for which there is room.
-    fn make<R: Wait>(&mut self, rt: &R, text: Line) -> Result<Reply, NoMemory>
+    fn make<R: Wait>(&mut self, rt: &R, text: SessionLine) -> Result<Reply, NoMemory>
         requires opened { self.old.seat.closed ≡ false }
         requires own { may_say self.old text ≡ true }
         requires enters { is_some (entry_by self.old.seat text) ≡ true }
@@ -176,11 +176,11 @@ impl Client {
     }
 
     /// The line of the misuse that is owed.
-    fn owed_line(&self) -> Result<Option<Line>, NoMemory>
+    fn owed_line(&self) -> Result<Option<SessionLine>, NoMemory>
         ensures { IfOk result (λ text. text ≡ option_map line.Call self.now.owed) }
     {
         match &self.owed {
-            Some(call) => Ok(Some(Line::Call(call.copy(self.alloc)?))),
+            Some(call) => Ok(Some(SessionLine::Call(call.copy(self.alloc)?))),
             None => Ok(None),
         }
     }
@@ -202,7 +202,7 @@ impl Client {
     }
 
     /// Makes the entry of a misuse of the open session, which closes it.
-    fn say<R: Wait>(&mut self, rt: &R, text: Line) -> Result<(), CallError>
+    fn say<R: Wait>(&mut self, rt: &R, text: SessionLine) -> Result<(), CallError>
         requires opened { self.old.seat.closed ≡ false }
         requires owed { Some text ≡ option_map line.Call self.old.owed }
         requires owes { Owes self.old self.old.owed }
@@ -221,7 +221,7 @@ impl Client {
     }
 
     /// Makes the entry of a line, once nothing is owed.
-    pub(crate) fn enter<R: Wait>(&mut self, rt: &R, text: Line) -> Result<Reply, CallError>
+    pub(crate) fn enter<R: Wait>(&mut self, rt: &R, text: SessionLine) -> Result<Reply, CallError>
         requires { makes_entry text ≡ true }
         ensures enters { Enters text self.old self.new result }
         ensures sort { IfOk result (λ reply. is_answer text reply ≡ true) }
@@ -237,7 +237,7 @@ impl Client {
     }
 
     /// Makes the entry of a line of the open session that owes nothing.
-    fn enter_next<R: Wait>(&mut self, rt: &R, text: Line) -> Result<Reply, CallError>
+    fn enter_next<R: Wait>(&mut self, rt: &R, text: SessionLine) -> Result<Reply, CallError>
         requires makes { makes_entry text ≡ true }
         requires free { IsFree self.old }
         ensures enters { Enters text self.old self.new result }
@@ -264,18 +264,18 @@ impl Client {
 }
 
 /// Whether a session closes by this line of its own wish.
-fn is_farewell(text: &Line) -> bool
+fn is_farewell(text: &SessionLine) -> bool
     ensures { result ≡ is_farewell text.now }
 {
-    matches!(text, Line::Disconnect)
+    matches!(text, SessionLine::Disconnect)
 }
 
 /// The call that a line is.
-fn call_of(text: Line) -> Option<Call>
+fn call_of(text: SessionLine) -> Option<Call>
     ensures { result ≡ call_of text }
 {
     match text {
-        Line::Call(call) => Some(call),
+        SessionLine::Call(call) => Some(call),
         other => {
             drop(other);
             None

@@ -3,16 +3,16 @@ ghost use Rattle.std.specs.Prelude.{◌≡◌};
 ghost use Rattle.flat_scene.specs.declared.calls.Call.TheVariants as calls;
 ghost use Rattle.flat_scene.specs.declared.calls.Watch.TheVariants as watch;
 ghost use Rattle.flat_scene.specs.declared.journal.Reply.TheVariants as reply;
-ghost use Rattle.flat_scene.specs.declared.script.Line.TheVariants as line;
+ghost use Rattle.flat_scene.specs.declared.script.SessionLine.TheVariants as line;
 ghost use Rattle.flat_client.specs.Clients.{Disconnects, Ends, Enters, Polls, Stays, is_answer, replied, reply_told};
 ghost use Rattle.flat_client.specs.Clients.{Cause};
 
 use crate::client::Client;
 use crate::error::CallError;
-use crate::present::Presented;
+use crate::present::AcceptedPresent;
 use flat_base::{ContentId, FenceNo, PairNo};
 use flat_core::EventList;
-use flat_scene::{Call, Line, PresentArgs, Reply, Told, ViewportProps, Watch};
+use flat_scene::{Call, PresentArgs, Reply, SessionLine, ViewportProps, Watch, WatcherValue};
 use flat_stage::SessionSeat;
 use std::sync::Wait;
 
@@ -23,7 +23,7 @@ impl Client {
             (replied (λ _. reply.Done) result) }
         ensures stays { Stays self.old self.new }
     {
-        match self.enter(rt, Line::Call(Call::CreateView { pair }))? {
+        match self.enter(rt, SessionLine::Call(Call::CreateView { pair }))? {
             Reply::Done => Ok(()),
             _ => unreachable!(),
         }
@@ -50,7 +50,7 @@ impl Client {
             h,
             inset,
         };
-        match self.enter(rt, Line::Call(call))? {
+        match self.enter(rt, SessionLine::Call(call))? {
             Reply::Done => Ok(()),
             _ => unreachable!(),
         }
@@ -58,20 +58,24 @@ impl Client {
 
     /// Presents all that the session's calls made so far: Fuchsia's `Present`. It answers
     /// the present's number, and how many credits are left.
-    pub fn present<R: Wait>(&mut self, rt: &R, args: PresentArgs) -> Result<Presented, CallError>
+    pub fn present<R: Wait>(
+        &mut self,
+        rt: &R,
+        args: PresentArgs,
+    ) -> Result<AcceptedPresent, CallError>
         ensures enters { Enters (line.Present args) self.old self.new
             (replied (λ p. reply.Presented p.number p.credits) result) }
         ensures stays { Stays self.old self.new }
     {
-        match self.enter(rt, Line::Present(args))? {
-            Reply::Presented { number, credits } => Ok(Presented { number, credits }),
+        match self.enter(rt, SessionLine::Present(args))? {
+            Reply::Presented { number, credits } => Ok(AcceptedPresent { number, credits }),
             _ => unreachable!(),
         }
     }
 
     /// Asks for the layout of the session's view: Fuchsia's `GetLayout`. At None the answer
     /// comes by [`Client::poll`], once there is news.
-    pub fn get_layout<R: Wait>(&mut self, rt: &R) -> Result<Option<Told>, CallError>
+    pub fn get_layout<R: Wait>(&mut self, rt: &R) -> Result<Option<WatcherValue>, CallError>
         ensures enters { Enters (line.Get watch.Layout) self.old self.new
             (replied reply_told result) }
         ensures stays { Stays self.old self.new }
@@ -81,7 +85,7 @@ impl Client {
 
     /// Asks whether the session's view is connected to the display: Fuchsia's `GetStatus`
     /// of the parent. At None the answer comes by [`Client::poll`], once there is news.
-    pub fn get_status<R: Wait>(&mut self, rt: &R) -> Result<Option<Told>, CallError>
+    pub fn get_status<R: Wait>(&mut self, rt: &R) -> Result<Option<WatcherValue>, CallError>
         ensures enters { Enters (line.Get watch.Status) self.old self.new
             (replied reply_told result) }
         ensures stays { Stays self.old self.new }
@@ -91,7 +95,11 @@ impl Client {
 
     /// Asks whether the child behind a viewport has presented: Fuchsia's `GetStatus` of a
     /// child. At None the answer comes by [`Client::poll`], once there is news.
-    pub fn get_child<R: Wait>(&mut self, rt: &R, c: ContentId) -> Result<Option<Told>, CallError>
+    pub fn get_child<R: Wait>(
+        &mut self,
+        rt: &R,
+        c: ContentId,
+    ) -> Result<Option<WatcherValue>, CallError>
         ensures enters { Enters (line.Get (watch.Child c)) self.old self.new
             (replied reply_told result) }
         ensures stays { Stays self.old self.new }
@@ -99,11 +107,11 @@ impl Client {
         self.get(rt, Watch::Child(c))
     }
 
-    fn get<R: Wait>(&mut self, rt: &R, watch: Watch) -> Result<Option<Told>, CallError>
+    fn get<R: Wait>(&mut self, rt: &R, watch: Watch) -> Result<Option<WatcherValue>, CallError>
         ensures enters { Enters (line.Get watch) self.old self.new (replied reply_told result) }
         ensures stays { Stays self.old self.new }
     {
-        match self.enter(rt, Line::Get(watch))? {
+        match self.enter(rt, SessionLine::Get(watch))? {
             Reply::Held => Ok(None),
             Reply::Now(told) => Ok(Some(told)),
             _ => unreachable!(),
@@ -116,7 +124,7 @@ impl Client {
             (replied (λ _. reply.Done) result) }
         ensures stays { Stays self.old self.new }
     {
-        match self.enter(rt, Line::Signal(f))? {
+        match self.enter(rt, SessionLine::Signal(f))? {
             Reply::Done => Ok(()),
             _ => unreachable!(),
         }
@@ -128,7 +136,7 @@ impl Client {
         ensures polls { Polls self.old self.new result }
         ensures stays { Stays self.old self.new }
     {
-        match self.enter(rt, Line::Poll)? {
+        match self.enter(rt, SessionLine::Poll)? {
             Reply::Polled(_) => Ok(self.seat.events()),
             _ => unreachable!(),
         }
@@ -140,7 +148,7 @@ impl Client {
         ensures stays { Stays self.old self.new }
     {
         let is_free = self.is_free();
-        match self.enter(rt, Line::Disconnect) {
+        match self.enter(rt, SessionLine::Disconnect) {
             Err(CallError::Closed(None, None)) if is_free => Ok(()),
             Err(why) => Err(why),
             Ok(_) => unreachable!(),

@@ -16,5 +16,5 @@ mod waits;
 pub use client::Client;
 pub use error::CallError;
 pub use laws::misuses_have_their_reason;
-pub use present::{NO_INSET, Presented, present_at};
+pub use present::{AcceptedPresent, NO_INSET, present_at};
 pub use waits::{FIRST_NAP, LONGEST_NAP};

@@ -14,7 +14,7 @@ pub const NO_INSET: Inset = Inset {
 
 /// An accepted present.
 #[derive(Clone, Copy, PartialEq, Eq)]
-pub struct Presented {
+pub struct AcceptedPresent {
     /// Its number, from 1.
     pub number: u32,
     /// How many presents the session may make before it gains credits.

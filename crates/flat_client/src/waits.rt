@@ -6,7 +6,7 @@ ghost use Rattle.flat_client.specs.Clients.{HasLooked, Stays, Waits, setup_for};
 use crate::client::Client;
 use crate::error::CallError;
 use flat_core::asked_of;
-use flat_scene::Cond;
+use flat_scene::WaitCondition;
 use flat_setup::may_wait;
 use std::sync::Wait;
 use std::thread;
@@ -23,7 +23,12 @@ impl Client {
     /// Looks at a condition until its value is enough, or so many times, but once at least.
     /// It makes no entry, and sleeps between two looks. At [`CallError::Unmet`] it was never
     /// enough.
-    pub fn wait<R: Wait + Clock>(&mut self, rt: &R, c: Cond, looks: u32) -> Result<u32, CallError>
+    pub fn wait<R: Wait + Clock>(
+        &mut self,
+        rt: &R,
+        c: WaitCondition,
+        looks: u32,
+    ) -> Result<u32, CallError>
         ensures waits { Waits c self.old self.new result }
         ensures stays { Stays self.old self.new }
     {
@@ -40,7 +45,7 @@ impl Client {
     }
 
     /// The value of a condition once it is enough, or at the last look.
-    fn look_often<R: Wait + Clock>(&mut self, rt: &R, c: Cond, looks: u32) -> u32
+    fn look_often<R: Wait + Clock>(&mut self, rt: &R, c: WaitCondition, looks: u32) -> u32
         requires { is_played_condition (setup_for self.old) self.old.seat.session c ≡ true }
         ensures { HasLooked c result self.old self.new }
     {
@@ -58,7 +63,7 @@ impl Client {
     }
 
     /// The value of a condition now.
-    fn look<R: Wait>(&mut self, rt: &R, c: Cond) -> u32
+    fn look<R: Wait>(&mut self, rt: &R, c: WaitCondition) -> u32
         requires { is_played_condition (setup_for self.old) self.old.seat.session c ≡ true }
         ensures { HasLooked c result self.old self.new }
     {

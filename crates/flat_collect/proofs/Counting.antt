@@ -6,7 +6,7 @@ use Rattle.std.specs.List.{Contains}
 use Rattle.std.proofs.lemmas.List.Sums.{sum_by-cons}
 use Rattle.std.proofs.lemmas.List.{get_or-set_other}
 use Rattle.std.proofs.lemmas.Bool.Decides.{eqb_tells, nat_tests}
-use Rattle.flat_graph.specs.declared.names.Named.{Named}
+use Rattle.flat_graph.specs.declared.names.NamedNode.{NamedNode}
 use Rattle.flat_graph.specs.declared.nodes.GraphNode.{GraphNode}
 use Rattle.flat_graph.specs.Names.{key_named, IsBelowAll, IsRising}
 use Rattle.flat_graph.specs.State.{IsKept}
@@ -67,17 +67,17 @@ all-listed (key ∷ keys) nodes once kept many k there =
 
 -- ---- the keys that have a name
 
-abbrev pub keys_of : List Named → List ℕ
+abbrev pub keys_of : List NamedNode → List ℕ
 keys_of names = map (λ name. name.key) names
 
-first-named : (name : Named) (names : List Named) (key : ℕ) → name.key ≡ key → key_named (name ∷ names) name.id ≡ Some key
+first-named : (name : NamedNode) (names : List NamedNode) (key : ℕ) → name.key ≡ key → key_named (name ∷ names) name.id ≡ Some key
 first-named name names key same = by_test (name.id == name.id) refl
   where
     by_test : (b : Bool) → (name.id == name.id) ≡ b → cond b (Some name.key) (key_named names name.id) ≡ Some key
     by_test true e = rw same refl
     by_test false e = absurd (grind (arith, nat_tests))
 
-named-above : (b : ℕ) (names : List Named) → IsBelowAll b names → (id key : ℕ) → key_named names id ≡ Some key → b < id
+named-above : (b : ℕ) (names : List NamedNode) → IsBelowAll b names → (id key : ℕ) → key_named names id ≡ Some key → b < id
 named-above b [] below id key named = absurd (cc)
 named-above b (name ∷ names) below id key named = by_test (name.id == id) refl named (named-above b names below.1 id key)
   where
@@ -85,7 +85,7 @@ named-above b (name ∷ names) below id key named = by_test (name.id == id) refl
     by_test true e named' later = let same : name.id ≡ id = grind (arith, nat_tests) in omega (arith, same, below.0)
     by_test false e named' later = later named'
 
-later-named : (name : Named) (names : List Named) → IsBelowAll name.id names → (id key : ℕ) → key_named names id ≡ Some key
+later-named : (name : NamedNode) (names : List NamedNode) → IsBelowAll name.id names → (id key : ℕ) → key_named names id ≡ Some key
     → key_named (name ∷ names) id ≡ Some key
 later-named name names below id key named = by_test (name.id == id) refl (named-above name.id names below id key named)
   where
@@ -93,14 +93,14 @@ later-named name names below id key named = by_test (name.id == id) refl (named-
     by_test true e above = absurd (grind (arith, nat_tests))
     by_test false e above = named
 
-pub listed-named : (names : List Named) → IsRising names → (key : ℕ) → Contains (keys_of names) key → (id : ℕ) × (key_named names id ≡ Some key)
+pub listed-named : (names : List NamedNode) → IsRising names → (key : ℕ) → Contains (keys_of names) key → (id : ℕ) × (key_named names id ≡ Some key)
 listed-named [] rising key has = let no : has.0 < 0 = has.1 in absurd (omega arith)
 listed-named (name ∷ names) rising key (zero, low, same) = (name.id, first-named name names key same)
 listed-named (name ∷ names) rising key (suc i, low, same) =
     let named : (id : ℕ) × (key_named names id ≡ Some key) = listed-named names rising.1 key (i, omega (arith, low), same) in
     (named.0, later-named name names rising.0 named.0 key named.1)
 
-pub named-listed : (names : List Named) (id key : ℕ) → key_named names id ≡ Some key → Contains (keys_of names) key
+pub named-listed : (names : List NamedNode) (id key : ℕ) → key_named names id ≡ Some key → Contains (keys_of names) key
 named-listed [] id key named = absurd (cc)
 named-listed (name ∷ names) id key named = by_test (name.id == id) named (named-listed names id key)
   where
@@ -110,10 +110,10 @@ named-listed (name ∷ names) id key named = by_test (name.id == id) named (name
     by_test false named' later = contains-later name.key (keys_of names) key (later named')
 
 -- no two ids name one node
-abbrev pub AreApart : List Named → Type 0
+abbrev pub AreApart : List NamedNode → Type 0
 AreApart names = (id other key : ℕ) → key_named names id ≡ Some key → key_named names other ≡ Some key → id ≡ other
 
-pub names-once : (names : List Named) → IsRising names → AreApart names → IsOnce (keys_of names)
+pub names-once : (names : List NamedNode) → IsRising names → AreApart names → IsOnce (keys_of names)
 names-once [] rising apart = tt
 names-once (name ∷ names) rising apart = (
   λ has. once (listed-named names rising.1 name.key has),

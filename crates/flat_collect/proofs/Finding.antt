@@ -8,7 +8,7 @@ use Rattle.std.proofs.lemmas.Option.{slice_get_read, slice_get_within}
 use Rattle.flat_scene.specs.Cycles.{Walk}
 use Rattle.flat_graph.specs.Reasons.{links_in}
 use Rattle.flat_graph.specs.State.{GraphState, IsKept, IsMarked, IsSound}
-use Rattle.flat_collect.specs.declared.reached.Reached.{Reached}
+use Rattle.flat_collect.specs.declared.reached_nodes.ReachedNodes.{ReachedNodes}
 use Rattle.flat_collect.specs.Marking.{Adds, AreReached, IsFinding, IsListed}
 use Rattle.flat_collect.specs.Sweep.{IsReached, IsStart}
 use Rattle.flat_collect.proofs.Counting.{keys_of, listed-named, named-listed, no-more}
@@ -59,7 +59,7 @@ module _ (graph : GraphState) where
   pub name-start : (key : ℕ) → IsSound graph → Contains (keys_of graph.names) key → IsStart graph key
   name-start key sound has = inr (listed-named graph.names sound.rising key has)
 
-  pub finding-begin : (empty rooted found : Reached) → IsSound graph → ((key : ℕ) → IsKept graph.nodes key → key < length empty.marks.items)
+  pub finding-begin : (empty rooted found : ReachedNodes) → IsSound graph → ((key : ℕ) → IsKept graph.nodes key → key < length empty.marks.items)
       → empty.keys.items ≡ [] → IsListed empty
       → Adds (option_to_list graph.root) empty rooted → Adds (keys_of graph.names) rooted found → IsFinding graph found 0
   finding-begin empty rooted found sound within none listed a b = record {
@@ -93,7 +93,7 @@ module _ (graph : GraphState) where
   get-left (x ∷ xs) ys zero low = refl
   get-left (x ∷ xs) ys (suc i) low = get-left xs ys i (omega (arith, low))
 
-  pub finding-more : (old new : Reached) (done key : ℕ) → IsFinding graph old done → slice_get old.keys.items done ≡ Some key
+  pub finding-more : (old new : ReachedNodes) (done key : ℕ) → IsFinding graph old done → slice_get old.keys.items done ≡ Some key
       → Adds (links_in graph key) old new → IsFinding graph new (done + 1)
   finding-more old new done key f next adds = record {
     listed = adds.listed;
@@ -125,12 +125,13 @@ module _ (graph : GraphState) where
 
   -- ---- the end
 
-  walk-marked : (found : Reached) → ((key child : ℕ) → IsMarked found.marks.items key → Contains (links_in graph key) child → IsMarked found.marks.items child)
+  walk-marked : (found : ReachedNodes) → ((key child : ℕ) → IsMarked found.marks.items key → Contains (links_in graph key) child
+      → IsMarked found.marks.items child)
       → (steps a b : ℕ) → IsMarked found.marks.items a → Walk (links_in graph) steps a b → IsMarked found.marks.items b
   walk-marked found closed zero a b marked e = subst (IsMarked found.marks.items) e marked
   walk-marked found closed (suc steps) a b marked walk = walk-marked found closed steps walk.0 b (closed a walk.0 marked walk.1) walk.2
 
-  pub finding-end : (found : Reached) (done : ℕ) → IsFinding graph found done → length found.keys.items ≤ done → AreReached graph found
+  pub finding-end : (found : ReachedNodes) (done : ℕ) → IsFinding graph found done → length found.keys.items ≤ done → AreReached graph found
   finding-end found done f all = record {
     listed = f.listed;
     covers = f.covers;
@@ -145,12 +146,12 @@ module _ (graph : GraphState) where
           f.closed at.0 key child (omega (arith, low, all)) at.1 has
 
   -- what is found is no more than the nodes
-  pub finding-few : (found : Reached) (done : ℕ) → IsSound graph → IsFinding graph found done → length found.keys.items ≤ count_by is_some graph.nodes
+  pub finding-few : (found : ReachedNodes) (done : ℕ) → IsSound graph → IsFinding graph found done → length found.keys.items ≤ count_by is_some graph.nodes
   finding-few found done sound f = no-more found.keys.items graph.nodes f.listed.once
       (λ key has. reached-kept key sound (f.reached key (f.listed.marked key has)))
 
   -- the list has more keys, and so there are more nodes
-  pub finding-smaller : (found : Reached) (done : ℕ) → IsSound graph → IsFinding graph found done → done < length found.keys.items
+  pub finding-smaller : (found : ReachedNodes) (done : ℕ) → IsSound graph → IsFinding graph found done → done < length found.keys.items
       → count_by is_some graph.nodes - (done + 1) < count_by is_some graph.nodes - done
   finding-smaller found done sound f more = let few : length found.keys.items ≤ count_by is_some graph.nodes =
       finding-few found done sound f in omega (arith, few, more)

@@ -6,9 +6,9 @@ use Rattle.std.specs.List.{Contains}
 use Rattle.std.proofs.lemmas.List.{append-nil, get_or-set_same, get_or-set_other, map-append, take_all, take_more}
 use Rattle.std.proofs.lemmas.List.Elements.{Contains-push, Contains-push_cases, Contains-append_left, Contains-append_right, Contains-append_cases}
 use Rattle.std.proofs.lemmas.Bool.Decides.{eqb_tells}
-use Rattle.flat_graph.specs.declared.names.Named.{Named}
+use Rattle.flat_graph.specs.declared.names.NamedNode.{NamedNode}
 use Rattle.flat_graph.specs.State.{IsMarked}
-use Rattle.flat_collect.specs.declared.reached.Reached.{Reached}
+use Rattle.flat_collect.specs.declared.reached_nodes.ReachedNodes.{ReachedNodes}
 use Rattle.flat_collect.specs.Marking.{Adds, IsListed, IsOnce}
 use Rattle.flat_collect.proofs.Counting.{contains-later, keys_of}
 
@@ -40,7 +40,7 @@ mark-after marks key k within = by_key (eqb_tells k key)
 -- ---- keys added
 
 -- a key that isn't found yet
-pub adds-new : (key : ℕ) (old new : Reached) → IsListed old → key < length old.marks.items → slice_index_or old.marks.items key false ≡ false
+pub adds-new : (key : ℕ) (old new : ReachedNodes) → IsListed old → key < length old.marks.items → slice_index_or old.marks.items key false ≡ false
     → new.marks.items ≡ slice_set old.marks.items key true → new.keys.items ≡ old.keys.items ++ key ∷ [] → Adds (key ∷ []) old new
 adds-new key old new listed within unmarked marks keys = record {
   listed = record {
@@ -81,7 +81,7 @@ adds-new key old new listed within unmarked marks keys = record {
     only k (inr apart) m = inl (sym apart.1 ∙ m)
 
 -- some keys, and then others
-pub adds-more : (keys more : List ℕ) (old mid new : Reached) → Adds keys old mid → Adds more mid new → Adds (keys ++ more) old new
+pub adds-more : (keys more : List ℕ) (old mid new : ReachedNodes) → Adds keys old mid → Adds more mid new → Adds (keys ++ more) old new
 adds-more keys more old mid new a b = record {
   listed = b.listed;
   places = b.places ∙ a.places;
@@ -111,26 +111,28 @@ item-there [] i low = absurd (omega (arith, low))
 item-there (key ∷ keys) zero low = (0, omega arith, refl)
 item-there (key ∷ keys) (suc i) low = contains-later key keys (slice_index_or keys i 0) (item-there keys i (omega (arith, low)))
 
-pub adds-next : (keys : List ℕ) (i : ℕ) (old mid new : Reached) → i < length keys → Adds (take i keys) old mid → Adds (slice_index_or keys i 0 ∷ []) mid new
+pub adds-next : (keys : List ℕ) (i : ℕ) (old mid new : ReachedNodes) → i < length keys → Adds (take i keys) old mid
+    → Adds (slice_index_or keys i 0 ∷ []) mid new
     → Adds (take (i + 1) keys) old new
 adds-next keys i old mid new low a b =
     subst (λ (added : List ℕ). Adds added old new) (sym (take_more keys i 0 low)) (adds-more (take i keys) (slice_index_or keys i 0 ∷ []) old mid new a b)
 
-pub name-there : (names : List Named) (i : ℕ) (d : Named) → i < length names → Contains (keys_of names) (slice_index_or names i d).key
+pub name-there : (names : List NamedNode) (i : ℕ) (d : NamedNode) → i < length names → Contains (keys_of names) (slice_index_or names i d).key
 name-there [] i d low = absurd (omega (arith, low))
 name-there (name ∷ names) zero d low = (0, omega arith, refl)
 name-there (name ∷ names) (suc i) d low = contains-later name.key (keys_of names) (slice_index_or names i d).key (name-there names i d (omega (arith, low)))
 
-pub adds-next-name : (names : List Named) (i : ℕ) (d : Named) (old mid new : Reached) → i < length names → Adds (keys_of (take i names)) old mid
+pub adds-next-name : (names : List NamedNode) (i : ℕ) (d : NamedNode) (old mid new : ReachedNodes) → i < length names → Adds (keys_of (take i names)) old mid
     → Adds ((slice_index_or names i d).key ∷ []) mid new
     → Adds (keys_of (take (i + 1) names)) old new
 adds-next-name names i d old mid new low a b =
     let more : keys_of (take (i + 1) names) ≡ keys_of (take i names) ++ (slice_index_or names i d).key ∷ [] =
-    ap (λ (ns : List Named). keys_of ns) (take_more names i d low) ∙ map-append (λ (name : Named). name.key) (take i names) (slice_index_or names i d ∷ []) in
+    ap (λ (ns : List NamedNode). keys_of ns) (take_more names i d low) ∙ map-append (λ (name : NamedNode). name.key) (take i names)
+    (slice_index_or names i d ∷ []) in
     subst (λ (added : List ℕ). Adds added old new) (sym more) (adds-more (keys_of (take i names)) ((slice_index_or names i d).key ∷ []) old mid new a b)
 
 -- nothing is added yet
-pub adds-none : (old : Reached) → IsListed old → Adds [] old old
+pub adds-none : (old : ReachedNodes) → IsListed old → Adds [] old old
 adds-none old listed = record {
   listed = listed;
   places = refl;
@@ -142,9 +144,9 @@ adds-none old listed = record {
 }
 
 -- all keys are added, and those of all names
-pub adds-all : (keys : List ℕ) (i : ℕ) (old new : Reached) → length keys ≤ i → Adds (take i keys) old new → Adds keys old new
+pub adds-all : (keys : List ℕ) (i : ℕ) (old new : ReachedNodes) → length keys ≤ i → Adds (take i keys) old new → Adds keys old new
 adds-all keys i old new whole adds = subst (λ (added : List ℕ). Adds added old new) (take_all i keys whole) adds
 
-pub adds-all-names : (names : List Named) (i : ℕ) (old new : Reached) → length names ≤ i → Adds (map (λ name. name.key) (take i names)) old new
+pub adds-all-names : (names : List NamedNode) (i : ℕ) (old new : ReachedNodes) → length names ≤ i → Adds (map (λ name. name.key) (take i names)) old new
     → Adds (map (λ name. name.key) names) old new
-adds-all-names names i old new whole adds = subst (λ (ns : List Named). Adds (map (λ name. name.key) ns) old new) (take_all i names whole) adds
+adds-all-names names i old new whole adds = subst (λ (ns : List NamedNode). Adds (map (λ name. name.key) ns) old new) (take_all i names whole) adds

@@ -7,8 +7,8 @@ use Rattle.std.proofs.lemmas.List.{get_or-set_same, get_or-set_other, reverse-ap
 use Rattle.std.proofs.lemmas.Option.{slice_get_within}
 use Rattle.std.proofs.lemmas.Bool.Decides.{eqb_tells}
 use Rattle.flat_scene.specs.Cycles.{HasCycle}
-use Rattle.flat_collect.specs.declared.cycle.Mark.{Mark}
-use Rattle.flat_collect.specs.declared.cycle.Mark.TheVariants.{New, Open, Done}
+use Rattle.flat_collect.specs.declared.cycle.SearchMark.{SearchMark}
+use Rattle.flat_collect.specs.declared.cycle.SearchMark.TheVariants.{New, Open, Done}
 use Rattle.flat_collect.specs.Search.{IsOn, IsSearch, mark_of, work, work_at, left, trail}
 use Rattle.flat_graph.specs.declared.nodes.GraphNode.{GraphNode}
 use Rattle.flat_graph.specs.Reasons.{links_in}
@@ -16,11 +16,11 @@ use Rattle.flat_graph.specs.State.{GraphState, IsKept, IsSound, node_at}
 use Rattle.flat_collect.proofs.Walks.{acyclic-children, at_contained, cycle_found}
 
 -- what the mark of a key is after a change of one key's mark
-abbrev pub IsAfter : List Mark → ℕ → Mark → ℕ → Type 0
+abbrev pub IsAfter : List SearchMark → ℕ → SearchMark → ℕ → Type 0
 IsAfter marks key mark other =
     ((other ≡ key) × (mark_of (slice_set marks key mark) other ≡ mark)) ⊎ ((other ≢ key) × (mark_of (slice_set marks key mark) other ≡ mark_of marks other))
 
-pub mark_after : (marks : List Mark) (key : ℕ) (mark : Mark) (other : ℕ) → key < length marks → IsAfter marks key mark other
+pub mark_after : (marks : List SearchMark) (key : ℕ) (mark : SearchMark) (other : ℕ) → key < length marks → IsAfter marks key mark other
 mark_after marks key mark other within = by_key (eqb_tells other key)
   where
     by_key : ((◌≡◌ (other == key) true) × (other ≡ key)) ⊎ ((◌≡◌ (other == key) false) × (other ≢ key)) → IsAfter marks key mark other
@@ -34,12 +34,12 @@ none_past (x ∷ xs) (suc i) h = let step : length xs ≤ i = none_past xs i h i
 
 module _ (links : ℕ → List ℕ) (root : ℕ) where
   -- the key at the top is a place
-  pub top_within : (marks : List Mark) (key : ℕ) (below : List ℕ) → IsSearch links root marks (key ∷ below) → key < length marks
+  pub top_within : (marks : List SearchMark) (key : ℕ) (below : List ℕ) → IsSearch links root marks (key ∷ below) → key < length marks
   top_within marks key [] s = rw s.ways.0 s.start
   top_within marks key (parent ∷ below) s = s.within parent key s.ways.0
 
   -- a new child comes onto the path
-  pub search-down : (marks : List Mark) (key child : ℕ) (below : List ℕ) → IsSearch links root marks (key ∷ below) → Contains (links key) child
+  pub search-down : (marks : List SearchMark) (key child : ℕ) (below : List ℕ) → IsSearch links root marks (key ∷ below) → Contains (links key) child
       → mark_of marks child ≡ New
       → IsSearch links root (slice_set marks child (Open 0)) (child ∷ key ∷ below)
   search-down marks key child below s has new = record {
@@ -78,7 +78,7 @@ module _ (links : ℕ → List ℕ) (root : ℕ) where
       rooted h (inr apart) = s.rooted (sym apart.1 ∙ h)
 
   -- one child more of the key at the top is done
-  pub search-along : (marks : List Mark) (key i child : ℕ) (below : List ℕ) → IsSearch links root marks (key ∷ below) → mark_of marks key ≡ Open i
+  pub search-along : (marks : List SearchMark) (key i child : ℕ) (below : List ℕ) → IsSearch links root marks (key ∷ below) → mark_of marks key ≡ Open i
       → slice_get (links key) i ≡ Some child → mark_of marks child ≡ Done → IsSearch links root (slice_set marks key (Open (i + 1))) (key ∷ below)
   search-along marks key i child below s opened next finished = record {
     within = λ k c h. rw length-set (s.within k c h);
@@ -124,7 +124,7 @@ module _ (links : ℕ → List ℕ) (root : ℕ) where
       rooted h (inr apart) = s.rooted (sym apart.1 ∙ h)
 
   -- all children of the key at the top are done
-  pub search-done : (marks : List Mark) (key i : ℕ) (below : List ℕ) → IsSearch links root marks (key ∷ below) → mark_of marks key ≡ Open i
+  pub search-done : (marks : List SearchMark) (key i : ℕ) (below : List ℕ) → IsSearch links root marks (key ∷ below) → mark_of marks key ≡ Open i
       → slice_get (links key) i ≡ None → IsSearch links root (slice_set marks key Done) (key ∷ below)
   search-done marks key i below s opened none = record {
     within = λ k c h. rw length-set (s.within k c h);
@@ -169,7 +169,7 @@ module _ (links : ℕ → List ℕ) (root : ℕ) where
       rooted h (inr apart) = s.rooted (sym apart.1 ∙ h)
 
   -- the search goes back from a key that isn't open
-  pub search-back : (marks : List Mark) (key parent : ℕ) (below : List ℕ) → IsSearch links root marks (key ∷ parent ∷ below)
+  pub search-back : (marks : List SearchMark) (key parent : ℕ) (below : List ℕ) → IsSearch links root marks (key ∷ parent ∷ below)
       → ((i : ℕ) → mark_of marks key ≡ Open i → ⊥) → IsSearch links root marks (parent ∷ below)
   search-back marks key parent below s closed = record {
     within = s.within;
@@ -186,23 +186,24 @@ module _ (links : ℕ → List ℕ) (root : ℕ) where
       off k i h (inr on) = on
 
   -- the search ends at a key that isn't open, with nothing below it
-  pub search-end : (marks : List Mark) (key : ℕ) → IsSearch links root marks (key ∷ []) → ((i : ℕ) → mark_of marks key ≡ Open i → ⊥) → ¬ HasCycle links root
+  pub search-end : (marks : List SearchMark) (key : ℕ) → IsSearch links root marks (key ∷ []) → ((i : ℕ) → mark_of marks key ≡ Open i → ⊥)
+      → ¬ HasCycle links root
   search-end marks key s closed = s.done root (by_mark (mark_of marks root) refl)
     where
-      by_mark : (mark : Mark) → mark ≡ mark_of marks root → mark_of marks root ≡ Done
+      by_mark : (mark : SearchMark) → mark ≡ mark_of marks root → mark_of marks root ≡ Done
       by_mark New e = absurd (s.rooted (sym e))
       by_mark (Open i) e = absurd (closed i (rw s.ways.0 (sym e)))
       by_mark Done e = sym e
 
   -- a child that is open closes a cycle
-  pub search-found : (marks : List Mark) (key i child : ℕ) (below : List ℕ) → IsSearch links root marks (key ∷ below) → Contains (links key) child
+  pub search-found : (marks : List SearchMark) (key i child : ℕ) (below : List ℕ) → IsSearch links root marks (key ∷ below) → Contains (links key) child
       → mark_of marks child ≡ Open i → HasCycle links root
   search-found marks key i child below s has opened = cycle_found links root child key below s.ways (s.open_on child i opened) has
 
 -- ---- what is left to do
 
 module _ (links : ℕ → List ℕ) where
-  pub work-set : (from : ℕ) (marks : List Mark) (key : ℕ) (mark : Mark) → key < length marks
+  pub work-set : (from : ℕ) (marks : List SearchMark) (key : ℕ) (mark : SearchMark) → key < length marks
       → work links from (slice_set marks key mark) + work_at (length (links (from + key))) (mark_of marks key)
       ≡ work links from marks + work_at (length (links (from + key))) mark
   work-set from [] key mark within = absurd (omega arith)
@@ -212,19 +213,19 @@ module _ (links : ℕ → List ℕ) where
       let same : from + suc key ≡ suc from + key = omega arith in
       rw same (omega (arith, step))
 
-  pub work-less : (marks : List Mark) (key : ℕ) (old new : Mark) → key < length marks → mark_of marks key ≡ old
+  pub work-less : (marks : List SearchMark) (key : ℕ) (old new : SearchMark) → key < length marks → mark_of marks key ≡ old
       → work_at (length (links key)) new < work_at (length (links key)) old → work links 0 (slice_set marks key new) < work links 0 marks
   work-less marks key old new within is less =
       let step = rw (zero-add key, is) at (work-set 0 marks key new within) in
       omega (arith, step, less)
 
-  pub left-down : (marks : List Mark) (path : List ℕ) (key child : ℕ) → child < length marks → mark_of marks child ≡ New
+  pub left-down : (marks : List SearchMark) (path : List ℕ) (key child : ℕ) → child < length marks → mark_of marks child ≡ New
       → left links (slice_set marks child (Open 0)) (path ++ key ∷ []) < left links marks path
   left-down marks path key child within new =
       let step : work links 0 (slice_set marks child (Open 0)) < work links 0 marks = work-less marks child New (Open 0) within new (omega arith) in
       omega (arith, step, length-append path (key ∷ []))
 
-  pub left-along : (marks : List Mark) (path : List ℕ) (key i child : ℕ) → key < length marks → mark_of marks key ≡ Open i
+  pub left-along : (marks : List SearchMark) (path : List ℕ) (key i child : ℕ) → key < length marks → mark_of marks key ≡ Open i
       → slice_get (links key) i ≡ Some child
       → left links (slice_set marks key (Open (i + 1))) path < left links marks path
   left-along marks path key i child within opened next =
@@ -233,7 +234,7 @@ module _ (links : ℕ → List ℕ) where
       work-less marks key (Open i) (Open (i + 1)) within opened (omega arith) in
       omega (arith, step)
 
-  pub left-done : (marks : List Mark) (path : List ℕ) (key i : ℕ) → key < length marks → mark_of marks key ≡ Open i
+  pub left-done : (marks : List SearchMark) (path : List ℕ) (key i : ℕ) → key < length marks → mark_of marks key ≡ Open i
       → left links (slice_set marks key Done) path < left links marks path
   left-done marks path key i within opened =
       let step : work links 0 (slice_set marks key Done) < work links 0 marks = work-less marks key (Open i) Done within opened (omega arith) in
@@ -245,17 +246,17 @@ trail-back key parent before after e = rw (e, reverse-append)
 pub trail-down : (key child : ℕ) (path : List ℕ) → trail child (path ++ key ∷ []) ≡ child ∷ trail key path
 trail-down key child path = rw reverse-append
 
-get_or_any : (marks : List Mark) (key : ℕ) (d e : Mark) → key < length marks → slice_index_or marks key d ≡ slice_index_or marks key e
+get_or_any : (marks : List SearchMark) (key : ℕ) (d e : SearchMark) → key < length marks → slice_index_or marks key d ≡ slice_index_or marks key e
 get_or_any [] key d e within = absurd (omega arith)
 get_or_any (m ∷ marks) zero d e within = refl
 get_or_any (m ∷ marks) (suc key) d e within = get_or_any marks key d e (omega arith)
 
 -- a mark that was read
-pub mark_read : (marks : List Mark) (key : ℕ) (mark : Mark) → key < length marks → mark ≡ slice_index_or marks key mark → mark_of marks key ≡ mark
+pub mark_read : (marks : List SearchMark) (key : ℕ) (mark : SearchMark) → key < length marks → mark ≡ slice_index_or marks key mark → mark_of marks key ≡ mark
 mark_read marks key mark within e = get_or_any marks key New mark within ∙ sym e
 
 -- the search begins at the root alone
-pub search-begin : (links : ℕ → List ℕ) (root : ℕ) (marks : List Mark) → ((key : ℕ) → mark_of marks key ≡ New)
+pub search-begin : (links : ℕ → List ℕ) (root : ℕ) (marks : List SearchMark) → ((key : ℕ) → mark_of marks key ≡ New)
     → ((key child : ℕ) → Contains (links key) child → child < length marks)
     → root < length marks → IsSearch links root (slice_set marks root (Open 0)) (root ∷ [])
 search-begin links root marks new within start = record {

@@ -3,12 +3,12 @@ use Rattle.std.proofs.Common.{ℕ, ◌≡◌, inl, inr, refl, sym, ◌∙◌, ap
 use Rattle.std.specs.Prelude.{is_some, count_by}
 use Rattle.std.specs.List.{Contains}
 use Rattle.std.proofs.lemmas.List.{length-map}
-use Rattle.flat_graph.specs.declared.names.Named.{Named}
+use Rattle.flat_graph.specs.declared.names.NamedNode.{NamedNode}
 use Rattle.flat_graph.specs.declared.nodes.GraphNode.{GraphNode}
 use Rattle.flat_graph.specs.Reasons.{links_in, links_of}
 use Rattle.flat_graph.specs.State.{GraphState, IsKept, IsMarked, IsSound, MayKeep, marked_nodes, node_at, only_marked}
 use Rattle.flat_graph.proofs.lemmas.FewerNodes.{Leaves, leaves-marked}
-use Rattle.flat_collect.specs.declared.reached.Reached.{Reached}
+use Rattle.flat_collect.specs.declared.reached_nodes.ReachedNodes.{ReachedNodes}
 use Rattle.flat_collect.specs.Marking.{AreReached}
 use Rattle.flat_collect.specs.Sweep.{IsReached, IsSwept}
 use Rattle.flat_collect.proofs.Counting.{all-listed, keys_of, listed-named, names-once}
@@ -27,9 +27,9 @@ module _ (graph : GraphState) where
 
       listed : (key : ℕ) → IsKept graph.nodes key → Contains (keys_of graph.names) key
       listed = all-listed (keys_of graph.names) graph.nodes (names-once graph.names sound.rising sound.apart) all-kept
-          (length-map graph.names (λ (name : Named). name.key) ∙ many)
+          (length-map graph.names (λ (name : NamedNode). name.key) ∙ many)
 
-  module _ (found : Reached) (all : AreReached graph found) where
+  module _ (found : ReachedNodes) (all : AreReached graph found) where
     -- there are as many nodes as keys that are found
     pub swept-found : IsSound graph → length found.keys.items ≡ count_by is_some graph.nodes → IsSwept graph graph
     swept-found sound many = swept-same (λ key kept. reached key

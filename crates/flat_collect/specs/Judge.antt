@@ -4,18 +4,18 @@ use Rattle.std.specs.Prelude.{cond}
 use Rattle.flat_base.specs.declared.errors.Reason.{Reason}
 use Rattle.flat_base.specs.declared.errors.Reason.TheVariants.{Cycle, TreeTooLarge, ViewportTwice}
 use Rattle.flat_base.specs.declared.limits.TheConstants.{TREE_NODES_MAX, PATH_NODES_MAX}
-use Rattle.flat_scene.specs.declared.trees.Held.{Held}
+use Rattle.flat_scene.specs.declared.trees.HeldContent.{HeldContent}
 use Rattle.flat_scene.specs.Cycles.{HasCycle}
 use Rattle.flat_scene.specs.Misuse.{has_twice}
 use Rattle.flat_graph.specs.declared.nodes.GraphNode.{GraphNode}
 use Rattle.flat_graph.specs.Reasons.{links_in}
 use Rattle.flat_graph.specs.State.{GraphState, node_at}
-use Rattle.flat_collect.specs.declared.Verdict.{Verdict}
-use Rattle.flat_collect.specs.declared.Verdict.TheVariants.{Good, Bad}
+use Rattle.flat_collect.specs.declared.TreeCheck.{TreeCheck}
+use Rattle.flat_collect.specs.declared.TreeCheck.TheVariants.{Good, Bad}
 use Rattle.flat_collect.specs.Forest.{Forest, unfolded, size, height, held}
 
 -- the serial of a content, if it is a viewport
-abbrev pub viewport_held : Option Held → Option ℕ
+abbrev pub viewport_held : Option HeldContent → Option ℕ
 viewport_held None = None
 viewport_held (Some content) = cond content.viewport (Some content.serial) None
 
@@ -58,6 +58,6 @@ pub record HasTree (graph : GraphState) : Type 0 where
   pub once : IsFalse (shows_twice graph)
 
 -- the verdict on a graph: its tree has so many nodes, or this is the first reason why it has none
-abbrev pub IsJudged : GraphState → Verdict → Type 0
+abbrev pub IsJudged : GraphState → TreeCheck → Type 0
 IsJudged graph (Good nodes) = HasTree graph × (nodes ≡ size (graph_tree graph))
 IsJudged graph (Bad reason) = HasFault graph reason

@@ -9,8 +9,8 @@ use Rattle.flat_scene.specs.Trees.{node_count}
 use Rattle.flat_graph.specs.Reasons.{links_in}
 use Rattle.flat_graph.specs.State.{GraphState}
 use Rattle.flat_graph.specs.Stands.{StandsFor}
-use Rattle.flat_collect.specs.declared.Verdict.{Verdict}
-use Rattle.flat_collect.specs.declared.Verdict.TheVariants.{Good, Bad}
+use Rattle.flat_collect.specs.declared.TreeCheck.{TreeCheck}
+use Rattle.flat_collect.specs.declared.TreeCheck.TheVariants.{Good, Bad}
 use Rattle.flat_collect.specs.Forest.{unfolded}
 use Rattle.flat_collect.specs.Judge.{IsJudged, graph_tree}
 use Rattle.flat_collect.specs.Sweep.{IsReached, IsSwept}
@@ -23,12 +23,12 @@ pub record Presents (draft : Draft) (nodes : ℕ) : Type 0 where
   pub counted : node_count all ≡ nodes
 
 -- what a verdict says of a draft
-abbrev pub IsVerdict : Draft → Verdict → Type 0
+abbrev pub IsVerdict : Draft → TreeCheck → Type 0
 IsVerdict draft (Good nodes) = Presents draft nodes
 IsVerdict draft (Bad reason) = first_reason (tree_tests draft) ≡ Some reason
 
 abbrev pub VerdictStands : Type 0
-VerdictStands = (graph : GraphState) (draft : Draft) (verdict : Verdict) → StandsFor graph draft
+VerdictStands = (graph : GraphState) (draft : Draft) (verdict : TreeCheck) → StandsFor graph draft
     → IsJudged graph verdict → IsVerdict draft verdict
 
 -- A swept graph stands for each draft for which the graph stood.

@@ -3,7 +3,7 @@ use Rattle.std.specs.Prelude.{ℕ, ◌<◌, ◌≤◌, ◌≡◌, ◌⊎◌, Lis
 use Rattle.std.specs.List.{Contains}
 use Rattle.flat_graph.specs.Reasons.{links_in}
 use Rattle.flat_graph.specs.State.{GraphState, IsKept, IsMarked}
-use Rattle.flat_collect.specs.declared.reached.Reached.{Reached}
+use Rattle.flat_collect.specs.declared.reached_nodes.ReachedNodes.{ReachedNodes}
 use Rattle.flat_collect.specs.Sweep.{IsReached, IsStart}
 
 -- no key stands twice
@@ -12,13 +12,13 @@ IsOnce [] = Unit {0}
 IsOnce (key ∷ keys) = (¬ Contains keys key) × IsOnce keys
 
 -- the marks are at the keys of the list, in which each stands once
-pub record IsListed (found : Reached) : Type 0 where
+pub record IsListed (found : ReachedNodes) : Type 0 where
   pub marked : (key : ℕ) → Contains found.keys.items key → IsMarked found.marks.items key
   pub listed : (key : ℕ) → IsMarked found.marks.items key → Contains found.keys.items key
   pub once : IsOnce found.keys.items
 
 -- these keys were put behind those that were found before, where they weren't among them
-pub record Adds (added : List ℕ) (old new : Reached) : Type 0 where
+pub record Adds (added : List ℕ) (old new : ReachedNodes) : Type 0 where
   pub listed : IsListed new
   pub places : length new.marks.items ≡ length old.marks.items
   pub later : List ℕ
@@ -29,7 +29,7 @@ pub record Adds (added : List ℕ) (old new : Reached) : Type 0 where
 
 -- All that is found is reached, the starts are found, and so are the children of the first keys of the list, so many
 -- of them.
-pub record IsFinding (graph : GraphState) (found : Reached) (done : ℕ) : Type 0 where
+pub record IsFinding (graph : GraphState) (found : ReachedNodes) (done : ℕ) : Type 0 where
   pub listed : IsListed found
   pub covers : (key : ℕ) → IsKept graph.nodes key → key < length found.marks.items
   pub starts : (key : ℕ) → IsStart graph key → IsMarked found.marks.items key
@@ -39,7 +39,7 @@ pub record IsFinding (graph : GraphState) (found : Reached) (done : ℕ) : Type 
   pub within : done ≤ length found.keys.items
 
 -- what is reached is found, and nothing else
-pub record AreReached (graph : GraphState) (found : Reached) : Type 0 where
+pub record AreReached (graph : GraphState) (found : ReachedNodes) : Type 0 where
   pub listed : IsListed found
   pub covers : (key : ℕ) → IsKept graph.nodes key → key < length found.marks.items
   pub marked : (key : ℕ) → IsReached graph key → IsMarked found.marks.items key

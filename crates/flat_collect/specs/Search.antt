@@ -3,12 +3,12 @@ use Rattle.std.specs.Prelude.{ℕ, suc, ◌+◌, ◌-◌, ◌*◌, ◌<◌, ◌�
 use Rattle.std.specs.Prelude.{slice_index_or}
 use Rattle.std.specs.List.{Contains}
 use Rattle.flat_scene.specs.Cycles.{HasCycle}
-use Rattle.flat_collect.specs.declared.cycle.Mark.{Mark}
-use Rattle.flat_collect.specs.declared.cycle.Mark.TheVariants.{New, Open, Done}
-use Rattle.flat_collect.specs.declared.cycle.Step.{Step}
-use Rattle.flat_collect.specs.declared.cycle.Step.TheVariants.{On, Found, Ended}
+use Rattle.flat_collect.specs.declared.cycle.SearchMark.{SearchMark}
+use Rattle.flat_collect.specs.declared.cycle.SearchMark.TheVariants.{New, Open, Done}
+use Rattle.flat_collect.specs.declared.cycle.SearchStep.{SearchStep}
+use Rattle.flat_collect.specs.declared.cycle.SearchStep.TheVariants.{On, Found, Ended}
 
-abbrev pub mark_of : List Mark → ℕ → Mark
+abbrev pub mark_of : List SearchMark → ℕ → SearchMark
 mark_of marks key = slice_index_or marks key New
 
 abbrev pub IsOn : ℕ → List ℕ → Type 0
@@ -20,17 +20,17 @@ abbrev pub trail : ℕ → List ℕ → List ℕ
 trail key path = key ∷ reverse path
 
 -- what is left to do at a key with so many children
-abbrev pub work_at : ℕ → Mark → ℕ
+abbrev pub work_at : ℕ → SearchMark → ℕ
 work_at children New = children + 2
 work_at children (Open i) = 1 + (children - i)
 work_at children Done = 0
 
 -- what is left to do at the keys from this one on
-abbrev pub work : (ℕ → List ℕ) → ℕ → List Mark → ℕ
+abbrev pub work : (ℕ → List ℕ) → ℕ → List SearchMark → ℕ
 work links key [] = 0
 work links key (mark ∷ marks) = work_at (length (links key)) mark + work links (suc key) marks
 
-abbrev pub left : (ℕ → List ℕ) → List Mark → List ℕ → ℕ
+abbrev pub left : (ℕ → List ℕ) → List SearchMark → List ℕ → ℕ
 left links marks path = 2 * work links 0 marks + length path
 
 module _ (links : ℕ → List ℕ) (root : ℕ) where
@@ -44,7 +44,7 @@ module _ (links : ℕ → List ℕ) (root : ℕ) where
   IsTrail [] = Unit {0}
   IsTrail (key ∷ below) = IsNext key below × IsTrail below
 
-  pub record IsSearch (marks : List Mark) (path : List ℕ) : Type 0 where
+  pub record IsSearch (marks : List SearchMark) (path : List ℕ) : Type 0 where
     pub within : (key child : ℕ) → Contains (links key) child → child < length marks
     pub start : root < length marks
     pub ways : IsTrail path
@@ -57,7 +57,7 @@ module _ (links : ℕ → List ℕ) (root : ℕ) where
     pub rooted : ¬ (mark_of marks root ≡ New)
 
   -- what a step tells
-  abbrev pub Tells : List Mark → List ℕ → ℕ → List Mark → ℕ → List ℕ → Step → Type 0
+  abbrev pub Tells : List SearchMark → List ℕ → ℕ → List SearchMark → ℕ → List ℕ → SearchStep → Type 0
   Tells marks path key marks' key' path' On =
       IsSearch marks' (trail key' path') × (left links marks' path' < left links marks path)
   Tells marks path key marks' key' path' Found = HasCycle links root

@@ -10,7 +10,7 @@ use std::alloc::Global;
 
 /// How far the search has come with a key.
 #[derive(Clone, Copy)]
-pub enum Mark {
+pub enum SearchMark {
     /// It was not met.
     New,
     /// It is on the path, and so many of its children are done.
@@ -21,7 +21,7 @@ pub enum Mark {
 
 /// What a step of the search comes to.
 #[derive(Clone, Copy)]
-pub enum Step {
+pub enum SearchStep {
     /// There is more to do.
     On,
     /// There is a cycle.
@@ -49,37 +49,37 @@ fn advance(
     graph: &Graph,
     root: usize,
     key: &mut usize,
-    marks: &mut Vec<Mark>,
+    marks: &mut Vec<SearchMark>,
     path: &mut Vec<usize>,
-) -> Result<Step, NoMemory>
+) -> Result<SearchStep, NoMemory>
     requires { IsSearch (links_in graph.now) root marks.old.items (trail key.old path.old.items) }
     ensures { IfOk result (Tells (links_in graph.now) root marks.old.items path.old.items key.old
         marks.new.items key.new path.new.items) }
 {
-    let Mark::Open(i) = marks[*key] else {
+    let SearchMark::Open(i) = marks[*key] else {
         return match path.pop() {
             Some(parent) => {
                 *key = parent;
-                Ok(Step::On)
+                Ok(SearchStep::On)
             }
-            None => Ok(Step::Ended),
+            None => Ok(SearchStep::Ended),
         };
     };
     let Some(child) = child_at(graph, *key, i) else {
-        marks[*key] = Mark::Done;
-        return Ok(Step::On);
+        marks[*key] = SearchMark::Done;
+        return Ok(SearchStep::On);
     };
     match marks[child] {
-        Mark::New => {
+        SearchMark::New => {
             path.push(*key)?;
-            marks[child] = Mark::Open(0);
+            marks[child] = SearchMark::Open(0);
             *key = child;
-            Ok(Step::On)
+            Ok(SearchStep::On)
         }
-        Mark::Open(_) => Ok(Step::Found),
-        Mark::Done => {
-            marks[*key] = Mark::Open(i + 1);
-            Ok(Step::On)
+        SearchMark::Open(_) => Ok(SearchStep::Found),
+        SearchMark::Done => {
+            marks[*key] = SearchMark::Open(i + 1);
+            Ok(SearchStep::On)
         }
     }
 }
@@ -91,15 +91,15 @@ pub fn has_cycle(alloc: Global, graph: &Graph, root: usize) -> Result<bool, NoMe
 {
     // Tells the proof that each link leads to a node.
     let _ = graph.root();
-    let mut marks = Vec::from_elem(alloc, Mark::New, graph.places())?;
+    let mut marks = Vec::from_elem(alloc, SearchMark::New, graph.places())?;
     let mut path = Vec::new(alloc);
     let mut key = root;
-    marks[root] = Mark::Open(0);
+    marks[root] = SearchMark::Open(0);
     'search: loop {
         match advance(graph, root, &mut key, &mut marks, &mut path)? {
-            Step::On => {}
-            Step::Found => return Ok(true),
-            Step::Ended => return Ok(false),
+            SearchStep::On => {}
+            SearchStep::Found => return Ok(true),
+            SearchStep::Ended => return Ok(false),
         }
     }
 }

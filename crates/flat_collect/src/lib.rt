@@ -2,7 +2,7 @@
 //! of its nodes are still reached.
 //!
 //! `judge` (here; walk, cycle, repeats) answers the verdict of specs/Judge, and `sweep`
-//! (sweeping, reached) leaves what specs/Sweep says.
+//! (sweeping, reached_nodes) leaves what specs/Sweep says.
 //!
 //! Other crates may cite the lemmas of proofs/lemmas/: that the graph stands for the
 //! draft (Stands), how the judge walks (Walking), its verdicts (Verdicts), and what a
@@ -14,7 +14,7 @@ ghost use Rattle.flat_collect.specs.Judge.{IsJudged};
 
 mod cycle;
 mod laws;
-mod reached;
+mod reached_nodes;
 mod repeats;
 mod sweeping;
 mod walk;
@@ -30,7 +30,7 @@ use std::alloc::Global;
 
 /// Whether a graph has a tree to present.
 #[derive(Clone, Copy)]
-pub enum Verdict {
+pub enum TreeCheck {
     /// It has, of so many nodes: one for each path from the root, and none where
     /// there is no root.
     Good { nodes: u32 },
@@ -44,23 +44,23 @@ pub enum Verdict {
 /// It looks at no more than 1,025 of the tree's nodes, however many paths there
 /// are. Only where these are too many or one lies too deep, it searches the graph
 /// for a cycle, once through its nodes and links.
-pub fn judge(alloc: Global, graph: &Graph) -> Result<Verdict, NoMemory>
+pub fn judge(alloc: Global, graph: &Graph) -> Result<TreeCheck, NoMemory>
     ensures { IfOk result (IsJudged graph.now) }
 {
     let Some(root) = graph.root() else {
-        return Ok(Verdict::Good { nodes: 0 });
+        return Ok(TreeCheck::Good { nodes: 0 });
     };
     let mut nodes = 0;
     let mut viewports = Vec::new(alloc);
     if walk(graph, &[root], PATH_NODES_MAX, &mut nodes, &mut viewports)? {
         if has_twice(viewports) {
-            Ok(Verdict::Bad(Reason::ViewportTwice))
+            Ok(TreeCheck::Bad(Reason::ViewportTwice))
         } else {
-            Ok(Verdict::Good { nodes })
+            Ok(TreeCheck::Good { nodes })
         }
     } else if has_cycle(alloc, graph, root)? {
-        Ok(Verdict::Bad(Reason::Cycle))
+        Ok(TreeCheck::Bad(Reason::Cycle))
     } else {
-        Ok(Verdict::Bad(Reason::TreeTooLarge))
+        Ok(TreeCheck::Bad(Reason::TreeTooLarge))
     }
 }

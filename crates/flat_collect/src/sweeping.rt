@@ -1,7 +1,7 @@
 ghost use Rattle.std.specs.Prelude.{◌≡◌, ◌+◌, is_some, count_by, IfOk, OnOk, OnErr};
 ghost use Rattle.flat_collect.specs.Sweep.{IsSwept};
 
-use crate::reached::Reached;
+use crate::reached_nodes::ReachedNodes;
 use flat_base::NoMemory;
 use flat_graph::Graph;
 use std::alloc::Global;
@@ -24,7 +24,7 @@ pub fn sweep(alloc: Global, graph: &mut Graph) -> Result<u32, NoMemory>
     if graph.names().len() == graph.len() {
         return Ok(0);
     }
-    let found = Reached::find(alloc, graph)?;
+    let found = ReachedNodes::find(alloc, graph)?;
     if found.keys.len() == graph.len() {
         return Ok(0);
     }

@@ -5,7 +5,7 @@ ghost use Rattle.flat_compose.specs.Brushes.{painting};
 use flat_base::{COLOUR_MAX, OPACITY_MAX};
 use flat_join::through;
 use flat_scene::{BlendMode, Content, Paint};
-use flat_topology::Placed;
+use flat_topology::PlacedNode;
 
 /// What a content paints.
 #[derive(Clone, Copy)]
@@ -32,7 +32,7 @@ fn blend_for(rgba: [u8; 4]) -> BlendMode
 }
 
 /// What the content of a node paints; a viewport paints nothing.
-pub fn brush_for(at: &Placed) -> Option<Brush>
+pub fn brush_for(at: &PlacedNode) -> Option<Brush>
     requires { at.now.opacity ≤ OPACITY_MAX }
     ensures { option_map painting result ≡ painting_of at.now.opacity at.now.content }
 {

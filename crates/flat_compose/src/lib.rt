@@ -12,7 +12,7 @@ use crate::brush::brush_for;
 use flat_base::{NoMemory, OPACITY_MAX, Rect, Roomy};
 use flat_geom::{Matrix, intersect, is_empty, map_rect, sized};
 use flat_scene::{DrawItem, ItemList, SceneMatrix};
-use flat_topology::{Joined, Placed};
+use flat_topology::{GlobalTopology, PlacedNode};
 use std::alloc::Global;
 
 fn for_display(m: Matrix) -> SceneMatrix
@@ -27,14 +27,14 @@ fn for_display(m: Matrix) -> SceneMatrix
     }
 }
 
-fn visible(at: &Placed, w: u32, h: u32) -> Rect
+fn visible(at: &PlacedNode, w: u32, h: u32) -> Rect
     ensures { result ≡ visible_rect at.now w h }
 {
     intersect(map_rect(at.matrix, sized(w, h)), at.clip)
 }
 
 /// The item that a node gives, if it gives one.
-pub fn item(at: &Placed) -> Option<DrawItem>
+pub fn item(at: &PlacedNode) -> Option<DrawItem>
     requires { at.now.opacity ≤ OPACITY_MAX }
     ensures { result ≡ node_item at.now }
 {
@@ -57,7 +57,7 @@ pub fn item(at: &Placed) -> Option<DrawItem>
 }
 
 /// Appends the item that a node gives, if it gives one.
-fn draw(items: &mut Roomy<DrawItem>, at: &Placed)
+fn draw(items: &mut Roomy<DrawItem>, at: &PlacedNode)
     requires low { at.now.opacity ≤ OPACITY_MAX }
     requires room { 0 < items.old.room }
     ensures items { items.new.items ≡ items.old.items ++ option_to_list (node_item at.now) }
@@ -71,7 +71,7 @@ fn draw(items: &mut Roomy<DrawItem>, at: &Placed)
 /// The draw list of a joined tree. The room is taken once.
 ///
 /// No opacity of a node that [`join`](flat_join::join) placed is above one.
-pub fn compose(alloc: Global, joined: &Joined) -> Result<ItemList, NoMemory>
+pub fn compose(alloc: Global, joined: &GlobalTopology) -> Result<ItemList, NoMemory>
     requires { All (λ at. at.opacity ≤ OPACITY_MAX) joined.now.nodes }
     ensures { IfOk result (λ items. items ≡ items_of joined.now.nodes) }
 {

@@ -8,7 +8,7 @@ use Rattle.flat_scene.specs.declared.calls.ViewportProps.{ViewportProps}
 use Rattle.flat_scene.specs.declared.setup.BufferDecl.{BufferDecl}
 use Rattle.flat_scene.specs.declared.trees.Content.TheVariants as shown
 use Rattle.flat_scene.specs.Misuse.{first_reason, is_fill, is_image, is_viewport}
-use Rattle.flat_content.specs.declared.stored.Stored.TheVariants.{Fill, Viewport}
+use Rattle.flat_content.specs.declared.stored_content.StoredContent.TheVariants.{Fill, Viewport}
 use Rattle.flat_content.specs.Limits.{are_sides}
 use Rattle.flat_content.specs.Reasons.{create_tests, given_tests, image_tests, opacity_tests, properties_tests, sample_tests, size_tests, solid_tests}
 use Rattle.flat_content.specs.Reasons.{sort_tests, viewport_tests}

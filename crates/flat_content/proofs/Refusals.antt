@@ -9,9 +9,9 @@ use Rattle.flat_scene.specs.Draft.{of_serial}
 use Rattle.flat_scene.specs.Misuse.{Test, first_reason, leaves, leaves_made}
 use Rattle.flat_scene.proofs.lemmas.FirstReasons.{refused_before}
 use Rattle.flat_graph.specs.Names.{key_named}
-use Rattle.flat_content.specs.declared.stored.Stored.{Stored}
-use Rattle.flat_content.specs.declared.stored.StoredImage.{StoredImage}
-use Rattle.flat_content.specs.declared.stored.Stored.TheVariants.{Image}
+use Rattle.flat_content.specs.declared.stored_content.StoredContent.{StoredContent}
+use Rattle.flat_content.specs.declared.stored_content.StoredImage.{StoredImage}
+use Rattle.flat_content.specs.declared.stored_content.StoredContent.TheVariants.{Image}
 use Rattle.flat_content.specs.Table.{TableState, as_made, made_at, made_named}
 
 -- an answer that hands a refusal on
@@ -27,4 +27,4 @@ pub leaves_stored : (table : TableState) (id serial : ℕ) (image : StoredImage)
     → leaves_made rect (made_named table id) ≡ leaves rect image.size
 leaves_stored table id serial image rect named stored =
     ap (λ (s : Option ℕ). leaves_made rect (option_and_then (made_at table) s)) named
-    ∙ ap (λ (s : Option Stored). leaves_made rect (option_map as_made s)) stored
+    ∙ ap (λ (s : Option StoredContent). leaves_made rect (option_map as_made s)) stored

@@ -8,11 +8,11 @@ use Rattle.flat_base.specs.declared.limits.TheConstants.{SIDE_MAX}
 use Rattle.flat_scene.specs.declared.setup.BufferDecl.{BufferDecl}
 use Rattle.flat_scene.specs.Draft.{changed_at, of_serial}
 use Rattle.flat_scene.specs.Misuse.{is_bad_image, is_bad_index}
-use Rattle.flat_graph.specs.declared.names.Named.{Named}
+use Rattle.flat_graph.specs.declared.names.NamedNode.{NamedNode}
 use Rattle.flat_graph.specs.Names.{key_named, names_but, IsRising}
 use Rattle.flat_graph.proofs.lemmas.DraftNames.{changed-length}
 use Rattle.flat_graph.proofs.lemmas.NameLemmas.{named-with, named-but, rising-with, rising-but, length-but}
-use Rattle.flat_content.specs.declared.stored.Stored.{Stored}
+use Rattle.flat_content.specs.declared.stored_content.StoredContent.{StoredContent}
 use Rattle.flat_content.proofs.Serials.{changed-alike}
 use Rattle.flat_content.specs.Limits.{are_sides}
 use Rattle.flat_content.specs.Table.{TableState, IsSound, IsTable, HasRoom, change_at, change_named, released, with_stored}
@@ -38,7 +38,7 @@ pub table-released : (table : TableState) (id : ℕ) → IsTable table → IsTab
 table-released table id t = record { sound = sound-released table id t.sound; few = t.few; sides = t.sides }
 
 -- where the contents are as many, and the names the same
-pub sound-changed : (table : TableState) (contents : List Stored) → length contents ≡ length table.contents → IsSound table
+pub sound-changed : (table : TableState) (contents : List StoredContent) → length contents ≡ length table.contents → IsSound table
     → IsSound (record table { contents = contents })
 sound-changed table contents same t = record {
   rising = t.rising;
@@ -47,11 +47,12 @@ sound-changed table contents same t = record {
   made = λ id serial e. let low : serial ≤ length table.contents = t.made id serial e in omega arith;
 }
 
-pub change-length : (at : Option ℕ) (change : Stored → Stored) (contents : List Stored) → length (change_at at change contents) ≡ length contents
+pub change-length : (at : Option ℕ) (change : StoredContent → StoredContent) (contents : List StoredContent)
+    → length (change_at at change contents) ≡ length contents
 change-length None change contents = refl
 change-length (Some serial) change contents = changed-length serial change contents
 
-pub table-set : (table : TableState) (serial : ℕ) (change : Stored → Stored) → IsTable table
+pub table-set : (table : TableState) (serial : ℕ) (change : StoredContent → StoredContent) → IsTable table
     → IsTable (record table { contents = changed_at serial change table.contents })
 table-set table serial change t = record {
   sound = sound-changed table (changed_at serial change table.contents) (changed-length serial change table.contents) t.sound;
@@ -59,7 +60,7 @@ table-set table serial change t = record {
   sides = t.sides;
 }
 
-pub sound-added : (table : TableState) (id : ℕ) (stored : Stored) → id ≢ 0 → key_named table.names id ≡ None → IsSound table
+pub sound-added : (table : TableState) (id : ℕ) (stored : StoredContent) → id ≢ 0 → key_named table.names id ≡ None → IsSound table
     → IsSound (with_stored table id stored)
 sound-added table id stored some absent t = record {
   rising = rising-with name table.names absent t.rising;
@@ -68,7 +69,7 @@ sound-added table id stored some absent t = record {
   made = λ other serial e. high other serial (id == other) (length-append table.contents (stored ∷ [])) (sym (named-with name table.names other absent) ∙ e);
 }
   where
-    name : Named
+    name : NamedNode
     name = record { id = id; key = length table.contents + 1 }
 
     zero_none : (b : Bool) → (id == 0) ≡ b → cond b (Some (length table.contents + 1)) (key_named table.names 0) ≡ None
@@ -85,7 +86,7 @@ sound-added table id stored some absent t = record {
     high other serial true more e = let same : length table.contents + 1 ≡ serial = cc in omega arith
     high other serial false more e = let within : serial ≤ length table.contents = t.made other serial e in omega arith
 
-pub table-added : (table : TableState) (id : ℕ) (stored : Stored) → id ≢ 0 → key_named table.names id ≡ None → length table.contents + 1 < 2 ^ 32
+pub table-added : (table : TableState) (id : ℕ) (stored : StoredContent) → id ≢ 0 → key_named table.names id ≡ None → length table.contents + 1 < 2 ^ 32
     → IsTable table → IsTable (with_stored table id stored)
 table-added table id stored some absent room t = record {
   sound = sound-added table id stored some absent t.sound;
@@ -94,13 +95,13 @@ table-added table id stored some absent room t = record {
 }
 
 -- putting what a change makes of a content in its place is that change
-pub set-by : (table : TableState) (id serial : ℕ) (was now : Stored) (change : Stored → Stored) (contents : List Stored)
+pub set-by : (table : TableState) (id serial : ℕ) (was now : StoredContent) (change : StoredContent → StoredContent) (contents : List StoredContent)
     → key_named table.names id ≡ Some serial → of_serial table.contents serial ≡ Some was
     → now ≡ change was → contents ≡ changed_at serial (λ _. now) table.contents → record table { contents = contents } ≡ change_named table id change
 set-by table id serial was now change contents named there same put =
     let e : contents ≡ change_at (key_named table.names id) change table.contents =
     put ∙ changed-alike table.contents serial (λ _. now) change was there same ∙ ap (λ (x : Option ℕ). change_at x change table.contents) (sym named) in
-    ap (λ (cs : List Stored). let t : TableState = record table { contents = cs } in t) e
+    ap (λ (cs : List StoredContent). let t : TableState = record table { contents = cs } in t) e
 
 sides-get : (buffers : List BufferDecl) (i : ℕ) (decl : BufferDecl) → list_all are_sides buffers ≡ true → slice_get buffers i ≡ Some decl
     → are_sides decl ≡ true
@@ -160,7 +161,7 @@ room-fewer room fewer same fewer' same' = record {
 }
 
 -- no more names where one was taken away
-pub but-fewer : (id : ℕ) (names : List Named) → IsRising names → length (names_but id names) ≤ length names
+pub but-fewer : (id : ℕ) (names : List NamedNode) → IsRising names → length (names_but id names) ≤ length names
 but-fewer id names rising = fewer (is_some (key_named names id)) (length-but id names rising)
   where
     fewer : (b : Bool) → length (names_but id names) + cond b 1 0 ≡ length names → length (names_but id names) ≤ length names

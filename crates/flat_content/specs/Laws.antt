@@ -22,7 +22,7 @@ use Rattle.flat_scene.specs.Misuse.{Test, misuse, first_reason, is_fill, is_imag
 use Rattle.flat_scene.specs.Tree.{content_held, use_of}
 use Rattle.flat_graph.specs.Laws.{IsContent}
 use Rattle.flat_graph.specs.State.{GraphState}
-use Rattle.flat_content.specs.declared.stored.Stored.TheVariants.{Fill, Viewport}
+use Rattle.flat_content.specs.declared.stored_content.StoredContent.TheVariants.{Fill, Viewport}
 use Rattle.flat_content.specs.Reasons.{create_tests, image_tests, opacity_tests, properties_tests, sample_tests}
 use Rattle.flat_content.specs.Reasons.{size_tests, sort_tests, solid_tests, viewport_tests}
 use Rattle.flat_content.specs.Table.{TableState, change_named, cleared, content_at, empty_table, held_of, made_named}

@@ -11,21 +11,21 @@ use Rattle.flat_scene.specs.declared.calls.ImageFlip.TheVariants.{Plain}
 use Rattle.flat_scene.specs.declared.calls.ViewportProps.{ViewportProps}
 use Rattle.flat_scene.specs.declared.setup.BufferDecl.{BufferDecl}
 use Rattle.flat_scene.specs.declared.trees.Content.{Content}
-use Rattle.flat_scene.specs.declared.trees.Held.{Held}
+use Rattle.flat_scene.specs.declared.trees.HeldContent.{HeldContent}
 use Rattle.flat_scene.specs.declared.trees.ViewportUse.{ViewportUse}
 use Rattle.flat_scene.specs.Draft.{Made, an_image, a_fill, a_viewport, of_serial, changed_at}
 use Rattle.flat_scene.specs.Effect.{is_serial}
 use Rattle.flat_scene.specs.Misuse.{is_viewport}
 use Rattle.flat_scene.specs.Tree.{shown_content, use_in}
-use Rattle.flat_graph.specs.declared.names.Named.{Named}
+use Rattle.flat_graph.specs.declared.names.NamedNode.{NamedNode}
 use Rattle.flat_graph.specs.Names.{key_named, names_but, names_with, IsRising}
-use Rattle.flat_content.specs.declared.stored.Stored.{Stored}
-use Rattle.flat_content.specs.declared.stored.StoredImage.{StoredImage}
-use Rattle.flat_content.specs.declared.stored.Stored.TheVariants.{Image, Fill, Viewport}
+use Rattle.flat_content.specs.declared.stored_content.StoredContent.{StoredContent}
+use Rattle.flat_content.specs.declared.stored_content.StoredImage.{StoredImage}
+use Rattle.flat_content.specs.declared.stored_content.StoredContent.TheVariants.{Image, Fill, Viewport}
 use Rattle.flat_content.specs.Limits.{are_sides}
 
 -- a stored content, as the draft has it
-abbrev pub as_made : Stored → Made
+abbrev pub as_made : StoredContent → Made
 as_made (Image image) = an_image (record {
   buffers = image.buffers;
   index = image.index;
@@ -44,8 +44,8 @@ as_made (Viewport pair props) = a_viewport pair props
 -- serials, the serials of the viewports in use, and whether there is room for one content more
 pub record TableState : Type 0 where
   pub buffers : List BufferDecl
-  pub contents : List Stored
-  pub names : List Named
+  pub contents : List StoredContent
+  pub names : List NamedNode
   pub viewports : List ℕ
   pub has_room : Bool
 
@@ -97,19 +97,19 @@ abbrev pub use_at : TableState → ℕ → Option ViewportUse
 use_at table serial = option_and_then (use_in serial) (made_at table serial)
 
 -- the content of a serial, as a transform holds it
-abbrev pub held_at : TableState → ℕ → Held
+abbrev pub held_at : TableState → ℕ → HeldContent
 held_at table serial = record { serial = serial; viewport = is_viewport (made_at table serial) }
 
-abbrev pub held_of : TableState → ℕ → Option Held
+abbrev pub held_of : TableState → ℕ → Option HeldContent
 held_of table id = option_map (held_at table) (key_named table.names id)
 
 -- the viewports in use, with one that was made
-abbrev pub in_use : Stored → ℕ → List ℕ → List ℕ
+abbrev pub in_use : StoredContent → ℕ → List ℕ → List ℕ
 in_use (Viewport pair props) serial viewports = viewports ++ serial ∷ []
 in_use other serial viewports = viewports
 
 -- the table with one content more, which an id names and which took the room
-abbrev pub with_stored : TableState → ℕ → Stored → TableState
+abbrev pub with_stored : TableState → ℕ → StoredContent → TableState
 with_stored table id stored = record table {
   contents = table.contents ++ stored ∷ [];
   names = names_with (record { id = id; key = length table.contents + 1 }) table.names;
@@ -118,7 +118,7 @@ with_stored table id stored = record table {
 }
 
 -- an image as it is made
-abbrev pub new_image : BufferNo → ℕ → ℕ → ℕ → Stored
+abbrev pub new_image : BufferNo → ℕ → ℕ → ℕ → StoredContent
 new_image buffers index w h = Image (record {
   buffers = buffers;
   index = index;
@@ -131,21 +131,21 @@ new_image buffers index w h = Image (record {
 })
 
 -- a change of what is an image or a viewport, and of nothing else
-abbrev pub on_image : (StoredImage → StoredImage) → Stored → Stored
+abbrev pub on_image : (StoredImage → StoredImage) → StoredContent → StoredContent
 on_image change (Image image) = Image (change image)
 on_image change other = other
 
-abbrev pub on_viewport : (ViewportProps → ViewportProps) → Stored → Stored
+abbrev pub on_viewport : (ViewportProps → ViewportProps) → StoredContent → StoredContent
 on_viewport change (Viewport pair props) = Viewport pair (change props)
 on_viewport change other = other
 
 -- the contents with that of a serial changed
-abbrev pub change_at : Option ℕ → (Stored → Stored) → List Stored → List Stored
+abbrev pub change_at : Option ℕ → (StoredContent → StoredContent) → List StoredContent → List StoredContent
 change_at None change contents = contents
 change_at (Some serial) change contents = changed_at serial change contents
 
 -- the table with the content changed that an id names
-abbrev pub change_named : TableState → ℕ → (Stored → Stored) → TableState
+abbrev pub change_named : TableState → ℕ → (StoredContent → StoredContent) → TableState
 change_named table id change = record table { contents = change_at (key_named table.names id) change table.contents }
 
 -- the table in which an id names nothing

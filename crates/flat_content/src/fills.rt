@@ -4,7 +4,7 @@ ghost use Rattle.flat_scene.specs.Misuse.{first_reason};
 ghost use Rattle.flat_graph.specs.Names.{key_named};
 
 use crate::limits::is_bad_size;
-use crate::stored::{Stored, StoredFill, is_fill};
+use crate::stored_content::{StoredContent, StoredFill, is_fill};
 use crate::table::{ContentTable, put};
 use flat_base::{ContentId, Reason};
 use flat_graph::remove_name;
@@ -14,7 +14,7 @@ impl ContentTable {
     ghost use Rattle.flat_scene.specs.Misuse as misuse;
     ghost use Rattle.flat_scene.specs.declared.trees.GraphFault.{GraphFault};
     ghost use Rattle.flat_graph.specs.Reasons.{IsFault};
-    ghost use Rattle.flat_content.specs.declared.stored.Stored.TheVariants.{Fill};
+    ghost use Rattle.flat_content.specs.declared.stored_content.StoredContent.TheVariants.{Fill};
     ghost use Rattle.flat_content.specs.Table.{change_named, released, with_stored};
     ghost use Rattle.flat_content.specs.Reasons.{create_tests, sort_tests, solid_tests};
 
@@ -33,7 +33,7 @@ impl ContentTable {
         if let Err(reason) = self.unused(c) {
             return Err(GraphFault::Bad(reason));
         }
-        self.add(c, Stored::Fill(None))
+        self.add(c, StoredContent::Fill(None))
     }
 
     /// The serial of a filled rectangle, or why an id names none.
@@ -77,7 +77,7 @@ impl ContentTable {
             return Err(Reason::BadSize);
         }
         let solid = StoredFill { rgba, size: (w, h) };
-        put(&mut self.contents, serial, Stored::Fill(Some(solid)));
+        put(&mut self.contents, serial, StoredContent::Fill(Some(solid)));
         Ok(())
     }
 

@@ -5,7 +5,7 @@ ghost use Rattle.flat_scene.specs.Misuse.{first_reason};
 ghost use Rattle.flat_graph.specs.Names.{key_named};
 
 use crate::limits::{is_bad_image, is_bad_index, is_bad_sample, is_bad_size, whole};
-use crate::stored::{Stored, StoredImage};
+use crate::stored_content::{StoredContent, StoredImage};
 use crate::table::{ContentTable, put};
 use flat_base::{BufferNo, ContentId, IntRect, OPACITY_MAX, Reason};
 use flat_graph::remove_name;
@@ -14,7 +14,7 @@ use flat_scene::{BlendMode, GraphFault, ImageFlip};
 impl ContentTable {
     ghost use Rattle.flat_scene.specs.Misuse as misuse;
     ghost use Rattle.flat_graph.specs.Reasons.{IsFault};
-    ghost use Rattle.flat_content.specs.declared.stored.Stored.TheVariants.{Image};
+    ghost use Rattle.flat_content.specs.declared.stored_content.StoredContent.TheVariants.{Image};
     ghost use Rattle.flat_content.specs.Table.{change_named, new_image, on_image, released};
     ghost use Rattle.flat_content.specs.Table.{with_stored};
     ghost use Rattle.flat_content.specs.Reasons.{image_tests, sort_tests, sample_tests, size_tests};
@@ -61,7 +61,7 @@ impl ContentTable {
             flip: ImageFlip::Plain,
             opacity: OPACITY_MAX,
         };
-        self.add(c, Stored::Image(image))
+        self.add(c, StoredContent::Image(image))
     }
 
     /// The serial of an image and the image, or why an id names none.
@@ -78,7 +78,7 @@ impl ContentTable {
     {
         let (serial, stored) = self.find(c)?;
         match stored {
-            Stored::Image(image) => Ok((serial, image)),
+            StoredContent::Image(image) => Ok((serial, image)),
             _ => Err(Reason::WrongContent),
         }
     }
@@ -103,7 +103,7 @@ impl ContentTable {
             sample: rect,
             ..image
         };
-        put(&mut self.contents, serial, Stored::Image(changed));
+        put(&mut self.contents, serial, StoredContent::Image(changed));
         Ok(())
     }
 
@@ -128,7 +128,7 @@ impl ContentTable {
             destination: (w, h),
             ..image
         };
-        put(&mut self.contents, serial, Stored::Image(changed));
+        put(&mut self.contents, serial, StoredContent::Image(changed));
         Ok(())
     }
 
@@ -150,7 +150,7 @@ impl ContentTable {
     {
         let (serial, image) = self.image(c)?;
         let changed = StoredImage { blend, ..image };
-        put(&mut self.contents, serial, Stored::Image(changed));
+        put(&mut self.contents, serial, StoredContent::Image(changed));
         Ok(())
     }
 
@@ -168,7 +168,7 @@ impl ContentTable {
     {
         let (serial, image) = self.image(c)?;
         let changed = StoredImage { flip, ..image };
-        put(&mut self.contents, serial, Stored::Image(changed));
+        put(&mut self.contents, serial, StoredContent::Image(changed));
         Ok(())
     }
 
@@ -190,7 +190,7 @@ impl ContentTable {
             return Err(Reason::BadOpacity);
         }
         let changed = StoredImage { opacity, ..image };
-        put(&mut self.contents, serial, Stored::Image(changed));
+        put(&mut self.contents, serial, StoredContent::Image(changed));
         Ok(())
     }
 

@@ -13,10 +13,10 @@ mod fills;
 mod images;
 mod laws;
 mod limits;
-mod stored;
+mod stored_content;
 mod table;
 mod viewports;
 
 pub use laws::content_laws;
-pub use stored::{Stored, StoredFill, StoredImage};
+pub use stored_content::{StoredContent, StoredFill, StoredImage};
 pub use table::ContentTable;

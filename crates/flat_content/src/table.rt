@@ -6,10 +6,10 @@ ghost use Rattle.flat_scene.specs.Misuse.{first_reason};
 ghost use Rattle.flat_graph.specs.Names.{key_named};
 ghost use Rattle.flat_content.specs.Table.{TableState, IsTable, HasRoom, in_use};
 
-use crate::stored::{Stored, is_viewport, shown, use_in};
+use crate::stored_content::{StoredContent, is_viewport, shown, use_in};
 use flat_base::{ContentId, Items, NAMED_MAX, NoMemory, Reason};
-use flat_graph::{Named, key_of, put_name};
-use flat_scene::{BufferList, Content, GraphFault, Held, UseList, ViewportUse};
+use flat_graph::{NamedNode, key_of, put_name};
+use flat_scene::{BufferList, Content, GraphFault, HeldContent, UseList, ViewportUse};
 use std::alloc::Global;
 use std::marker::Model;
 
@@ -21,9 +21,9 @@ use std::marker::Model;
 pub struct ContentTable {
     // The collections of which images may be made.
     pub(crate) buffers: BufferList,
-    pub(crate) contents: Vec<Stored>,
+    pub(crate) contents: Vec<StoredContent>,
     // By rising id. The key of a name is the serial of its content.
-    pub(crate) names: Vec<Named>,
+    pub(crate) names: Vec<NamedNode>,
     // The serials of the viewports neither released nor cleared, the oldest first.
     pub(crate) viewports: Vec<u32>,
     // There is room for one content more, and a serial.
@@ -55,7 +55,7 @@ impl Model for ContentTable {
 }
 
 /// The content of a serial number, if there is that number.
-fn stored_at(contents: &[Stored], serial: usize) -> Option<Stored>
+fn stored_at(contents: &[StoredContent], serial: usize) -> Option<StoredContent>
     ensures { result ≡ of_serial contents.now serial }
 {
     if serial == 0 {
@@ -65,7 +65,7 @@ fn stored_at(contents: &[Stored], serial: usize) -> Option<Stored>
 }
 
 /// Puts a content in the place of another.
-pub(crate) fn put(contents: &mut Vec<Stored>, serial: usize, stored: Stored)
+pub(crate) fn put(contents: &mut Vec<StoredContent>, serial: usize, stored: StoredContent)
     requires made { 1 ≤ serial }
     requires within { serial ≤ length contents.old.items }
     ensures capacity { vec_capacity contents.new ≡ vec_capacity contents.old }
@@ -76,7 +76,7 @@ pub(crate) fn put(contents: &mut Vec<Stored>, serial: usize, stored: Stored)
 }
 
 /// Notes the serial of a viewport that was made.
-fn note_use(viewports: &mut Vec<u32>, stored: Stored, serial: u32)
+fn note_use(viewports: &mut Vec<u32>, stored: StoredContent, serial: u32)
     requires { length viewports.old.items < vec_capacity viewports.old }
     ensures { viewports.new.items ≡ in_use stored serial viewports.old.items }
 {
@@ -128,7 +128,7 @@ impl ContentTable {
     }
 
     /// The serial that an id names and its content, or why it names none.
-    pub(crate) fn find(&self, c: ContentId) -> Result<(usize, Stored), Reason>
+    pub(crate) fn find(&self, c: ContentId) -> Result<(usize, StoredContent), Reason>
         ensures named { IfOk result (λ found. key_named self.now.names c.0 ≡ Some found.0) }
         ensures stored { IfOk result (λ found. of_serial self.now.contents found.0 ≡ Some found.1) }
         ensures made { IfOk result (λ found. 1 ≤ found.0) }
@@ -150,14 +150,14 @@ impl ContentTable {
     /// The content that an id names, as a transform holds it.
     ///
     /// The reason is ZeroId or UnknownContent. It takes no memory.
-    pub fn held(&self, c: ContentId) -> Result<Held, Reason>
+    pub fn held(&self, c: ContentId) -> Result<HeldContent, Reason>
         ensures held { IfOk result (λ held. held_of self.now c.0 ≡ Some held) }
         ensures allowed { OnOk result (first_reason (name_tests self.now c.0) ≡ None) }
         ensures fault { IfErr result (λ reason. first_reason (name_tests self.now c.0)
             ≡ Some reason) }
     {
         let (serial, stored) = self.find(c)?;
-        Ok(Held {
+        Ok(HeldContent {
             serial: serial as u32,
             viewport: is_viewport(stored),
         })
@@ -166,7 +166,7 @@ impl ContentTable {
     /// What a transform holds that is given the content of an id: nothing for 0.
     ///
     /// The reason is UnknownContent. It takes no memory.
-    pub fn given(&self, c: ContentId) -> Result<Option<Held>, Reason>
+    pub fn given(&self, c: ContentId) -> Result<Option<HeldContent>, Reason>
         ensures held { IfOk result (λ held. held ≡ held_of self.now c.0) }
         ensures allowed { OnOk result (first_reason (given_tests self.now c.0) ≡ None) }
         ensures fault { IfErr result (λ reason. first_reason (given_tests self.now c.0)
@@ -272,7 +272,7 @@ impl ContentTable {
     }
 
     /// Makes a content, and names it, where there is room.
-    fn put_content(&mut self, c: ContentId, stored: Stored) -> u32
+    fn put_content(&mut self, c: ContentId, stored: StoredContent) -> u32
         requires some { c.0 ≢ 0 }
         requires absent { key_named self.old.names c.0 ≡ None }
         requires room { self.old.has_room ≡ true }
@@ -280,7 +280,7 @@ impl ContentTable {
         ensures created { self.new ≡ with_stored self.old c.0 stored }
     {
         let serial = self.contents.len() + 1;
-        let name = Named {
+        let name = NamedNode {
             id: c.0,
             key: serial,
         };
@@ -292,7 +292,7 @@ impl ContentTable {
     }
 
     /// Makes a content, and names it.
-    pub(crate) fn add(&mut self, c: ContentId, stored: Stored) -> Result<u32, GraphFault>
+    pub(crate) fn add(&mut self, c: ContentId, stored: StoredContent) -> Result<u32, GraphFault>
         requires some { c.0 ≢ 0 }
         requires absent { key_named self.old.names c.0 ≡ None }
         ensures serial { IfOk result (λ serial. serial ≡ length self.old.contents + 1) }

@@ -6,7 +6,7 @@ ghost use Rattle.flat_scene.specs.Misuse.{first_reason};
 ghost use Rattle.flat_graph.specs.Names.{key_named};
 
 use crate::limits::is_bad_size;
-use crate::stored::Stored;
+use crate::stored_content::StoredContent;
 use crate::table::{ContentTable, drop_use, put};
 use flat_base::{ContentId, PairNo, Reason};
 use flat_graph::remove_name;
@@ -17,7 +17,7 @@ impl ContentTable {
     ghost use Rattle.flat_scene.specs.Misuse as misuse;
     ghost use Rattle.flat_scene.specs.declared.trees.GraphFault.{GraphFault};
     ghost use Rattle.flat_graph.specs.Reasons.{IsFault};
-    ghost use Rattle.flat_content.specs.declared.stored.Stored.TheVariants.{Viewport};
+    ghost use Rattle.flat_content.specs.declared.stored_content.StoredContent.TheVariants.{Viewport};
     ghost use Rattle.flat_content.specs.Table.{change_named, on_viewport, pair_named};
     ghost use Rattle.flat_content.specs.Table.{viewport_released, with_stored};
     ghost use Rattle.flat_content.specs.Reasons.{sort_tests, viewport_tests, properties_tests};
@@ -64,7 +64,7 @@ impl ContentTable {
         if is_bad_size(props.w, props.h) {
             return Err(GraphFault::Bad(Reason::BadSize));
         }
-        self.add(c, Stored::Viewport(pair, props))
+        self.add(c, StoredContent::Viewport(pair, props))
     }
 
     /// The serial of a viewport, its pair and its properties, or why an id names none.
@@ -82,7 +82,7 @@ impl ContentTable {
     {
         let (serial, stored) = self.find(c)?;
         match stored {
-            Stored::Viewport(pair, props) => Ok((serial, pair, props)),
+            StoredContent::Viewport(pair, props) => Ok((serial, pair, props)),
             _ => Err(Reason::WrongContent),
         }
     }
@@ -125,7 +125,11 @@ impl ContentTable {
         }
         let inset = inset.unwrap_or(props.inset);
         let changed = ViewportProps { w, h, inset };
-        put(&mut self.contents, serial, Stored::Viewport(pair, changed));
+        put(
+            &mut self.contents,
+            serial,
+            StoredContent::Viewport(pair, changed),
+        );
         Ok(())
     }
 

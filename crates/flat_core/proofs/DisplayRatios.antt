@@ -5,7 +5,7 @@ use Rattle.std.proofs.lemmas.Bool.Decides.{nat_tests}
 use Rattle.flat_base.specs.declared.limits.TheConstants.{RATIO_MIN}
 use Rattle.flat_scene.specs.declared.journal.Entry.{Entry}
 use Rattle.flat_scene.specs.declared.setup.Setup.{Setup}
-use Rattle.flat_states.specs.declared.clock.Clock.{Clock}
+use Rattle.flat_states.specs.declared.frame_clock.FrameClock.{FrameClock}
 use Rattle.flat_states.specs.declared.port.DisplayPort.{DisplayPort}
 use Rattle.flat_states.specs.declared.ratios.Ratios.{Ratios}
 use Rattle.flat_states.specs.declared.state.SessionState.{SessionState}
@@ -16,9 +16,9 @@ use Rattle.flat_rules.specs.Watch.{ratio_told}
 use Rattle.flat_facts.proofs.lemmas.Ratios.{HasDisplay, told-least}
 
 -- what is kept of them
-pub ratios-kept : (setup : Setup) (h : List Entry) (clock : Clock) (fences views : List Bool) (sessions : List SessionState)
+pub ratios-kept : (setup : Setup) (h : List Entry) (clock : FrameClock) (fences views : List Bool) (sessions : List SessionState)
     → Stands setup h clock fences views sessions → clock.ratios ≡ ratios_of setup h
-ratios-kept setup h clock fences views sessions stands = ap (λ (c : Clock). c.ratios) stands.timed
+ratios-kept setup h clock fences views sessions stands = ap (λ (c : FrameClock). c.ratios) stands.timed
 
 -- what is told of the display
 pub port-kept : (setup : Setup) (h : List Entry) (ratios : Ratios) (port : DisplayPort) → ratios ≡ ratios_of setup h → port ≡ port_of ratios.finished setup

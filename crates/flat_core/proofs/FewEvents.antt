@@ -12,9 +12,9 @@ use Rattle.flat_scene.specs.declared.calls.Watch.{Watch}
 use Rattle.flat_scene.specs.declared.journal.Entry.{Entry}
 use Rattle.flat_scene.specs.declared.journal.Event.{Event}
 use Rattle.flat_scene.specs.declared.journal.Event.TheVariants as event
-use Rattle.flat_scene.specs.declared.journal.Kind.{Kind}
-use Rattle.flat_scene.specs.declared.journal.Kind.TheVariants.{Begin, Close, Dpr, End, Finish, Get, Hit, Poll, Present, Signal, View, Viewport, Wait}
-use Rattle.flat_scene.specs.declared.journal.Told.{Told}
+use Rattle.flat_scene.specs.declared.journal.EntryKind.{EntryKind}
+use Rattle.flat_scene.specs.declared.journal.EntryKind.TheVariants.{Begin, Close, Dpr, End, Finish, Get, Hit, Poll, Present, Signal, View, Viewport, Wait}
+use Rattle.flat_scene.specs.declared.journal.WatcherValue.{WatcherValue}
 use Rattle.flat_scene.specs.declared.setup.PairDecl.{PairDecl}
 use Rattle.flat_scene.specs.declared.setup.Setup.{Setup}
 use Rattle.flat_scene.specs.History.{◌▹◌, is_begin, is_closed, is_finish, is_session}
@@ -58,7 +58,7 @@ others-flat : {A : Type 0} (f : A → List Event) → ((x : A) → others (f x) 
 others-flat f none [] = refl
 others-flat f none (x ∷ xs) = others-append (f x) (flat_map f xs) ∙ omega (arith, none x, others-flat f none xs)
 
-others-told : (p : PairNo) (a : Option Watch) (b : Option Told) → others (event_of p a b) ≡ 0
+others-told : (p : PairNo) (a : Option Watch) (b : Option WatcherValue) → others (event_of p a b) ≡ 0
 others-told p (Some get) (Some value) = refl
 others-told p (Some get) None = refl
 others-told p None b = refl
@@ -112,7 +112,7 @@ once-there test q n (pair ∷ pairs) = by_test (once-there test q (n + 1) pairs)
     by_test rest false = rest
 
 -- an entry is a get, a use, a begin or an end, or none of them
-one-kind : (test : PairDecl → Bool) (pairs : List PairDecl) (k : Kind)
+one-kind : (test : PairDecl → Bool) (pairs : List PairDecl) (k : EntryKind)
     → total (λ p. number_if (uses_viewport p k)) (pairs_where test 0 pairs) + number_if (is_get k) + number_if (is_finish k) + number_if (is_begin k) ≤ 1
 one-kind test pairs (View p) = omega (arith, total-none (pairs_where test 0 pairs))
 one-kind test pairs (Viewport q props) = omega (arith, once-there test q.0 0 pairs)
@@ -245,7 +245,7 @@ module _ (setup : Setup) (s : SessionNo) where
         back-few now then old low high ps,
       )
 
-  finish-open : (h : List Entry) (kind : Kind) → keeps_time h kind ≡ true → is_finish kind ≡ true → is_frame_open h ≡ true
+  finish-open : (h : List Entry) (kind : EntryKind) → keeps_time h kind ≡ true → is_finish kind ≡ true → is_frame_open h ≡ true
   finish-open h Finish keeps is = keeps
   finish-open h _ keeps is = cc
 

@@ -9,7 +9,7 @@ use Rattle.flat_scene.specs.declared.setup.Setup.{Setup}
 use Rattle.flat_scene.specs.Frames.{taken}
 use Rattle.flat_scene.specs.History.{is_closed}
 use Rattle.flat_scene.specs.Setups.{is_declared}
-use Rattle.flat_facts.specs.declared.live.Live.{Live}
+use Rattle.flat_facts.specs.declared.live_viewport.LiveViewport.{LiveViewport}
 use Rattle.flat_links.specs.declared.tokens.OutToken.{OutToken}
 use Rattle.flat_facts.specs.Begins.{finish_entry, took_event}
 use Rattle.flat_rules.specs.Ends.{views_of, viewports_of, viewport_uses}
@@ -36,7 +36,7 @@ joined : (d : List Event) {a a' b b' c c' e e' : List Event} → a ≡ a' → b 
 joined d pa pb pc pe = cc
 
 pub events-finish : (setup : Setup) (h : List Entry) (line : ℕ) (s : SessionNo) → is_declared setup s ≡ true → Legal setup h → is_frame_open h ≡ true
-    → (live : List Live) (out : List OutToken) → AreViewports setup h s live out
+    → (live : List LiveViewport) (out : List OutToken) → AreViewports setup h s live out
     → events_to setup h (finish_entry line) s
     ≡ cond (is_closed s h) [] (held_answers setup h (finish_entry line) s ++ (took_event (frame_took setup h s) ++ back_events (taken setup h s) out))
 events-finish setup h line s declared legal going live out kept = by_closed (is_closed s h) refl

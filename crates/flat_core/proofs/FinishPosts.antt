@@ -12,16 +12,16 @@ use Rattle.flat_base.specs.declared.ids.SessionNo.{SessionNo}
 use Rattle.flat_scene.specs.declared.calls.ViewportProps.{ViewportProps}
 use Rattle.flat_scene.specs.declared.journal.Entry.{Entry}
 use Rattle.flat_scene.specs.declared.journal.Event.{Event}
-use Rattle.flat_scene.specs.declared.journal.Kind.{Kind}
-use Rattle.flat_scene.specs.declared.journal.Kind.TheVariants.{View, Viewport}
-use Rattle.flat_scene.specs.declared.journal.Post.{Post}
+use Rattle.flat_scene.specs.declared.journal.EntryKind.{EntryKind}
+use Rattle.flat_scene.specs.declared.journal.EntryKind.TheVariants.{View, Viewport}
+use Rattle.flat_scene.specs.declared.journal.PostedEvent.{PostedEvent}
 use Rattle.flat_scene.specs.declared.setup.PairDecl.{PairDecl}
 use Rattle.flat_scene.specs.declared.setup.Setup.{Setup}
 use Rattle.flat_scene.specs.Frames.{sessions_to, taken}
 use Rattle.flat_scene.specs.History.{◌▹◌, is_begin, is_closed, is_finish}
 use Rattle.flat_scene.specs.Setups.{is_declared}
 use Rattle.flat_base.proofs.lemmas.Tests.{and-left}
-use Rattle.flat_facts.specs.declared.live.Live.{Live}
+use Rattle.flat_facts.specs.declared.live_viewport.LiveViewport.{LiveViewport}
 use Rattle.flat_links.specs.declared.tokens.OutToken.{OutToken}
 use Rattle.flat_facts.specs.Begins.{finish_entry, finished, post_of, took_event}
 use Rattle.flat_rules.specs.Ends.{is_done, pair_of, uses_view, view_owner, view_uses}
@@ -40,7 +40,7 @@ use Rattle.flat_gets.proofs.lemmas.GetHistory.{events-finished}
 
 -- a session that is open is told the answers, what the frame took, and which tokens are back
 pub finish-posts : (setup : Setup) (h : List Entry) (line : ℕ) (s : SessionNo) → is_declared setup s ≡ true → Legal setup h → is_frame_open h ≡ true
-    → is_closed s h ≡ false → (live : List Live) (out : List OutToken) → AreViewports setup h s live out
+    → is_closed s h ≡ false → (live : List LiveViewport) (out : List OutToken) → AreViewports setup h s live out
     → events_to setup h (finish_entry line) s ≡ answers_to (told setup (finished h line)) (helds_of setup h s)
     ++ (took_event (frame_took setup h s) ++ back_events (taken setup h s) out)
 finish-posts setup h line s declared legal going opened live out kept =

@@ -7,12 +7,12 @@ use Rattle.flat_base.specs.declared.ids.SessionNo.{SessionNo}
 use Rattle.flat_scene.specs.declared.calls.Call.{Call}
 use Rattle.flat_scene.specs.declared.calls.Watch.{Watch}
 use Rattle.flat_scene.specs.declared.journal.Entry.{Entry}
-use Rattle.flat_scene.specs.declared.journal.Kind.TheVariants.{Get}
+use Rattle.flat_scene.specs.declared.journal.EntryKind.TheVariants.{Get}
 use Rattle.flat_scene.specs.declared.journal.Reply.{Reply}
 use Rattle.flat_scene.specs.declared.setup.Setup.{Setup}
 use Rattle.flat_scene.specs.History.{◌▹◌, closes}
 use Rattle.flat_scene.specs.Setups.{is_declared}
-use Rattle.flat_states.specs.declared.clock.Clock.{Clock}
+use Rattle.flat_states.specs.declared.frame_clock.FrameClock.{FrameClock}
 use Rattle.flat_states.specs.declared.state.SessionState.{SessionState}
 use Rattle.flat_states.specs.Machines.{HasRoom, Machine, MayCall, Stands, due}
 use Rattle.flat_facts.specs.Begins.{entry_of}
@@ -50,7 +50,7 @@ get-due false state = refl
 module _ (m : Machine) (s : SessionNo) (line : ℕ) (calls : List Call) (get : Watch) (call : MayCall m (Session s) calls (Get get)) (reply : Reply)
     (replied : reply ≡ reply_to m.setup m.history (Session s) calls (Get get)) where
   -- the parts after it
-  pub kept-got : (clock : Clock) (fences views : List Bool) (sessions : List SessionState) (state : SessionState)
+  pub kept-got : (clock : FrameClock) (fences views : List Bool) (sessions : List SessionState) (state : SessionState)
       → state ≡ slice_index_or sessions (s.0 - 1) state → Stands m.setup m.history clock fences views sessions
       → Stands m.setup (m.history ▹ entry_of (Session s) line calls (Get get) reply) clock fences views (slice_set sessions (s.0 - 1) (after_get reply state))
       × (sum_by due (slice_set sessions (s.0 - 1) (after_get reply state)) ≡ sum_by due sessions)
@@ -71,7 +71,7 @@ module _ (m : Machine) (s : SessionNo) (line : ℕ) (calls : List Call) (get : W
       )
 
   -- and the journal
-  pub room-got : (clock : Clock) (fences views : List Bool) (sessions : List SessionState) → Stands m.setup m.history clock fences views sessions
+  pub room-got : (clock : FrameClock) (fences views : List Bool) (sessions : List SessionState) → Stands m.setup m.history clock fences views sessions
       → (log mid then : Logged) (owed dues dues_now : ℕ) → log.history ≡ m.history
       → HasRoom m.setup m.shares log owed dues → mid.history ≡ log.history → mid.posts ≡ log.posts → mid.room ≡ log.room → owed + 1 ≤ mid.post_room
       → then.history ≡ (mid.history ▹ entry_of (Session s) line calls (Get get) reply) → then.posts ≡ mid.posts → then.room + 1 ≡ mid.room

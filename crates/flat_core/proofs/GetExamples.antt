@@ -5,9 +5,9 @@ use Rattle.flat_scene.specs.declared.calls.Watch.TheVariants as watch
 use Rattle.flat_scene.specs.declared.calls.Call.TheVariants as call
 use Rattle.flat_scene.specs.declared.journal.Entry.{Entry}
 use Rattle.flat_scene.specs.declared.journal.Event.TheVariants as event
-use Rattle.flat_scene.specs.declared.journal.Kind.TheVariants as kind
+use Rattle.flat_scene.specs.declared.journal.EntryKind.TheVariants as kind
 use Rattle.flat_scene.specs.declared.journal.Reply.TheVariants as reply
-use Rattle.flat_scene.specs.declared.journal.Told.TheVariants as tell
+use Rattle.flat_scene.specs.declared.journal.WatcherValue.TheVariants as tell
 use Rattle.flat_scene.specs.declared.setup.Setup.{Setup}
 use Rattle.flat_scene.specs.History.{◌▹◌}
 use Rattle.flat_gets.specs.Gets.{HeldGet, answers_to, helds_of}

@@ -6,7 +6,7 @@ use Rattle.flat_base.specs.declared.ids.PairNo.{PairNo}
 use Rattle.flat_base.specs.declared.ids.SessionNo.{SessionNo}
 use Rattle.flat_scene.specs.declared.calls.Call.TheVariants as call
 use Rattle.flat_scene.specs.declared.journal.Entry.{Entry}
-use Rattle.flat_scene.specs.declared.journal.Kind.TheVariants as kind
+use Rattle.flat_scene.specs.declared.journal.EntryKind.TheVariants as kind
 use Rattle.flat_scene.specs.declared.journal.Reply.TheVariants as reply
 use Rattle.flat_scene.specs.declared.setup.Setup.{Setup}
 use Rattle.flat_scene.specs.History.{◌▹◌}

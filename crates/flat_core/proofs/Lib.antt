@@ -14,8 +14,8 @@ pub mod Polled
 pub mod PresentSteps
 pub mod Presented
 pub mod Starting
-pub mod TiesCalls
-pub mod TiesRun
+pub mod LinksCalls
+pub mod LinksRun
 pub mod UseSteps
 pub mod FinishPosts
-pub mod TellingSteps
+pub mod PairValueSteps

@@ -18,10 +18,10 @@ use Rattle.flat_gets.specs.Listed.{KeptGets, no_gets}
 use Rattle.flat_gets.specs.Gets.{gets_made}
 use Rattle.flat_gets.specs.Watchers.{AreWatched, answers_in}
 use Rattle.flat_core.proofs.FewEvents.{unread-short}
-use Rattle.flat_scene.specs.declared.journal.Kind.TheVariants.{Poll}
-use Rattle.flat_scene.specs.declared.journal.Post.{Post}
-use Rattle.flat_states.specs.declared.clock.Clock.{Clock}
-use Rattle.flat_states.specs.declared.state.Account.{Account}
+use Rattle.flat_scene.specs.declared.journal.EntryKind.TheVariants.{Poll}
+use Rattle.flat_scene.specs.declared.journal.PostedEvent.{PostedEvent}
+use Rattle.flat_states.specs.declared.frame_clock.FrameClock.{FrameClock}
+use Rattle.flat_states.specs.declared.state.SessionCounts.{SessionCounts}
 use Rattle.flat_states.specs.declared.state.SessionState.{SessionState}
 use Rattle.flat_states.specs.Machines.{Machine, MayCall, Stands, HasRoom}
 use Rattle.flat_states.specs.Kept.{IsKept}
@@ -37,7 +37,8 @@ use Rattle.flat_states.proofs.lemmas.Steps.{few-history}
 
 -- where the session's events begin is in the posts
 pub polled-within : (m : Machine) (s : SessionNo) (calls : List Call) → MayCall m (Session s) calls Poll
-    → (clock : Clock) (fences views : List Bool) (sessions : List SessionState) (log : Logged) (owed : ℕ) {dues : ℕ} (state : SessionState) (all : List Post)
+    → (clock : FrameClock) (fences views : List Bool) (sessions : List SessionState) (log : Logged) (owed : ℕ) {dues : ℕ} (state : SessionState)
+    (all : List PostedEvent)
     → state ≡ slice_index_or sessions (s.0 - 1) state
     → log.history ≡ m.history → Stands m.setup log.history clock fences views sessions → HasRoom m.setup m.shares log owed dues → all ≡ log.posts
     → state.account.polled ≤ length all
@@ -45,10 +46,10 @@ polled-within m s calls call clock fences views sessions log owed {dues} state a
     let kept : IsKept m.setup (seen_of m.setup log.history s) state =
     kept-session m.setup log.history clock fences views sessions s state stands (declared-of m.setup Poll s call.may.acts) is in
     let long : length all ≡ length (posts m.setup log.history) = ap length (posted ∙ room.posts) in
-    omega (arith, ap (λ (a : Account). a.polled) kept.account, polled-le m.setup log.history s, long)
+    omega (arith, ap (λ (a : SessionCounts). a.polled) kept.account, polled-le m.setup log.history s, long)
 
 -- What was handed over: as many as are unread, a number of the machine.
-pub record Handed (m : Machine) (s : SessionNo) (count : ℕ) (into list : List Event) (all : List Post) : Type 0 where
+pub record Handed (m : Machine) (s : SessionNo) (count : ℕ) (into list : List Event) (all : List PostedEvent) : Type 0 where
   pub events : list ≡ into ++ unread_events m.setup s m.history
   pub as_many : count ≡ unread m.setup s m.history
   pub small : count < 2 ^ 32
@@ -71,7 +72,8 @@ polls-open before s goes = not-true (is_closed s before)
     (and-right (not (list_any (λ entry. is_end entry.kind) (own s before))) (not (is_closed s before)) goes)
 
 pub handed : (m : Machine) (s : SessionNo) (calls : List Call) → MayCall m (Session s) calls Poll
-    → (clock : Clock) (fences views : List Bool) (sessions : List SessionState) (log : Logged) (owed : ℕ) {dues : ℕ} (state : SessionState) (all : List Post)
+    → (clock : FrameClock) (fences views : List Bool) (sessions : List SessionState) (log : Logged) (owed : ℕ) {dues : ℕ} (state : SessionState)
+    (all : List PostedEvent)
     (into list : List Event) (count : ℕ)
     → state ≡ slice_index_or sessions (s.0 - 1) state
     → log.history ≡ m.history → Stands m.setup log.history clock fences views sessions → HasRoom m.setup m.shares log owed dues → all ≡ log.posts
@@ -84,7 +86,7 @@ handed m s calls call clock fences views sessions log owed {dues} state all into
     let kept : IsKept m.setup (seen_of m.setup m.history s) state = kept-session m.setup m.history clock fences views sessions s state old declared is in
     let all_posts : all ≡ posts m.setup m.history = posted ∙ rw (← same) room.posts in
     let events : list ≡ into ++ unread_events m.setup s m.history =
-    handed-over m.setup m.history s into list state.account.polled all here.0 here.1 pushed (ap (λ (a : Account). a.polled) kept.account) all_posts in
+    handed-over m.setup m.history s into list state.account.polled all here.0 here.1 pushed (ap (λ (a : SessionCounts). a.polled) kept.account) all_posts in
     let as_many : count ≡ unread m.setup s m.history = counted ∙ handed-count m.setup m.history s into list events in
     let opened : is_closed s m.history ≡ false = polls-open m.history s call.may.lasts in
     let told = told-few m.setup m.history s watchers watched here.0 (omega (arith, here.1, watched.sessions)) in

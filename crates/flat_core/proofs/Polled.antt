@@ -11,13 +11,13 @@ use Rattle.flat_base.specs.declared.ids.SessionNo.{SessionNo}
 use Rattle.flat_scene.specs.declared.calls.Call.{Call}
 use Rattle.flat_scene.specs.declared.journal.Entry.{Entry}
 use Rattle.flat_scene.specs.declared.journal.Event.{Event}
-use Rattle.flat_scene.specs.declared.journal.Kind.TheVariants.{Poll}
-use Rattle.flat_scene.specs.declared.journal.Post.{Post}
+use Rattle.flat_scene.specs.declared.journal.EntryKind.TheVariants.{Poll}
+use Rattle.flat_scene.specs.declared.journal.PostedEvent.{PostedEvent}
 use Rattle.flat_scene.specs.declared.journal.Reply.TheVariants.{Polled}
 use Rattle.flat_scene.specs.declared.setup.Setup.{Setup}
 use Rattle.flat_scene.specs.Frames.{sessions_to}
 use Rattle.flat_scene.specs.History.{◌▹◌, is_session}
-use Rattle.flat_states.specs.declared.state.Account.{Account}
+use Rattle.flat_states.specs.declared.state.SessionCounts.{SessionCounts}
 use Rattle.flat_states.specs.declared.state.SessionState.{SessionState}
 use Rattle.flat_facts.specs.Begins.{post_of, posts_to, entry_of}
 use Rattle.flat_states.specs.Kept.{IsKept}
@@ -32,7 +32,7 @@ use Rattle.flat_states.proofs.lemmas.Changes.{is-session, kept-account}
 use Rattle.flat_rules.proofs.lemmas.Quiet.{closed-quiet, presents-quiet, taken-quiet, going-quiet, took-quiet}
 
 -- the events of an entry that are a session's: of one session's, and of all sessions'
-mine-or-none : (mine : Bool) (x : Event) (place : ℕ) (t s : SessionNo) (rest : List Post) → (t.0 == s.0) ≡ mine
+mine-or-none : (mine : Bool) (x : Event) (place : ℕ) (t s : SessionNo) (rest : List PostedEvent) → (t.0 == s.0) ≡ mine
     → events_for s (post_of place t x ∷ rest) ≡ cond mine (x ∷ events_for s rest) (events_for s rest)
 mine-or-none true x place t s rest is = rw is refl
 mine-or-none false x place t s rest is = rw is refl
@@ -43,11 +43,11 @@ of-one place t s false [] is = refl
 of-one place t s true (x ∷ xs) is = mine-or-none true x place t s (map (post_of place t) xs) is ∙ ap (λ (ys : List Event). x ∷ ys) (of-one place t s true xs is)
 of-one place t s false (x ∷ xs) is = mine-or-none false x place t s (map (post_of place t) xs) is ∙ of-one place t s false xs is
 
-for-append : (s : SessionNo) (xs ys : List Post) → events_for s (xs ++ ys) ≡ events_for s xs ++ events_for s ys
+for-append : (s : SessionNo) (xs ys : List PostedEvent) → events_for s (xs ++ ys) ≡ events_for s xs ++ events_for s ys
 for-append s xs ys = simp (filter-append, map-append)
 
 -- the posts of an entry to the first sessions, with these events for each
-abbrev sent_all : ℕ → (SessionNo → List Event) → ℕ → List Post
+abbrev sent_all : ℕ → (SessionNo → List Event) → ℕ → List PostedEvent
 sent_all place f n = flat_map (λ t. map (post_of place t) (f t)) (sessions_to n)
 
 sent-more : (place : ℕ) (f : SessionNo → List Event) (n : ℕ) (s : SessionNo)
@@ -55,7 +55,7 @@ sent-more : (place : ℕ) (f : SessionNo → List Event) (n : ℕ) (s : SessionN
     ++ events_for s (map (post_of place (let t : SessionNo = record { 0 = suc n } in t)) (f (let t : SessionNo = record { 0 = suc n } in t)))
 sent-more place f n s =
     let t : SessionNo = record { 0 = suc n } in
-    let g : SessionNo → List Post = λ t. map (post_of place t) (f t) in
+    let g : SessionNo → List PostedEvent = λ t. map (post_of place t) (f t) in
     ap (events_for s) (flat-on g (sessions_to n) t) ∙ for-append s (flat_map g (sessions_to n)) (g t)
 
 sent-above : (place : ℕ) (f : SessionNo → List Event) (n : ℕ) (s : SessionNo) → n < s.0 → events_for s (sent_all place f n) ≡ []
@@ -98,7 +98,7 @@ polled-le setup [] s = omega arith
 polled-le setup (h ▹ e) s =
     rw length-append (polled-step (is_session s e.actor && is_poll e.kind) (polled_at setup h s) (length (posts setup h)) _ (polled-le setup h s))
 
-unread-step : (s : SessionNo) (polled : Bool) (old : ℕ) (before more : List Post) (unread sent : List Event) → old ≤ length before
+unread-step : (s : SessionNo) (polled : Bool) (old : ℕ) (before more : List PostedEvent) (unread sent : List Event) → old ≤ length before
     → unread ≡ events_for s (drop old before) → events_for s more ≡ sent
     → cond polled [] unread ++ sent ≡ events_for s (drop (cond polled (length before) old) (before ++ more))
 unread-step s true old before more unread sent le is here = rw (drop-append_seam, here) refl
@@ -109,12 +109,12 @@ pub unread-posts : (setup : Setup) (h : List Entry) (s : SessionNo) → 0 < s.0 
     → unread_events setup s h ≡ events_for s (drop (polled_at setup h s) (posts setup h))
 unread-posts setup [] s some few = refl
 unread-posts setup (h ▹ e) s some few =
-    let more : List Post = posts_to setup h e setup.sessions in
+    let more : List PostedEvent = posts_to setup h e setup.sessions in
     let sent : List Event = events_to setup h e s in
     let polled : Bool = is_session s e.actor && is_poll e.kind in
     unread-step s polled (polled_at setup h s) (posts setup h) more (unread_events setup s h) sent (polled-le setup h s) (unread-posts setup h s some few)
     (sent-within (length h) (events_to setup h e) setup.sessions s some few)
-    ∙ ap (λ (ps : List Post). events_for s (drop (cond polled (length (posts setup h)) (polled_at setup h s)) ps)) (sym (posts-all setup h e))
+    ∙ ap (λ (ps : List PostedEvent). events_for s (drop (cond polled (length (posts setup h)) (polled_at setup h s)) ps)) (sym (posts-all setup h e))
 
 pub seen-polled : (setup : Setup) (h : List Entry) (s : SessionNo) (line : ℕ) (carries : List Call) (n : ℕ)
     → seen_of setup (h ▹ entry_of (Session s) line carries Poll (Polled n)) s
@@ -136,12 +136,13 @@ pub kept-polled : (setup : Setup) (h : List Entry) (s : SessionNo) (line : ℕ) 
     (record state { account = record state.account { polled = place } })
 kept-polled setup h s line carries n place state same kept =
     rw (seen-polled setup h s line carries n, same)
-    (kept-account setup (seen_of setup h s) state (λ (a : Account). let b : Account = record a { polled = length (posts setup h) } in b) (λ a. refl) kept)
+    (kept-account setup (seen_of setup h s) state (λ (a : SessionCounts). let b : SessionCounts = record a { polled = length (posts setup h) } in b) (λ a. refl)
+    kept)
 
-pub handed-over : (setup : Setup) (h : List Entry) (s : SessionNo) (into list : List Event) (from : ℕ) (all : List Post) → 0 < s.0 → s.0 ≤ setup.sessions
+pub handed-over : (setup : Setup) (h : List Entry) (s : SessionNo) (into list : List Event) (from : ℕ) (all : List PostedEvent) → 0 < s.0 → s.0 ≤ setup.sessions
     → list ≡ into ++ events_for s (drop from all) → from ≡ polled_at setup h s → all ≡ posts setup h → list ≡ into ++ unread_events setup s h
 handed-over setup h s into list from all some few is place same =
-    is ∙ ap (λ (n : ℕ). into ++ events_for s (drop n all)) place ∙ ap (λ (ps : List Post). into ++ events_for s (drop (polled_at setup h s) ps)) same
+    is ∙ ap (λ (n : ℕ). into ++ events_for s (drop n all)) place ∙ ap (λ (ps : List PostedEvent). into ++ events_for s (drop (polled_at setup h s) ps)) same
     ∙ ap (λ (es : List Event). into ++ es) (sym (unread-posts setup h s some few))
 
 pub handed-count : (setup : Setup) (h : List Entry) (s : SessionNo) (into list : List Event) → list ≡ into ++ unread_events setup s h

@@ -17,7 +17,7 @@ use Rattle.flat_base.specs.declared.ids.SessionNo.{SessionNo}
 use Rattle.flat_scene.specs.declared.calls.Call.{Call}
 use Rattle.flat_scene.specs.declared.calls.PresentArgs.{PresentArgs}
 use Rattle.flat_scene.specs.declared.journal.Entry.{Entry}
-use Rattle.flat_scene.specs.declared.journal.Kind.TheVariants.{Present}
+use Rattle.flat_scene.specs.declared.journal.EntryKind.TheVariants.{Present}
 use Rattle.flat_scene.specs.declared.journal.Reply.{Reply}
 use Rattle.flat_scene.specs.declared.journal.Reply.TheVariants.{Presented, Closed}
 use Rattle.flat_scene.specs.declared.setup.Setup.{Setup}
@@ -28,7 +28,7 @@ use Rattle.flat_base.proofs.lemmas.Tests.{and-left, and-right}
 use Rattle.flat_queue.specs.declared.queue.WaitingPresent.{WaitingPresent}
 use Rattle.flat_queue.specs.Line.{credits_of}
 use Rattle.flat_snap.specs.declared.snapshot.Snapshot.{Snapshot}
-use Rattle.flat_states.specs.declared.clock.Clock.{Clock}
+use Rattle.flat_states.specs.declared.frame_clock.FrameClock.{FrameClock}
 use Rattle.flat_states.specs.declared.state.SessionState.{SessionState}
 use Rattle.flat_states.specs.Machines.{Machine, MayCall, Stands, HasRoom, present_of, due}
 use Rattle.flat_facts.specs.Begins.{entry_of}
@@ -125,7 +125,7 @@ owed-two false n k = omega arith
 pub kept-after-present : (m : Machine) (s : SessionNo) (line : ℕ) (calls : List Call) (args : PresentArgs) (snap : Arc Snapshot Global)
     → MayCall m (Session s) calls (Present args)
     → Some (arc_value snap) ≡ tree_of m.setup (present_of m.history s calls args)
-    → (clock : Clock) (fences views : List Bool) (sessions : List SessionState) (log then : Logged) (owed : ℕ) {due_back due_back_now : ℕ}
+    → (clock : FrameClock) (fences views : List Bool) (sessions : List SessionState) (log then : Logged) (owed : ℕ) {due_back due_back_now : ℕ}
     (state : SessionState) → state ≡ slice_index_or sessions (s.0 - 1) state → log.history ≡ m.history
     → Stands m.setup log.history clock fences views sessions → HasRoom m.setup m.shares log owed (sum_by due sessions + due_back) → due_back_now ≡ due_back
     → then.history ≡ (log.history ▹ entry_of (Session s) line calls (Present args) (present_reply state)) → then.posts ≡ log.posts → then.room + 1 ≡ log.room
@@ -175,7 +175,7 @@ kept-after-present m s line calls args snap call tree clock fences views session
 
 -- its number is a number of the machine
 pub count-small : (m : Machine) (s : SessionNo) (calls : List Call) (args : PresentArgs) → MayCall m (Session s) calls (Present args)
-    → (clock : Clock) (fences views : List Bool) (sessions : List SessionState) (log : Logged) (owed : ℕ) {dues : ℕ} (state : SessionState)
+    → (clock : FrameClock) (fences views : List Bool) (sessions : List SessionState) (log : Logged) (owed : ℕ) {dues : ℕ} (state : SessionState)
     → state ≡ slice_index_or sessions (s.0 - 1) state → log.history ≡ m.history
     → Stands m.setup log.history clock fences views sessions → HasRoom m.setup m.shares log owed dues
     → state.queue.taken + length state.queue.waiting < 2 ^ 32 - 1
@@ -187,7 +187,7 @@ count-small m s calls args call clock fences views sessions log owed {dues} stat
 
 -- its reply is that of the rules
 pub present-reply : (m : Machine) (s : SessionNo) (calls : List Call) (args : PresentArgs) → MayCall m (Session s) calls (Present args)
-    → (clock : Clock) (fences views : List Bool) (sessions : List SessionState) (state : SessionState) → state ≡ slice_index_or sessions (s.0 - 1) state
+    → (clock : FrameClock) (fences views : List Bool) (sessions : List SessionState) (state : SessionState) → state ≡ slice_index_or sessions (s.0 - 1) state
     → Stands m.setup m.history clock fences views sessions → present_reply state ≡ reply_to m.setup m.history (Session s) calls (Present args)
 present-reply m s calls args call clock fences views sessions state is stands =
     present-replied m.setup m.history s calls args state

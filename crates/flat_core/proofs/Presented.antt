@@ -10,8 +10,8 @@ use Rattle.flat_base.specs.declared.ids.SessionNo.{SessionNo}
 use Rattle.flat_scene.specs.declared.calls.Call.{Call}
 use Rattle.flat_scene.specs.declared.calls.PresentArgs.{PresentArgs}
 use Rattle.flat_scene.specs.declared.journal.Entry.{Entry}
-use Rattle.flat_scene.specs.declared.journal.Kind.{Kind}
-use Rattle.flat_scene.specs.declared.journal.Kind.TheVariants.{Present}
+use Rattle.flat_scene.specs.declared.journal.EntryKind.{EntryKind}
+use Rattle.flat_scene.specs.declared.journal.EntryKind.TheVariants.{Present}
 use Rattle.flat_scene.specs.declared.journal.Reply.{Reply}
 use Rattle.flat_scene.specs.declared.journal.Reply.TheVariants.{Presented}
 use Rattle.flat_scene.specs.declared.setup.Setup.{Setup}
@@ -31,7 +31,7 @@ use Rattle.flat_rules.proofs.lemmas.Quiet.{taken-quiet}
 use Rattle.flat_states.proofs.lemmas.Changes.{is-session}
 use Rattle.flat_scene.proofs.lemmas.TakingLemmas.{taken-made}
 
-published-one : (kind : Kind) (reply : Reply) (made : List Call) → length (published kind reply made) ≤ 1
+published-one : (kind : EntryKind) (reply : Reply) (made : List Call) → length (published kind reply made) ≤ 1
 published-one (Present args) (Presented n k) made = omega arith
 published-one kind reply made = omega arith
 

@@ -14,8 +14,8 @@ use Rattle.flat_scene.specs.declared.calls.Call.{Call}
 use Rattle.flat_scene.specs.declared.calls.Call.TheVariants.{CreateViewport}
 use Rattle.flat_scene.specs.declared.calls.ViewportProps.{ViewportProps}
 use Rattle.flat_scene.specs.declared.journal.Entry.{Entry}
-use Rattle.flat_scene.specs.declared.journal.Kind.{Kind}
-use Rattle.flat_scene.specs.declared.journal.Kind.TheVariants.{Viewport}
+use Rattle.flat_scene.specs.declared.journal.EntryKind.{EntryKind}
+use Rattle.flat_scene.specs.declared.journal.EntryKind.TheVariants.{Viewport}
 use Rattle.flat_scene.specs.declared.journal.Reply.{Reply}
 use Rattle.flat_scene.specs.declared.journal.Reply.TheVariants.{Done}
 use Rattle.flat_scene.specs.declared.setup.PairDecl.{PairDecl}
@@ -23,13 +23,13 @@ use Rattle.flat_scene.specs.declared.setup.Setup.{Setup}
 use Rattle.flat_scene.specs.History.{◌▹◌, is_closed, is_session, presents}
 use Rattle.flat_scene.specs.Setups.{is_declared}
 use Rattle.flat_base.proofs.lemmas.Tests.{and-left, and-right}
-use Rattle.flat_states.specs.declared.clock.Clock.{Clock}
+use Rattle.flat_states.specs.declared.frame_clock.FrameClock.{FrameClock}
 use Rattle.flat_links.specs.declared.tokens.OutToken.{OutToken}
-use Rattle.flat_states.specs.declared.state.Account.{Account}
+use Rattle.flat_states.specs.declared.state.SessionCounts.{SessionCounts}
 use Rattle.flat_states.specs.declared.state.SessionState.{SessionState}
-use Rattle.flat_links.specs.declared.ties.Ties.{Ties}
+use Rattle.flat_links.specs.declared.link_table.LinkTable.{LinkTable}
 use Rattle.flat_links.specs.declared.viewports.Viewports.{Viewports}
-use Rattle.flat_links.specs.AllEnds.{AreEnds, due_back, IsOwn, IsUsed, TiesUsed}
+use Rattle.flat_links.specs.AllEnds.{AreEnds, due_back, IsOwn, IsUsed, LinksUsed}
 use Rattle.flat_states.specs.Machines.{HasRoom, Machine, MayCall, Stands, due}
 use Rattle.flat_facts.specs.Begins.{entry_of}
 use Rattle.flat_rules.specs.Numbers.{number, AllNumbered}
@@ -40,13 +40,13 @@ use Rattle.flat_rules.specs.Legal.{own_call, refused_token, reply_to}
 use Rattle.flat_facts.specs.Lives.{makes_one, uses_last, is_new_viewport}
 use Rattle.flat_states.specs.Logs.{Logged}
 use Rattle.flat_rules.specs.AllPosts.{posts}
-use Rattle.flat_links.specs.Following.{AreTied}
+use Rattle.flat_links.specs.SessionLinks.{AreLinked}
 use Rattle.flat_states.specs.Presents.{use_reply}
 use Rattle.flat_states.proofs.lemmas.Heard.{after_viewport}
 use Rattle.flat_states.specs.Seen.{seen_of}
 use Rattle.flat_links.specs.Viewports.{AreViewports, out_of, outs_of}
 use Rattle.flat_gets.specs.Watchers.{IsJoin, is_shut}
-use Rattle.flat_core.specs.Telling.{IsTelling}
+use Rattle.flat_core.specs.PairValues.{TellsPairs}
 use Rattle.flat_states.specs.declared.port.DisplayPort.{DisplayPort}
 use Rattle.flat_states.specs.Ports.{port_of}
 use Rattle.flat_core.proofs.DisplayRatios.{port-kept, ratios-kept}
@@ -124,7 +124,7 @@ slice_get_none {A = A} xs i none = by_case (slice_get_cases xs i).1
     by_case (inl found) = let wrong : Some found.0 ≡ None = sym found.2 ∙ none in cc
     by_case (inr and_right) = and_right.0
 
-pub shut-known : (setup : Setup) (h : List Entry) (clock : Clock) (fences views : List Bool) (sessions : List SessionState) (t : SessionNo)
+pub shut-known : (setup : Setup) (h : List Entry) (clock : FrameClock) (fences views : List Bool) (sessions : List SessionState) (t : SessionNo)
     → Stands setup h clock fences views sessions
     → (is_shut sessions t ≡ false → (is_declared setup t ≡ true) × (is_closed t h ≡ false))
     × (is_shut sessions t ≡ true → (is_declared setup t ≡ false) ⊎ (is_closed t h ≡ true))
@@ -232,19 +232,20 @@ module _ (m : Machine) (s : SessionNo) (line : ℕ) (calls : List Call) (p : Pai
 
   -- all that is kept but the journal, after it
   pub kept-used : (is_held : Bool) → is_held ≡ has_token m.setup p m.history
-      → (clock : Clock) (fences views : List Bool) (sessions : List SessionState) (ends : List Viewports) (state : SessionState) (before after : Viewports)
+      → (clock : FrameClock) (fences views : List Bool) (sessions : List SessionState) (ends : List Viewports) (state : SessionState) (before after : Viewports)
       → state ≡ slice_index_or sessions (s.0 - 1) state → before ≡ slice_index_or ends (s.0 - 1) before
       → Stands m.setup m.history clock fences views sessions → AreEnds m.setup m.history ends → IsUsed p calls state.account.presents is_held before after
-      → (tied now : Ties) → AreTied m.setup m.history tied.followings.items tied.pairs.items → TiesUsed s calls p props is_held state before tied now
+      → (tied now : LinkTable) → AreLinked m.setup m.history tied.linked_sessions.items tied.pairs.items
+      → LinksUsed s calls p props is_held state before tied now
       → Legal m.setup (m.history ▹ used_entry is_held)
       × Stands m.setup (m.history ▹ used_entry is_held) clock fences views (slice_set sessions (s.0 - 1) (after_viewport is_held state))
       × AreEnds m.setup (m.history ▹ used_entry is_held) (slice_set ends (s.0 - 1) after)
-      × AreTied m.setup (m.history ▹ used_entry is_held) now.followings.items now.pairs.items
+      × AreLinked m.setup (m.history ▹ used_entry is_held) now.linked_sessions.items now.pairs.items
       × ((told : ℕ) → sum_by due (slice_set sessions (s.0 - 1) (after_viewport is_held state)) + (sum_by due_back (slice_set ends (s.0 - 1) after) + told)
       ≡ sum_by due sessions + (sum_by due_back ends + told) + number_if is_held)
-  kept-used is_held is clock fences views sessions ends state before after of_state of_before old are used tied now ties uses =
+  kept-used is_held is clock fences views sessions ends state before after of_state of_before old are used tied now links uses =
       let h : List Entry = m.history in
-      let kind : Kind = Viewport p props in
+      let kind : EntryKind = Viewport p props in
       let e : Entry = used_entry is_held in
       let new : SessionState = after_viewport is_held state in
       let says = replied is_held is in
@@ -255,7 +256,7 @@ module _ (m : Machine) (s : SessionNo) (line : ℕ) (calls : List Call) (p : Pai
       let ends_count : length ends ≡ m.setup.sessions = are.count in
       let within : s.0 - 1 < length ends = omega (arith, here.0, here.1, ends_count) in
       let kept : IsKept m.setup (seen_of m.setup h s) state = kept-session m.setup h clock fences views sessions s state old declared of_state in
-      let counts : state.account.presents ≡ length (presents s h) = ap (λ (a : Account). a.presents) kept.account in
+      let counts : state.account.presents ≡ length (presents s h) = ap (λ (a : SessionCounts). a.presents) kept.account in
       let sums = sum_by-set due sessions (s.0 - 1) new state below in
       let due_new : due new ≡ due state = viewport-due is_held state in
       let backs = sum_by-set due_back ends (s.0 - 1) after before within in
@@ -272,7 +273,7 @@ module _ (m : Machine) (s : SessionNo) (line : ℕ) (calls : List Call) (p : Pai
         carried = refl;
         closed = kept.closed;
         counted = counts;
-        viewed = ap (λ (a : Account). a.view) kept.account;
+        viewed = ap (λ (a : SessionCounts). a.view) kept.account;
         living = own.lives;
         no_begin = refl;
         no_finish = refl;
@@ -284,7 +285,7 @@ module _ (m : Machine) (s : SessionNo) (line : ℕ) (calls : List Call) (p : Pai
             (slice_set sessions (s.0 - 1) new) old
             (unchanged m e fences views (λ sessions g f. refl) (λ p. refl)) (length-set sessions (s.0 - 1) new) each,
         all,
-        uses m.setup h e own_entry opened refl refl ties,
+        uses m.setup h e own_entry opened refl refl links,
         λ told. omega (arith, sums, due_new, backs, back_new, ap due of_state, ap due_back of_before),
       )
     where
@@ -303,10 +304,10 @@ module _ (m : Machine) (s : SessionNo) (line : ℕ) (calls : List Call) (p : Pai
           rw (used.live some, used.out some, counts) step
 
   -- what pairs tell then
-  pub telling-used : (is_held : Bool) (clock : Clock) (fences views : List Bool) (sessions : List SessionState) (port : DisplayPort) (now : Ties)
+  pub telling-used : (is_held : Bool) (clock : FrameClock) (fences views : List Bool) (sessions : List SessionState) (port : DisplayPort) (now : LinkTable)
       → port ≡ port_of clock.ratios.finished m.setup → Stands m.setup m.history clock fences views sessions → Legal m.setup (m.history ▹ used_entry is_held)
-      → AreTied m.setup (m.history ▹ used_entry is_held) now.followings.items now.pairs.items
-      → IsTelling m.setup port now views m.setup (m.history ▹ used_entry is_held)
+      → AreLinked m.setup (m.history ▹ used_entry is_held) now.linked_sessions.items now.pairs.items
+      → TellsPairs m.setup port now views m.setup (m.history ▹ used_entry is_held)
   telling-used is_held clock fences views sessions port now shows old legal tied =
       record {
         same = refl;
@@ -317,7 +318,7 @@ module _ (m : Machine) (s : SessionNo) (line : ℕ) (calls : List Call) (p : Pai
       }
 
   -- and who hears of it
-  pub join-used : (is_held : Bool) (clock : Clock) (fences views : List Bool) (sessions : List SessionState) (pair : PairDecl)
+  pub join-used : (is_held : Bool) (clock : FrameClock) (fences views : List Bool) (sessions : List SessionState) (pair : PairDecl)
       → Stands m.setup m.history clock fences views sessions → Legal m.setup (m.history ▹ used_entry is_held)
       → slice_get m.setup.pairs p.0 ≡ Some pair → IsJoin m.setup m.history (used_entry is_held) is_held pair.view (is_shut sessions pair.view) p
   join-used is_held clock fences views sessions pair old legal at =

@@ -6,4 +6,4 @@ pub mod Views
 pub use Rattle.flat_states.specs.Machines
 pub use Rattle.flat_gets.specs.Watchers
 pub mod Dues
-pub mod Telling
+pub mod PairValues

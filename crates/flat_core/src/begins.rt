@@ -17,10 +17,10 @@ ghost use Rattle.flat_core.specs.Changes.{NotesChanges};
 
 use flat_base::{SESSIONS_MAX, SessionNo};
 use flat_fence::FenceSet;
-use flat_join::Shown;
-use flat_scene::{Event, Post, SessionSet, Setup};
+use flat_join::ShownStates;
+use flat_scene::{Event, PostedEvent, SessionSet, Setup};
 use flat_snap::Snapshot;
-use flat_states::log::Log;
+use flat_states::roomy_journal::RoomyJournal;
 use flat_states::state::{SessionState, let_go, take_ready};
 use std::sync::Arc;
 
@@ -37,7 +37,12 @@ pub struct FrameBegin<'a> {
 
 /// Shows a state of a session from now on, or nothing. Notes that the session changed,
 /// unless nothing was shown and nothing is.
-fn show(into: &mut Shown, changed: &mut SessionSet, s: SessionNo, state: Option<Arc<Snapshot>>)
+fn show(
+    into: &mut ShownStates,
+    changed: &mut SessionSet,
+    s: SessionNo,
+    state: Option<Arc<Snapshot>>,
+)
     requires some { 0 < s.0 }
     requires few { s.0 ≤ length into.old }
     requires within { s.0 ≤ SESSIONS_MAX }
@@ -56,8 +61,8 @@ pub fn begin_one(
     begin: FrameBegin<'_>,
     s: SessionNo,
     state: &mut SessionState,
-    log: &mut Log,
-    into: &mut Shown,
+    log: &mut RoomyJournal,
+    into: &mut ShownStates,
     changed: &mut SessionSet,
 ) -> usize
     requires legal { Legal begin.setup.now (begun log.old.history begin.line begin.time) }
@@ -99,7 +104,7 @@ pub fn begin_one(
     match take_ready(state, begin.time, begin.fences) {
         Some(snap) => {
             let gained = state.queue.credits().saturating_sub(before);
-            log.post(Post {
+            log.post(PostedEvent {
                 entry: log.len(),
                 session: s,
                 event: Event::Credits(gained),
@@ -115,8 +120,8 @@ pub fn begin_one(
 pub fn begin_all(
     begin: FrameBegin<'_>,
     sessions: &mut Vec<SessionState>,
-    log: &mut Log,
-    into: &mut Shown,
+    log: &mut RoomyJournal,
+    into: &mut ShownStates,
     changed: &mut SessionSet,
 ) -> usize
     requires legal { Legal begin.setup.now (begun log.old.history begin.line begin.time) }

@@ -10,7 +10,7 @@ ghost use Rattle.flat_fence.specs.Fences.{has};
 ghost use Rattle.flat_gets.specs.Dues.{due_told};
 ghost use Rattle.flat_gets.specs.Watchers.{AreWatched};
 ghost use Rattle.flat_links.specs.AllEnds.{HasNone};
-ghost use Rattle.flat_links.specs.Following.{AreTied};
+ghost use Rattle.flat_links.specs.SessionLinks.{AreLinked};
 ghost use Rattle.flat_states.specs.Flags.{has_end};
 ghost use Rattle.flat_states.specs.Presents.{IsNew};
 ghost use Rattle.flat_core.specs.Journals.{FamiliesStandAlone, IsDecidedByGlimpses, IsQuietBeside};
@@ -28,17 +28,17 @@ use flat_base::{NoMemory, ShareList};
 use flat_fence::FenceSet;
 use flat_gets::watching::Watchers;
 use flat_links::entries::new_ends;
-use flat_links::ties::Ties;
+use flat_links::link_table::LinkTable;
 use flat_links::viewports::Viewports;
 use flat_links::with_view::with_view;
 use flat_rules::{families_are_alone, glimpses_decide_outcomes};
 use flat_scene::{CallList, Journal, PresentArgs, SessionSet, Setup};
 use flat_snap::Snapshot;
-use flat_states::clock::Clock;
-use flat_states::ends::EndSet;
-use flat_states::log::Log;
+use flat_states::frame_clock::FrameClock;
 use flat_states::ratios::Ratios;
+use flat_states::roomy_journal::RoomyJournal;
 use flat_states::state::{SessionState, new_states};
+use flat_states::used_view_ends::UsedViewEnds;
 use std::alloc::Global;
 use std::marker::Model;
 use std::sync::Arc;
@@ -54,18 +54,18 @@ pub struct Board {
     alloc: Global,
     setup: Setup,
     shares: ShareList,
-    log: Log,
+    log: RoomyJournal,
     /// How many events may still be posted for what was entered so far.
     owed: usize,
-    clock: Clock,
+    clock: FrameClock,
     fences: FenceSet,
     /// The view ends that were used.
-    view_ends: EndSet,
+    view_ends: UsedViewEnds,
     /// The sessions, the first of them session 1.
     sessions: Vec<SessionState>,
     /// The viewports of each session.
     viewports: Vec<Viewports>,
-    ties: Ties,
+    links: LinkTable,
     watchers: Watchers,
 }
 
@@ -73,7 +73,7 @@ impl Model for Board {
     ghost use Rattle.flat_states.specs.Machines.{Machine, Stands, HasRoom};
     ghost use Rattle.flat_links.specs.AllEnds.{AreEnds};
     ghost use Rattle.flat_core.specs.Dues.{all_due};
-    ghost use Rattle.flat_links.specs.Following.{AreTied};
+    ghost use Rattle.flat_links.specs.SessionLinks.{AreLinked};
     ghost use Rattle.flat_gets.specs.Watchers.{AreWatched};
 
     ghost Value = { Machine };
@@ -84,7 +84,7 @@ impl Model for Board {
         b.sessions.items × HasRoom b.setup b.shares b.log b.owed
         (all_due b.sessions.items b.viewports.items b.watchers)
         × AreEnds b.setup b.log.history b.viewports.items
-        × AreTied b.setup b.log.history b.ties.followings.items b.ties.pairs.items
+        × AreLinked b.setup b.log.history b.links.linked_sessions.items b.links.pairs.items
         × AreWatched b.setup b.log.history b.watchers };
 }
 
@@ -99,18 +99,18 @@ impl Board {
             ≡ record { setup = setup; shares = shares; history = [] }) }
     {
         let total = total_of(shares.as_slice());
-        let log = Log::new(alloc, total)?;
+        let log = RoomyJournal::new(alloc, total)?;
         let ratios = Ratios::new(setup.ratio);
         let (fences, views) = new_sets(alloc, &setup)?;
         let (sessions, ends) = new_sessions(alloc, setup.sessions)?;
-        let (ties, watchers) = new_pairs(alloc, &setup)?;
+        let (links, watchers) = new_pairs(alloc, &setup)?;
         Ok(Board {
             alloc,
             setup,
             shares,
             log,
             owed: 0,
-            clock: Clock {
+            clock: FrameClock {
                 frames: 0,
                 is_open: false,
                 time: 0,
@@ -120,7 +120,7 @@ impl Board {
             view_ends: views,
             sessions,
             viewports: ends,
-            ties,
+            links,
             watchers,
         })
     }
@@ -131,7 +131,7 @@ impl Board {
             is_member result s.0 ≡ has_view self.now.setup self.now.history s }
         ensures others { (s : ℕ) → self.now.setup.sessions < s → is_member result s ≡ false }
     {
-        with_view(self.sessions.as_slice(), &self.ties.pairs)
+        with_view(self.sessions.as_slice(), &self.links.pairs)
     }
 
     /// All that was entered and posted, the oldest first: the one legal history
@@ -163,7 +163,7 @@ impl Board {
 }
 
 /// The fences, none of which is signalled, and the view ends, none of which was used.
-fn new_sets(alloc: Global, setup: &Setup) -> Result<(FenceSet, EndSet), NoMemory>
+fn new_sets(alloc: Global, setup: &Setup) -> Result<(FenceSet, UsedViewEnds), NoMemory>
     requires { IsTrue (is_within_limits setup.now) }
     ensures fences { IfOk result (λ new. length new.0 ≡ length setup.now.fences) }
     ensures none { IfOk result (λ new. (f : FenceNo) → has new.0 f ≡ false) }
@@ -171,7 +171,7 @@ fn new_sets(alloc: Global, setup: &Setup) -> Result<(FenceSet, EndSet), NoMemory
     ensures unused { IfOk result (λ new. (p : PairNo) → has_end new.1 p ≡ false) }
 {
     let fences = FenceSet::new(alloc, setup.fences.len() as u32)?;
-    let views = EndSet::new(alloc, setup.pairs.len() as u32)?;
+    let views = UsedViewEnds::new(alloc, setup.pairs.len() as u32)?;
     Ok((fences, views))
 }
 
@@ -188,15 +188,15 @@ fn new_sessions(alloc: Global, n: u32) -> Result<(Vec<SessionState>, Vec<Viewpor
 }
 
 /// What is kept of pairs that nobody has used.
-fn new_pairs(alloc: Global, setup: &Setup) -> Result<(Ties, Watchers), NoMemory>
-    ensures tied { IfOk result (λ new. AreTied setup.now [] new.0.followings.items
+fn new_pairs(alloc: Global, setup: &Setup) -> Result<(LinkTable, Watchers), NoMemory>
+    ensures tied { IfOk result (λ new. AreLinked setup.now [] new.0.linked_sessions.items
         new.0.pairs.items) }
     ensures watched { IfOk result (λ new. AreWatched setup.now [] new.1) }
     ensures told { IfOk result (λ new. due_told new.1 ≡ 0) }
 {
-    let ties = Ties::new(alloc, setup)?;
+    let links = LinkTable::new(alloc, setup)?;
     let watchers = Watchers::new(alloc, setup)?;
-    Ok((ties, watchers))
+    Ok((links, watchers))
 }
 
 /// A fence's value.

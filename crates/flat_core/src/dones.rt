@@ -8,7 +8,7 @@ ghost use Rattle.flat_base.specs.declared.limits.TheConstants.{SESSIONS_MAX};
 ghost use Rattle.flat_topology.specs.Members.{is_member};
 ghost use Rattle.flat_facts.specs.Told.{TellsTheSame};
 ghost use Rattle.flat_fence.specs.Fences.{has};
-ghost use Rattle.flat_scene.specs.declared.journal.Kind.TheVariants.{Finish};
+ghost use Rattle.flat_scene.specs.declared.journal.EntryKind.TheVariants.{Finish};
 ghost use Rattle.flat_scene.specs.Frames.{going, is_among, is_released_by, sessions_to, taken};
 ghost use Rattle.flat_scene.specs.History.{is_closed};
 ghost use Rattle.flat_scene.specs.Setups.{is_declared};
@@ -27,16 +27,16 @@ ghost use Rattle.flat_gets.specs.Watchers.{AreWatched, WatchedUpTo};
 
 use flat_base::{FenceList, FenceNo, SessionNo};
 use flat_fence::FenceSet;
-use flat_gets::telling::Tells;
+use flat_gets::watcher_values::WatcherValues;
 use flat_gets::watching::Watchers;
 use flat_links::viewports::Viewports;
-use flat_scene::{Event, Post, SessionSet, Setup};
-use flat_states::log::Log;
+use flat_scene::{Event, PostedEvent, SessionSet, Setup};
+use flat_states::roomy_journal::RoomyJournal;
 use flat_states::state::SessionState;
 
 /// The end of a frame.
 #[derive(Drop)]
-pub struct FrameEnd<'a, T: Tells> {
+pub struct FrameEnd<'a, T: WatcherValues> {
     pub setup: &'a Setup,
     /// The line of the script that ends the frame.
     pub line: u32,
@@ -69,7 +69,7 @@ fn signal_lists(lists: &[FenceList], fences: &mut FenceSet)
 
 /// Posts how many presents the frame took of a session, if it took any. Answers how
 /// many events that is.
-fn post_took(took: u32, s: SessionNo, log: &mut Log) -> usize
+fn post_took(took: u32, s: SessionNo, log: &mut RoomyJournal) -> usize
     requires place { length log.old.history < 2 ^ 32 }
     requires room { cond (nat_lt 0 took) 1 0 ≤ log.old.post_room }
     ensures posts { log.new.posts ≡ log.old.posts ++ map (post_of (length log.old.history) s)
@@ -82,7 +82,7 @@ fn post_took(took: u32, s: SessionNo, log: &mut Log) -> usize
     if took == 0 {
         return 0;
     }
-    log.post(Post {
+    log.post(PostedEvent {
         entry: log.len(),
         session: s,
         event: Event::FramePresented(took),
@@ -98,7 +98,7 @@ fn done_one(
     s: SessionNo,
     state: &mut SessionState,
     ends: &mut Viewports,
-    log: &mut Log,
+    log: &mut RoomyJournal,
 ) -> usize
     requires legal { Legal setup.now log.old.history }
     requires may { MayEnter setup.now log.old.history Display [] Finish }
@@ -154,13 +154,13 @@ fn is_passed(closed: bool, hears: bool) -> bool
 /// What the end of a frame does for one session, but for its fences. It answers the session's
 /// gets if they may hear something new, and then posts what the frame took and which tokens
 /// came back. Answers how many events it posts.
-fn finish_one<T: Tells>(
+fn finish_one<T: WatcherValues>(
     end: &FrameEnd<'_, T>,
     s: SessionNo,
     state: &mut SessionState,
     ends: &mut Viewports,
     watchers: &mut Watchers,
-    log: &mut Log,
+    log: &mut RoomyJournal,
 ) -> usize
     requires legal { Legal end.now.setup.now log.old.history }
     requires may { MayEnter end.now.setup.now log.old.history Display [] Finish }
@@ -204,13 +204,13 @@ fn finish_one<T: Tells>(
 }
 
 /// What the end of a frame does for all sessions. Answers how many events it posts.
-pub fn done_all<T: Tells>(
+pub fn done_all<T: WatcherValues>(
     end: &FrameEnd<'_, T>,
     fences: &mut FenceSet,
     sessions: &mut Vec<SessionState>,
     ends: &mut Vec<Viewports>,
     watchers: &mut Watchers,
-    log: &mut Log,
+    log: &mut RoomyJournal,
 ) -> usize
     requires tells { T.stands end.now.tells.now end.now.setup.now
         (finished log.old.history end.now.line) }

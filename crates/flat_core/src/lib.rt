@@ -5,7 +5,7 @@
 //! the board and what it tells; what makes entries stands in board/, by what is entered,
 //! and ends in entries.rt, which notes and logs;
 //! begins.rt and dones.rt go through all sessions at a frame, polls.rt through the events;
-//! telling.rt says what pairs tell.
+//! pair_values.rt says what pairs tell.
 //! What a frame starts with is a `FrameStart` (start.rt, specs/Starts); proofs/lemmas tells other
 //! crates what leaves it as it is.
 #![tactic(auto)]
@@ -14,9 +14,9 @@ mod begins;
 mod board;
 mod dones;
 mod entries;
+mod pair_values;
 mod polls;
 mod start;
-mod telling;
 
 pub use board::{Board, asked_of};
 pub use flat_facts::shown_states_fit;

@@ -2,14 +2,14 @@ ghost use Rattle.std.specs.Prelude.{◌≡◌, ◌≤◌, ◌++◌, length, drop
 ghost use Rattle.flat_core.specs.Polls.{events_for};
 
 use flat_base::{Items, NoMemory, SessionNo};
-use flat_scene::{Event, Post};
+use flat_scene::{Event, PostedEvent};
 
 /// Events, in the order in which they were posted.
 pub type EventList = Items<Event>;
 
 /// Appends a session's events of the posts from a place on, or nothing.
 pub fn push_events_from(
-    posts: &[Post],
+    posts: &[PostedEvent],
     from: usize,
     s: SessionNo,
     into: &mut EventList,
@@ -29,7 +29,7 @@ pub fn push_events_from(
 }
 
 /// Appends a session's events of the posts, or some of them.
-fn push_events(posts: &[Post], s: SessionNo, into: &mut EventList) -> Result<(), NoMemory>
+fn push_events(posts: &[PostedEvent], s: SessionNo, into: &mut EventList) -> Result<(), NoMemory>
     ensures ok { OnOk result (into.new ≡ into.old ++ events_for s posts.now) }
     ensures err { OnErr result (take (length into.old) into.new ≡ into.old) }
 {

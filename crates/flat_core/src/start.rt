@@ -3,7 +3,7 @@ ghost use Rattle.std.specs.Prelude.{[], IfOk};
 ghost use Rattle.flat_core.specs.Starts.{IsStart};
 
 use flat_base::NoMemory;
-use flat_join::Shown;
+use flat_join::ShownStates;
 use flat_scene::{SessionSet, Setup};
 use std::alloc::Global;
 
@@ -12,7 +12,7 @@ use std::alloc::Global;
 #[derive(Drop)]
 pub struct FrameStart {
     /// What the frame shows of each session.
-    pub shown: Shown,
+    pub shown: ShownStates,
     /// The sessions of which it may show another state than the frame before.
     pub changed: SessionSet,
     /// The sessions that have a view whose end isn't lost.
@@ -27,7 +27,7 @@ impl FrameStart {
         ensures { IfOk result (IsStart setup.now []) }
     {
         Ok(FrameStart {
-            shown: Shown::new(alloc, setup.sessions)?,
+            shown: ShownStates::new(alloc, setup.sessions)?,
             changed: SessionSet { has: [false; 16] },
             with_view: SessionSet { has: [false; 16] },
             ratio: setup.ratio,

@@ -1,7 +1,7 @@
 //! Damage: the rectangles outside of which two draw lists give the same pixels.
 //!
-//! `damage` (difference) answers specs/Damage; specs/Unchanged says what it means for
-//! pixels, and `redraw` (redrawing) repaints by it, and `is_beside` (area) says which rows it leaves.
+//! `damage` (difference) answers specs/Damage; specs/Unchanged says what it means for pixels, and
+//! `redraw` (redrawing) repaints by it, and `is_beside` (area) says which rows it leaves.
 #![tactic(auto)]
 
 mod area;

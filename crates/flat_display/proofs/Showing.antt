@@ -5,7 +5,7 @@ use Rattle.std.proofs.lemmas.Option.{slice_get_read, get_or_from_slice_get, slic
 use Rattle.std.proofs.lemmas.List.{take_more_set, set-get_or, length-take-le, take_all, length-set, append-nil}
 use Rattle.flat_io.specs.Counts.{has_risen}
 use Rattle.flat_scene.specs.declared.frames.FrameOut.{FrameOut}
-use Rattle.flat_scene.specs.declared.frames.Lost.{Lost}
+use Rattle.flat_scene.specs.declared.frames.LostDisplay.{LostDisplay}
 use Rattle.flat_io.specs.Told.{Appends}
 use Rattle.flat_display.specs.Lost.{Driven, is_lost}
 use Rattle.flat_display.specs.Shows.{IsShown, Takes, Fails, Shows}
@@ -34,20 +34,21 @@ at_place xs place x within is = slice_get_read xs (length xs) place x refl withi
 pub set_same : {X : Type 0} (xs : List X) (i : ℕ) (x : X) → slice_get xs i ≡ Some x → slice_set xs i x ≡ xs
 set_same xs i x is = rw (← get_or_from_slice_get xs i x x is) (set-get_or xs i x)
 
-not_same : (l : Lost) (n : ℕ) → l.display ≢ n → (l.display == n) ≡ false
+not_same : (l : LostDisplay) (n : ℕ) → l.display ≢ n → (l.display == n) ≡ false
 not_same l n h = grind arith
 
 -- no display before is lost by a later one's failure, nor one after by an earlier one's
-pub none_after : {D : Type 0} (told : D → Option (List FrameOut)) (count : D → ℕ) (frame : FrameOut) (lost : List Lost) (n : ℕ) (ds ds' : List D)
-    (more : List Lost) (m : ℕ) → Shows told count frame lost n ds ds' more → n + length ds ≤ m → is_lost more m ≡ false
+pub none_after : {D : Type 0} (told : D → Option (List FrameOut)) (count : D → ℕ) (frame : FrameOut) (lost : List LostDisplay) (n : ℕ) (ds ds' : List D)
+    (more : List LostDisplay) (m : ℕ) → Shows told count frame lost n ds ds' more → n + length ds ≤ m → is_lost more m ≡ false
 none_after told count frame lost n ds ds' more m none h = refl
 none_after told count frame lost n (d ∷ ds) (_ ∷ ds') more m (passed is rest) h = none_after told count frame lost (suc n) ds ds' more m rest (omega arith)
 none_after told count frame lost n (d ∷ ds) (d' ∷ ds') more m (took is t rest) h = none_after told count frame lost (suc n) ds ds' more m rest (omega arith)
 none_after told count frame lost n (d ∷ ds) (d' ∷ ds') (x ∷ more) m (failed is t rest) h = let later =
     none_after told count frame lost (suc n) ds ds' more m rest (omega arith) in grind (arith, later)
 
-pub shows-more : {D : Type 0} (told : D → Option (List FrameOut)) (count : D → ℕ) (frame : FrameOut) (lost : List Lost) (n m : ℕ) (ds ds' : List D) (d d' : D)
-    (before more : List Lost) → Shows told count frame lost n ds ds' before → m ≡ n + length ds → Shows told count frame lost m (d ∷ []) (d' ∷ []) more
+pub shows-more : {D : Type 0} (told : D → Option (List FrameOut)) (count : D → ℕ) (frame : FrameOut) (lost : List LostDisplay) (n m : ℕ) (ds ds' : List D)
+    (d d' : D)
+    (before more : List LostDisplay) → Shows told count frame lost n ds ds' before → m ≡ n + length ds → Shows told count frame lost m (d ∷ []) (d' ∷ []) more
     → Shows told count frame lost n (ds ++ d ∷ []) (ds' ++ d' ∷ []) (before ++ more)
 shows-more told count frame lost n m ds ds' d d' before more none e last = let P : ℕ → Type 0 =
     λ k. Shows told count frame lost k (d ∷ []) (d' ∷ []) more in subst P (omega arith) last
@@ -58,12 +59,12 @@ shows-more told count frame lost n m (x ∷ ds) (x' ∷ ds') d d' before more (t
 shows-more told count frame lost n m (x ∷ ds) (x' ∷ ds') d d' (l ∷ before) more (failed is t rest) e last =
     failed is t (shows-more told count frame lost (suc n) m ds ds' d d' before more rest (omega arith) last)
 
-same_lost : (lost before : List Lost) (n : ℕ) (b : Bool) → is_lost before n ≡ false → is_lost (lost ++ before) n ≡ b → is_lost lost n ≡ b
+same_lost : (lost before : List LostDisplay) (n : ℕ) (b : Bool) → is_lost before n ≡ false → is_lost (lost ++ before) n ≡ b → is_lost lost n ≡ b
 same_lost lost before n b free is = grind (arith, lost-append lost before n)
 
 -- losses of other displays play no part
-pub shows-against : {D : Type 0} (told : D → Option (List FrameOut)) (count : D → ℕ) (frame : FrameOut) (lost before : List Lost) (m : ℕ) (d d' : D)
-    (more : List Lost) → is_lost before m ≡ false → Shows told count frame (lost ++ before) m (d ∷ []) (d' ∷ []) more
+pub shows-against : {D : Type 0} (told : D → Option (List FrameOut)) (count : D → ℕ) (frame : FrameOut) (lost before : List LostDisplay) (m : ℕ) (d d' : D)
+    (more : List LostDisplay) → is_lost before m ≡ false → Shows told count frame (lost ++ before) m (d ∷ []) (d' ∷ []) more
     → Shows told count frame lost m (d ∷ []) (d' ∷ []) more
 shows-against told count frame lost before m d _ more free (passed is none) = passed (same_lost lost before m true free is) none
 shows-against told count frame lost before m d d' more free (took is t none) = took (same_lost lost before m false free is) t none
@@ -81,14 +82,15 @@ set_elsewhere (y ∷ ys) (suc i) zero x h = absurd (omega arith)
 set_elsewhere (y ∷ ys) (suc i) (suc k) x h = set_elsewhere ys i k x (omega arith)
 
 -- So far the displays before place i were shown the frame, and those from there on are as they were.
-pub record ShownSoFar {D : Type 0} (told : D → Option (List FrameOut)) (count : D → ℕ) (frame : FrameOut) (lost : List Lost) (i : ℕ) (xs ys : List D)
-    (more : List Lost) : Type 0 where
+pub record ShownSoFar {D : Type 0} (told : D → Option (List FrameOut)) (count : D → ℕ) (frame : FrameOut) (lost : List LostDisplay) (i : ℕ) (xs ys : List D)
+    (more : List LostDisplay) : Type 0 where
   pub shows : Shows told count frame lost 1 (take i xs) (take i ys) more
   pub same_length : length ys ≡ length xs
   pub same_after : (k : ℕ) → i ≤ k → slice_get ys k ≡ slice_get xs k
 
 -- One display more, at place i, whose number is one more.
-pub one_more : {D : Type 0} (told : D → Option (List FrameOut)) (count : D → ℕ) (frame : FrameOut) (lost before more : List Lost) (i : ℕ) (xs ys ys' : List D)
+pub one_more : {D : Type 0} (told : D → Option (List FrameOut)) (count : D → ℕ) (frame : FrameOut) (lost before more : List LostDisplay) (i : ℕ)
+    (xs ys ys' : List D)
     (d d' : D) → i < length xs → ShownSoFar told count frame lost i xs ys before → slice_get ys i ≡ Some d → ys' ≡ slice_set ys i d'
     → Shows told count frame (lost ++ before) (i + 1) (d ∷ []) (d' ∷ []) more → ShownSoFar told count frame lost (i + 1) xs ys' (before ++ more)
 one_more {D} told count frame lost before more i xs ys ys' d d' within so_far at is last =
@@ -104,11 +106,11 @@ one_more {D} told count frame lost before more i xs ys ys' d d' within so_far at
       same_after = λ k h. rw is (set_elsewhere ys i k d' (omega arith) ∙ so_far.same_after k (omega arith));
     }
 
-pub none_shown : {D : Type 0} (told : D → Option (List FrameOut)) (count : D → ℕ) (frame : FrameOut) (lost : List Lost) (xs : List D)
+pub none_shown : {D : Type 0} (told : D → Option (List FrameOut)) (count : D → ℕ) (frame : FrameOut) (lost : List LostDisplay) (xs : List D)
     → ShownSoFar told count frame lost 0 xs xs []
 none_shown told count frame lost xs = record { shows = none; same_length = refl; same_after = λ k h. refl }
 
-pub all_shown : {D : Type 0} (told : D → Option (List FrameOut)) (count : D → ℕ) (frame : FrameOut) (lost more : List Lost) (i : ℕ) (xs ys : List D)
+pub all_shown : {D : Type 0} (told : D → Option (List FrameOut)) (count : D → ℕ) (frame : FrameOut) (lost more : List LostDisplay) (i : ℕ) (xs ys : List D)
     → length xs ≤ i → ShownSoFar told count frame lost i xs ys more → Shows told count frame lost 1 xs ys more
 all_shown {D} told count frame lost more i xs ys h so_far =
     let first : take i xs ≡ xs = take_all i xs h in
@@ -123,21 +125,21 @@ there (x ∷ xs) (suc i) h = there xs i (omega arith)
 pub nothing_lost : (set : Driven) → set ≡ record set { lost = set.lost ++ [] }
 nothing_lost set = rw (append-nil set.lost) refl
 
-pub took_at : {D : Type 0} (told : D → Option (List FrameOut)) (count : D → ℕ) (frame : FrameOut) (lost : List Lost) (number : ℕ) (d d' : D) (b : Bool)
+pub took_at : {D : Type 0} (told : D → Option (List FrameOut)) (count : D → ℕ) (frame : FrameOut) (lost : List LostDisplay) (number : ℕ) (d d' : D) (b : Bool)
     → b ≡ true → is_lost lost number ≡ false → IsShown told count frame b d d' → Shows told count frame lost number (d ∷ []) (d' ∷ []) []
 took_at told count frame lost number d d' b e new shown = took new (subst (λ t. IsShown told count frame t d d') e shown) none
 
-pub failed_at : {D : Type 0} (told : D → Option (List FrameOut)) (count : D → ℕ) (frame : FrameOut) (lost : List Lost) (number : ℕ) (d d' : D) (b : Bool)
+pub failed_at : {D : Type 0} (told : D → Option (List FrameOut)) (count : D → ℕ) (frame : FrameOut) (lost : List LostDisplay) (number : ℕ) (d d' : D) (b : Bool)
     → b ≡ false → is_lost lost number ≡ false → IsShown told count frame b d d'
     → Shows told count frame lost number (d ∷ []) (d' ∷ []) (record { display = number; frame = frame.frame } ∷ [])
 failed_at told count frame lost number d d' b e new shown = failed new (subst (λ t. IsShown told count frame t d d') e shown) none
 
-lost_more : (a : Driven) (xs ys : List Lost) → record a { lost = (a.lost ++ xs) ++ ys } ≡ record a { lost = a.lost ++ (xs ++ ys) }
-lost_more a xs ys = let P : List Lost → Type 0 = λ ls. record a { lost = (a.lost ++ xs) ++ ys } ≡ record a { lost = ls } in
+lost_more : (a : Driven) (xs ys : List LostDisplay) → record a { lost = (a.lost ++ xs) ++ ys } ≡ record a { lost = a.lost ++ (xs ++ ys) }
+lost_more a xs ys = let P : List LostDisplay → Type 0 = λ ls. record a { lost = (a.lost ++ xs) ++ ys } ≡ record a { lost = ls } in
     subst P (append_assoc a.lost xs ys) refl
 
 -- One display more, and the set with it.
-pub next_shown : {D : Type 0} (told : D → Option (List FrameOut)) (count : D → ℕ) (frame : FrameOut) (a b c : Driven) (before more : List Lost) (i : ℕ)
+pub next_shown : {D : Type 0} (told : D → Option (List FrameOut)) (count : D → ℕ) (frame : FrameOut) (a b c : Driven) (before more : List LostDisplay) (i : ℕ)
     (xs ys ys' : List D) (d d' : D) → i < length xs → b ≡ record a { lost = a.lost ++ before } → ShownSoFar told count frame a.lost i xs ys before
     → slice_get ys i ≡ Some d → ys' ≡ slice_set ys i d' → c ≡ record b { lost = b.lost ++ more } → Shows told count frame b.lost (i + 1) (d ∷ []) (d' ∷ []) more
     → (c ≡ record a { lost = a.lost ++ (before ++ more) }) × ShownSoFar told count frame a.lost (i + 1) xs ys' (before ++ more)

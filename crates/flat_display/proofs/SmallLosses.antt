@@ -1,9 +1,9 @@
 -- Losses of one display and of two, on small examples.
 use Rattle.std.proofs.Common.{[], ◌∷◌, arith}
-use Rattle.flat_scene.specs.declared.frames.Lost.{Lost}
+use Rattle.flat_scene.specs.declared.frames.LostDisplay.{LostDisplay}
 use Rattle.flat_display.specs.Lost.{AreWithin}
 
-abbrev second : Lost
+abbrev second : LostDisplay
 second = record { display = 2; frame = record { 0 = 1 } }
 
 -- of two displays the second may be lost

@@ -5,7 +5,7 @@ use Rattle.std.specs.List.{list_any}
 use Rattle.flat_io.specs.Counts.{has_risen}
 use Rattle.flat_base.specs.declared.ids.FrameNo.{FrameNo}
 use Rattle.flat_scene.specs.declared.frames.FrameOut.{FrameOut}
-use Rattle.flat_scene.specs.declared.frames.Lost.{Lost}
+use Rattle.flat_scene.specs.declared.frames.LostDisplay.{LostDisplay}
 use Rattle.flat_display.specs.Lost.{is_lost, lost_at, AreWithin}
 use Rattle.flat_io.specs.Told.{Appends}
 
@@ -28,11 +28,11 @@ frames_before None frames = frames
 frames_before (Some number) frames = frames_until number frames
 
 -- Each was lost at one of the frames.
-abbrev pub AreLostAt : List FrameOut → List Lost → Type 0
+abbrev pub AreLostAt : List FrameOut → List LostDisplay → Type 0
 AreLostAt frames [] = ⊤
 AreLostAt frames (l ∷ ls) = (is_among frames l.frame ≡ true) × AreLostAt frames ls
 
-module _ {D : Type 0} (told : D → Option (List FrameOut)) (count : D → ℕ) (lost : List Lost)
+module _ {D : Type 0} (told : D → Option (List FrameOut)) (count : D → ℕ) (lost : List LostDisplay)
     (frames : List FrameOut) where
   -- A display has had the frames in order, each once: all of them, or those before the one at which it was
   -- lost. Where it was lost its count of faults rose, and else that is as it was.
@@ -59,7 +59,7 @@ module _ {D : Type 0} (told : D → Option (List FrameOut)) (count : D → ℕ) 
 abbrev pub AreShownSome : {D : Type 0} → (D → Option (List FrameOut)) → (D → ℕ) → (List FrameOut → Type 0) → List D
     → List D → Type 0
 AreShownSome told count AreOfSort olds news =
-    (lost : List Lost) × (frames : List FrameOut) × AreOfSort frames × AreDriven told count lost frames olds news
+    (lost : List LostDisplay) × (frames : List FrameOut) × AreOfSort frames × AreDriven told count lost frames olds news
 
 -- Whatever came of a call, as many displays stand there, each of the kind that it was at its place. They were
 -- shown frames of this sort.

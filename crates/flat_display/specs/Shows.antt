@@ -2,7 +2,7 @@
 use Rattle.std.specs.Prelude.{◌≡◌, ℕ, suc, ◌≤◌, Bool, true, false, List, [], ◌∷◌, Option, IsTrue, ⊤}
 use Rattle.flat_io.specs.Counts.{has_risen}
 use Rattle.flat_scene.specs.declared.frames.FrameOut.{FrameOut}
-use Rattle.flat_scene.specs.declared.frames.Lost.{Lost}
+use Rattle.flat_scene.specs.declared.frames.LostDisplay.{LostDisplay}
 use Rattle.flat_display.specs.Lost.{is_lost}
 use Rattle.flat_io.specs.Told.{Appends}
 
@@ -26,17 +26,19 @@ module _ {D : Type 0} (told : D → Option (List FrameOut)) (count : D → ℕ) 
 
   -- The displays from this number on, of which some were lost before, are shown the frame: each that isn't
   -- lost, once. Those that fail are lost, at this frame, in their order.
-  pub data Shows (lost : List Lost) : ℕ → List D → List D → List Lost → Type 0 where
+  pub data Shows (lost : List LostDisplay) : ℕ → List D → List D → List LostDisplay → Type 0 where
     none : {number : ℕ} → Shows lost number [] [] []
-    passed : {number : ℕ} {d : D} {ds ds' : List D} {more : List Lost} → is_lost lost number ≡ true
+    passed : {number : ℕ} {d : D} {ds ds' : List D} {more : List LostDisplay} → is_lost lost number ≡ true
         → Shows lost (suc number) ds ds' more → Shows lost number (d ∷ ds) (d ∷ ds') more
-    took : {number : ℕ} {d d' : D} {ds ds' : List D} {more : List Lost} → is_lost lost number ≡ false → Takes d d'
+    took : {number : ℕ} {d d' : D} {ds ds' : List D} {more : List LostDisplay} → is_lost lost number ≡ false
+        → Takes d d'
         → Shows lost (suc number) ds ds' more → Shows lost number (d ∷ ds) (d' ∷ ds') more
-    failed : {number : ℕ} {d d' : D} {ds ds' : List D} {more : List Lost} → is_lost lost number ≡ false → Fails d d'
+    failed : {number : ℕ} {d d' : D} {ds ds' : List D} {more : List LostDisplay} → is_lost lost number ≡ false
+        → Fails d d'
         → Shows lost (suc number) ds ds' more
         → Shows lost number (d ∷ ds) (d' ∷ ds') (record { display = number; frame = frame.frame } ∷ more)
 
 -- Each display is lost once.
-abbrev pub IsOnce : List Lost → Type 0
+abbrev pub IsOnce : List LostDisplay → Type 0
 IsOnce [] = ⊤
 IsOnce (l ∷ ls) = (is_lost ls l.display ≡ false) × IsOnce ls

@@ -7,12 +7,12 @@
 //! (Driving).
 #![tactic(auto)]
 
+mod counting_display;
 mod display;
 mod memory;
 mod set;
-mod tally;
 
+pub use counting_display::CountingDisplay;
 pub use display::Display;
 pub use memory::MemDisplay;
 pub use set::DisplaySet;
-pub use tally::Tally;

@@ -4,7 +4,7 @@ ghost use Rattle.flat_display.specs.Kept.{FailingDisplay, told_frames, after_fau
 
 use crate::display::Display;
 use flat_base::{Items, NoMemory, TryCopy};
-use flat_io::{Failed, counted, is_next_among};
+use flat_io::{StreamFailed, counted, is_next_among};
 use flat_scene::FrameOut;
 use std::alloc::Global;
 use std::marker::Model;
@@ -94,7 +94,7 @@ impl Display for MemDisplay {
     /// Keeps a copy of the frame, or fails. One whose copy finds no room is
     /// dropped, as is all that comes after it, and from then on the display tells
     /// nothing.
-    fn show(&mut self, frame: &FrameOut) -> Result<(), Failed>
+    fn show(&mut self, frame: &FrameOut) -> Result<(), StreamFailed>
         ensures fails { is_err result ≡ is_next_among self.old.fail self.old.calls }
         ensures err { OnErr result (self.new ≡ after_fault self.old) }
         ensures ok { OnOk result ((self.new ≡ after_keeping self.old frame.now) ⊎ (self.new
@@ -106,7 +106,7 @@ impl Display for MemDisplay {
         self.calls = counted(self.calls);
         if fails {
             self.faults = counted(self.faults);
-            return Err(Failed);
+            return Err(StreamFailed);
         }
         if self.is_told {
             self.keep(frame);

@@ -1,6 +1,6 @@
 ghost use Rattle.std.specs.Prelude.{◌≡◌, ℕ, suc, ◌+◌, ◌^◌, ◌<◌, ◌≤◌, ◌++◌, ◌∷◌, [], List, IfOk, OnOk, OnErr, IsTrue};
 ghost use Rattle.std.specs.Prelude.{Some, false, length, map, slice_get, slice_set};
-ghost use Rattle.flat_scene.specs.declared.frames.Lost.{Lost};
+ghost use Rattle.flat_scene.specs.declared.frames.LostDisplay.{LostDisplay};
 ghost use Rattle.flat_io.specs.Counts.{has_risen};
 ghost use Rattle.flat_io.specs.Told.{Appends};
 ghost use Rattle.flat_display.specs.Lost.{Driven, is_lost};
@@ -8,8 +8,8 @@ ghost use Rattle.flat_display.specs.Shows.{IsShown, Shows};
 
 use crate::display::Display;
 use flat_base::{FrameNo, NoMemory, Roomy};
-use flat_io::Failed;
-use flat_scene::{FrameOut, Lost};
+use flat_io::StreamFailed;
+use flat_scene::{FrameOut, LostDisplay};
 use std::alloc::Global;
 use std::marker::Model;
 
@@ -18,7 +18,7 @@ use std::marker::Model;
 #[derive(Drop)]
 pub struct DisplaySet {
     displays: u32,
-    lost: Roomy<Lost>,
+    lost: Roomy<LostDisplay>,
 }
 
 impl Model for DisplaySet {
@@ -46,7 +46,7 @@ impl DisplaySet {
 
     /// The displays that failed, each with the frame at which it did, the first
     /// loss first. Displays are numbered from 1.
-    pub fn lost(&self) -> &[Lost]
+    pub fn lost(&self) -> &[LostDisplay]
         ensures { result.now ≡ self.now.lost }
     {
         self.lost.as_slice()
@@ -56,7 +56,7 @@ impl DisplaySet {
     /// stays in the vector, and is lost. It takes no memory.
     pub fn show(&mut self, displays: &mut Vec<Box<dyn Display>>, frame: &FrameOut)
         requires { length displays.old.items ≡ self.old.displays }
-        ensures shows { (more : List Lost)
+        ensures shows { (more : List LostDisplay)
             × (self.new ≡ record self.old { lost = self.old.lost ++ more })
             × Shows (λ d. shown d) (λ d. faults d) frame.now self.old.lost 1 displays.old.items
             displays.new.items more }
@@ -77,7 +77,7 @@ impl DisplaySet {
         requires within { place < length displays.old.items }
         requires number { place < self.old.displays }
         requires fits { place + 1 < 2 ^ 32 }
-        ensures shows { (old : _) × (new : _) × (more : List Lost)
+        ensures shows { (old : _) × (new : _) × (more : List LostDisplay)
             × (slice_get displays.old.items place ≡ Some old)
             × (displays.new.items ≡ slice_set displays.old.items place new)
             × (self.new ≡ record self.old { lost = self.old.lost ++ more })
@@ -110,7 +110,7 @@ impl DisplaySet {
               ++ record { display = number; frame = frame } ∷ [];
         } }
     {
-        self.lost.push(Lost {
+        self.lost.push(LostDisplay {
             display: number,
             frame,
         });
@@ -129,7 +129,7 @@ fn show_at(displays: &mut Vec<Box<dyn Display>>, place: usize, frame: &FrameOut)
     show_one(&mut displays[place], frame).is_ok()
 }
 
-fn show_one(display: &mut Box<dyn Display>, frame: &FrameOut) -> Result<(), Failed>
+fn show_one(display: &mut Box<dyn Display>, frame: &FrameOut) -> Result<(), StreamFailed>
     ensures shown { OnOk result (Appends (frame.now ∷ []) (shown display.old) (shown display.new)) }
     ensures failed { OnErr result (IsTrue (has_risen (faults display.old) (faults display.new))) }
     ensures same { OnErr result (shown display.new ≡ shown display.old) }

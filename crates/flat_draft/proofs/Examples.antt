@@ -10,7 +10,7 @@ use Rattle.flat_scene.specs.Misuse.{first_reason}
 use Rattle.flat_scene.specs.Trees.{more, node_count}
 use Rattle.flat_graph.specs.declared.nodes.GraphNode.{GraphNode}
 use Rattle.flat_graph.specs.State.{GraphState, new_node}
-use Rattle.flat_content.specs.declared.stored.Stored.TheVariants.{Fill, Viewport}
+use Rattle.flat_content.specs.declared.stored_content.StoredContent.TheVariants.{Fill, Viewport}
 use Rattle.flat_content.specs.Table.{TableState, empty_table, with_stored}
 use Rattle.flat_snap.specs.Building.{with_children}
 use Rattle.flat_scene.specs.declared.calls.Call.TheVariants.{CreateView, CreateFilledRect, ReplaceChildren}

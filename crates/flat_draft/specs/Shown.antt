@@ -8,7 +8,7 @@ use Rattle.flat_base.specs.declared.limits.TheConstants.{PATH_NODES_MAX}
 use Rattle.flat_scene.specs.declared.trees.Children.{Children}
 use Rattle.flat_scene.specs.declared.trees.Children.TheVariants.{Empty}
 use Rattle.flat_scene.specs.declared.trees.Content.{Content}
-use Rattle.flat_scene.specs.declared.trees.Held.{Held}
+use Rattle.flat_scene.specs.declared.trees.HeldContent.{HeldContent}
 use Rattle.flat_scene.specs.declared.trees.Node.{Node}
 use Rattle.flat_scene.specs.declared.trees.Tree.{Tree}
 use Rattle.flat_scene.specs.Tree.{head_of, regions_of}
@@ -21,7 +21,7 @@ use Rattle.flat_content.specs.Table.{TableState, content_at, use_at}
 use Rattle.flat_snap.specs.Building.{with_children}
 
 -- what a transform shows that holds a content
-abbrev pub content_shown : TableState → Option Held → Option Content
+abbrev pub content_shown : TableState → Option HeldContent → Option Content
 content_shown table held = option_and_then (content_at table) (option_map serial_of held)
 
 -- the node of a transform, without children

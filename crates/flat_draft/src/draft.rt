@@ -16,7 +16,7 @@ use crate::parts::{
     set_content, set_hits, watched,
 };
 use flat_base::{FENCES_PER_LIST_MAX, NoMemory, PairNo, Reason};
-use flat_collect::{Verdict, judge, sweep};
+use flat_collect::{TreeCheck, judge, sweep};
 use flat_content::ContentTable;
 use flat_graph::Graph;
 use flat_scene::{BufferList, Call, GraphFault, HitRegion, PresentArgs, ViewportProps, Watch};
@@ -192,8 +192,8 @@ impl Draft {
             return Err(DraftFault::Closed);
         }
         let nodes = match judge(self.alloc, &self.graph) {
-            Ok(Verdict::Good { nodes }) => nodes,
-            Ok(Verdict::Bad(reason)) => return Err(self.close(reason)),
+            Ok(TreeCheck::Good { nodes }) => nodes,
+            Ok(TreeCheck::Bad(reason)) => return Err(self.close(reason)),
             Err(NoMemory) => return Err(DraftFault::Memory),
         };
         if has_too_many(args) {

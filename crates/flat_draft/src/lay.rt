@@ -15,7 +15,7 @@ ghost use Rattle.flat_draft.specs.Shown.{shown_tree};
 use flat_base::{NoMemory, PATH_NODES_MAX, PairNo};
 use flat_content::ContentTable;
 use flat_graph::{Graph, GraphNode};
-use flat_scene::{Content, Held, HitRegion, Interaction};
+use flat_scene::{Content, HeldContent, HitRegion, Interaction};
 use flat_snap::{FlatNode, Snapshot, SnapshotBuilder};
 use std::alloc::Global;
 
@@ -37,7 +37,7 @@ fn regions(node: &GraphNode, is_root: bool) -> &[HitRegion]
 }
 
 /// What a transform shows that holds a content.
-fn content(contents: &ContentTable, held: Option<Held>) -> Option<Content>
+fn content(contents: &ContentTable, held: Option<HeldContent>) -> Option<Content>
     ensures { result ≡ content_shown contents.now held }
 {
     contents.content(held?.serial)

@@ -1,5 +1,5 @@
 use flat_base::{Actor, PairNo, SessionNo};
-use flat_setup::{NewSetup, SetupBuilder, SetupFault};
+use flat_setup::{BuiltSetup, SetupBuilder, SetupFault};
 use std::alloc::Global;
 
 /// The display's sides, in pixels.
@@ -22,7 +22,7 @@ pub(crate) struct Cast {
 }
 
 /// The display shows the home session, and that shows the application.
-pub(crate) fn new_cast(alloc: Global) -> Result<(NewSetup, Cast), SetupFault> {
+pub(crate) fn new_cast(alloc: Global) -> Result<(BuiltSetup, Cast), SetupFault> {
     let mut setup = SetupBuilder::new(alloc, WIDTH, HEIGHT, DISPLAY_ENTRIES);
     let home = setup.session(CLIENT_ENTRIES)?;
     let app = setup.session(CLIENT_ENTRIES)?;

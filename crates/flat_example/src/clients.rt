@@ -4,7 +4,7 @@ ghost use Rattle.std.specs.Prelude.{◌≡◌};
 use crate::cast::{Cast, HEIGHT, WIDTH};
 use flat_base::{ContentId, PairNo, TransformId};
 use flat_client::{CallError, Client, NO_INSET, present_at};
-use flat_scene::{Cond, Interaction, ViewportProps};
+use flat_scene::{Interaction, ViewportProps, WaitCondition};
 use std::alloc::Global;
 use std::sync::Wait;
 use std::time::Clock;
@@ -60,9 +60,9 @@ fn present_each<R: Wait + Clock>(
 {
     for frame in 1..FRAMES + 1 {
         client.set_translation(INNER, 0, TOP + frame as i32)?;
-        client.wait(rt, Cond::Credits(1), LOOKS)?;
+        client.wait(rt, WaitCondition::Credits(1), LOOKS)?;
         client.present(rt, present_at(alloc, 0))?;
-        client.wait(rt, Cond::Taken(frame), LOOKS)?;
+        client.wait(rt, WaitCondition::Taken(frame), LOOKS)?;
     }
     Ok(())
 }

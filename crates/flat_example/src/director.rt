@@ -8,7 +8,7 @@ use anyhow::bail;
 use flat_display::Display;
 use flat_focus::Focus;
 use flat_pointer::{PointerAnswer, Pointers};
-use flat_scene::Cond;
+use flat_scene::WaitCondition;
 use flat_screen::PictureDisplay;
 use flat_shell::{ComposedFrame, DisplayCompositor};
 use std::alloc::Global;
@@ -104,8 +104,8 @@ fn await_presents<R: Wait + Clock>(
     ensures may { OnOk result (MayBegin time compositor.new) }
     ensures stays { compositor.new.stage ≡ compositor.old.stage }
 {
-    compositor.wait(rt, Cond::Presents(cast.home, number), LOOKS)?;
-    compositor.wait(rt, Cond::Presents(cast.app, number), LOOKS)?;
+    compositor.wait(rt, WaitCondition::Presents(cast.home, number), LOOKS)?;
+    compositor.wait(rt, WaitCondition::Presents(cast.app, number), LOOKS)?;
     compositor.may_begin(time)?;
     Ok(())
 }

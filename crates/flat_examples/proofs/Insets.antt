@@ -6,10 +6,10 @@ use Rattle.flat_scene.specs.declared.calls.Inset.{Inset}
 use Rattle.flat_scene.specs.declared.calls.Interaction.TheVariants.{Default}
 use Rattle.flat_scene.specs.declared.frames.Hit.{Hit}
 use Rattle.flat_scene.specs.declared.journal.Entry.{Entry}
-use Rattle.flat_scene.specs.declared.journal.Kind.TheVariants as kind
+use Rattle.flat_scene.specs.declared.journal.EntryKind.TheVariants as kind
 use Rattle.flat_scene.specs.declared.journal.Reply.TheVariants as reply
-use Rattle.flat_scene.specs.declared.journal.Told.{Told}
-use Rattle.flat_scene.specs.declared.journal.Told.TheVariants as tell
+use Rattle.flat_scene.specs.declared.journal.WatcherValue.{WatcherValue}
+use Rattle.flat_scene.specs.declared.journal.WatcherValue.TheVariants as tell
 use Rattle.flat_scene.specs.History.{◌▹◌}
 use Rattle.flat_topology.specs.Draw.{draw_list}
 use Rattle.flat_topology.specs.Hits.{hit_list}
@@ -87,7 +87,7 @@ linked = []
     ▹ by_session 2 2 (call.CreateView (p 1) ∷ []) (kind.View (p 1)) reply.Done
     ▹ by_session 1 3 (call.CreateViewport (c 1) (p 1) 30 40 inset ∷ []) (kind.Viewport (p 1) (record { w = 30; h = 40; inset = inset })) reply.Done
 
-abbrev layout : ℕ → ℕ → Inset → ℕ → Option Told
+abbrev layout : ℕ → ℕ → Inset → ℕ → Option WatcherValue
 layout w h around ratio = Some (tell.Layout (record { w = w; h = h; inset = around; ratio = ratio }))
 
 -- the child is told size and inset of its viewport as given, with the ratio beside them

@@ -10,7 +10,7 @@ use Rattle.flat_base.specs.declared.shapes.IntRect.{IntRect}
 use Rattle.flat_scene.specs.declared.calls.Call.{Call}
 use Rattle.flat_scene.specs.declared.calls.Call.TheVariants as call
 use Rattle.flat_scene.specs.declared.calls.Interaction.TheVariants.{Default}
-use Rattle.flat_scene.specs.declared.script.Line.TheVariants as line
+use Rattle.flat_scene.specs.declared.script.SessionLine.TheVariants as line
 use Rattle.flat_scene.specs.Draft.{empty_draft, no_inset}
 use Rattle.flat_examples.specs.Words.{f, p, t, c, present}
 use Rattle.flat_examples.specs.Reasons.{Case, refused_for, line_after, call_after, present_after, transforms, image, names, with_viewport}

@@ -7,8 +7,8 @@ use Rattle.flat_base.specs.declared.errors.Reason.TheVariants.{ZeroId}
 use Rattle.flat_base.specs.declared.ids.Actor.{Actor}
 use Rattle.flat_base.specs.declared.ids.Actor.TheVariants.{Session}
 use Rattle.flat_scene.specs.declared.journal.Entry.{Entry}
-use Rattle.flat_scene.specs.declared.journal.Kind.{Kind}
-use Rattle.flat_scene.specs.declared.journal.Kind.TheVariants as kind
+use Rattle.flat_scene.specs.declared.journal.EntryKind.{EntryKind}
+use Rattle.flat_scene.specs.declared.journal.EntryKind.TheVariants as kind
 use Rattle.flat_scene.specs.declared.journal.Reply.{Reply}
 use Rattle.flat_scene.specs.Frames.{sessions_to}
 use Rattle.flat_scene.specs.History.{is_end}
@@ -39,16 +39,16 @@ no-lengths xs ys k two more same = omega (arith, ap length same, two, more)
 some-line : {A : Type 0} (xs : List A) → length xs ≡ 1 → xs ≡ [] → ⊥
 some-line xs one none = two-is-not-one (length xs + 1) 1 (rw one refl) refl (rw none refl)
 
-not-a-poll : (a b : Kind) → a ≡ kind.End 0 → b ≡ kind.Poll → a ≡ b → ⊥
+not-a-poll : (a b : EntryKind) → a ≡ kind.End 0 → b ≡ kind.Poll → a ≡ b → ⊥
 not-a-poll a b is was same = cc
 
-other-end : (a b : Kind) → a ≡ kind.End 1 → b ≡ kind.End 0 → a ≡ b → ⊥
+other-end : (a b : EntryKind) → a ≡ kind.End 1 → b ≡ kind.End 0 → a ≡ b → ⊥
 other-end a b is was same = cc
 
-other-close : (a b : Kind) → a ≡ kind.Close (Some ZeroId) → b ≡ kind.Close None → a ≡ b → ⊥
+other-close : (a b : EntryKind) → a ≡ kind.Close (Some ZeroId) → b ≡ kind.Close None → a ≡ b → ⊥
 other-close a b is was same = cc
 
-other-begin : (a b : Kind) → a ≡ kind.Begin 11 → b ≡ kind.Begin 10 → a ≡ b → ⊥
+other-begin : (a b : EntryKind) → a ≡ kind.Begin 11 → b ≡ kind.Begin 10 → a ≡ b → ⊥
 other-begin a b is was same = eleven (ap time_of same)
   where
     eleven : time_of a ≡ time_of b → ⊥

@@ -6,13 +6,13 @@ use Rattle.flat_base.specs.declared.errors.Reason.TheVariants.{ZeroId}
 use Rattle.flat_scene.specs.declared.calls.Call.{Call}
 use Rattle.flat_scene.specs.declared.calls.Call.TheVariants as call
 use Rattle.flat_scene.specs.declared.journal.Entry.{Entry}
-use Rattle.flat_scene.specs.declared.journal.Kind.TheVariants as kind
+use Rattle.flat_scene.specs.declared.journal.EntryKind.TheVariants as kind
 use Rattle.flat_scene.specs.declared.journal.Reply.TheVariants as reply
-use Rattle.flat_scene.specs.declared.script.Body.TheVariants as body
+use Rattle.flat_scene.specs.declared.script.LineBody.TheVariants as body
 use Rattle.flat_scene.specs.declared.script.DisplayLine.{DisplayLine}
 use Rattle.flat_scene.specs.declared.script.DisplayLine.TheVariants as display
-use Rattle.flat_scene.specs.declared.script.Line.{Line}
-use Rattle.flat_scene.specs.declared.script.Line.TheVariants as line
+use Rattle.flat_scene.specs.declared.script.SessionLine.{SessionLine}
+use Rattle.flat_scene.specs.declared.script.SessionLine.TheVariants as line
 use Rattle.flat_scene.specs.declared.script.ScriptLine.{ScriptLine}
 use Rattle.flat_scene.specs.declared.setup.Setup.{Setup}
 use Rattle.flat_scene.specs.History.{◌▹◌}
@@ -36,7 +36,7 @@ pub record Reorders (setup : Setup) (count : ℕ) (lines : List ScriptLine) (rig
   pub refused : ¬ (IsWritten setup wrong)
 
 -- a line of a session, and of the display
-abbrev pub of_session : ℕ → ℕ → Line → ScriptLine
+abbrev pub of_session : ℕ → ℕ → SessionLine → ScriptLine
 of_session number who text = record { number = number; actor = Session (s who); body = body.Session text }
 
 abbrev pub of_display : ℕ → DisplayLine → ScriptLine

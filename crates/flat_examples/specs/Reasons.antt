@@ -17,11 +17,11 @@ use Rattle.flat_scene.specs.declared.calls.HitRegion.{HitRegion}
 use Rattle.flat_scene.specs.declared.calls.Watch.TheVariants as watch
 use Rattle.flat_scene.specs.declared.calls.Interaction.TheVariants.{Default}
 use Rattle.flat_scene.specs.declared.journal.Entry.{Entry}
-use Rattle.flat_scene.specs.declared.journal.Kind.TheVariants as kind
+use Rattle.flat_scene.specs.declared.journal.EntryKind.TheVariants as kind
 use Rattle.flat_scene.specs.declared.journal.Reply.{Reply}
 use Rattle.flat_scene.specs.declared.journal.Reply.TheVariants as reply
-use Rattle.flat_scene.specs.declared.script.Line.{Line}
-use Rattle.flat_scene.specs.declared.script.Line.TheVariants as line
+use Rattle.flat_scene.specs.declared.script.SessionLine.{SessionLine}
+use Rattle.flat_scene.specs.declared.script.SessionLine.TheVariants as line
 use Rattle.flat_scene.specs.declared.setup.Setup.{Setup}
 use Rattle.flat_scene.specs.Draft.{Draft, Name, empty_draft, no_inset}
 use Rattle.flat_scene.specs.Effect.{draft_of}
@@ -48,7 +48,7 @@ draft_after before pending = unwrap_or (result_ok (draft_of setup (calls (s 1) b
 pub record Case : Type 0 where
   pub before : List Entry
   pub draft : Draft
-  pub text : Line
+  pub text : SessionLine
 
 -- the reason for which the line is refused: that of the reply to its entry
 abbrev pub refused_for : Case → Option Reason
@@ -62,7 +62,7 @@ pub record Row : Type 0 where
   pub right : Case
 
 -- a line after some entries and some calls that no entry carries yet
-abbrev pub line_after : List Entry → List Call → Line → Case
+abbrev pub line_after : List Entry → List Call → SessionLine → Case
 line_after before pending text = record { before = before; draft = draft_after before pending; text = text }
 
 -- a call, or a present, after some calls

@@ -8,11 +8,11 @@ use Rattle.flat_scene.specs.declared.calls.Call.{Call}
 use Rattle.flat_scene.specs.declared.calls.Call.TheVariants as call
 use Rattle.flat_scene.specs.declared.calls.Watch.TheVariants as watch
 use Rattle.flat_scene.specs.declared.journal.Entry.{Entry}
-use Rattle.flat_scene.specs.declared.journal.Kind.TheVariants as kind
+use Rattle.flat_scene.specs.declared.journal.EntryKind.TheVariants as kind
 use Rattle.flat_scene.specs.declared.journal.Reply.{Reply}
 use Rattle.flat_scene.specs.declared.journal.Reply.TheVariants as reply
-use Rattle.flat_scene.specs.declared.journal.Told.{Told}
-use Rattle.flat_scene.specs.declared.journal.Told.TheVariants as tell
+use Rattle.flat_scene.specs.declared.journal.WatcherValue.{WatcherValue}
+use Rattle.flat_scene.specs.declared.journal.WatcherValue.TheVariants as tell
 use Rattle.flat_scene.specs.declared.setup.Setup.{Setup}
 use Rattle.flat_scene.specs.History.{◌▹◌}
 use Rattle.flat_rules.specs.Legal.{Legal, MayEnter, may_act, goes_on, keeps_time, has_draft, draft_with, own_call}
@@ -142,7 +142,7 @@ SecondUse = RefusesReply home viewed (views 2 view_again) refused_token reply.Do
 abbrev pub gets : ℕ → Reply → Entry
 gets line answer = by_session 1 line [] (kind.Get watch.Layout) answer
 
-abbrev pub layout : Told
+abbrev pub layout : WatcherValue
 layout = tell.Layout (record { w = 100; h = 100; inset = no_inset; ratio = 65536 })
 
 abbrev pub answered : List Entry

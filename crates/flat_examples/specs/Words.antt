@@ -9,7 +9,7 @@ use Rattle.flat_base.specs.declared.ids.TransformId.{TransformId}
 use Rattle.flat_scene.specs.declared.calls.Call.{Call}
 use Rattle.flat_scene.specs.declared.calls.PresentArgs.{PresentArgs}
 use Rattle.flat_scene.specs.declared.journal.Entry.{Entry}
-use Rattle.flat_scene.specs.declared.journal.Kind.{Kind}
+use Rattle.flat_scene.specs.declared.journal.EntryKind.{EntryKind}
 use Rattle.flat_scene.specs.declared.journal.Reply.{Reply}
 use Rattle.flat_scene.specs.declared.journal.Reply.TheVariants.{Done}
 use Rattle.flat_scene.specs.declared.setup.FenceDecl.{FenceDecl}
@@ -60,11 +60,11 @@ setup_of sessions pairs fences = record {
 }
 
 -- an entry of a session, with the calls that it carries, and one of the display
-abbrev pub by_session : ℕ → ℕ → List Call → Kind → Reply → Entry
+abbrev pub by_session : ℕ → ℕ → List Call → EntryKind → Reply → Entry
 by_session number line calls kind reply =
     record { actor = Session (s number); line = line; calls = calls; kind = kind; reply = reply }
 
-abbrev pub by_display : ℕ → Kind → Entry
+abbrev pub by_display : ℕ → EntryKind → Entry
 by_display line kind = record { actor = Display; line = line; calls = []; kind = kind; reply = Done }
 
 -- a present at time 0 with these acquire and release fences

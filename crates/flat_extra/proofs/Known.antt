@@ -15,7 +15,7 @@ use Rattle.flat_pointer.specs.declared.pointers.TheConstants.{POINTERS}
 use Rattle.flat_pointer.specs.declared.text.PointerLine.{PointerLine}
 use Rattle.flat_extra.specs.declared.split.ExtraLine.{ExtraLine}
 use Rattle.flat_extra.specs.declared.split.ExtraSet.TheVariants.{Pointer}
-use Rattle.flat_extra.specs.declared.whole.WithPointers.{WithPointers}
+use Rattle.flat_extra.specs.declared.whole.PointerScript.{PointerScript}
 use Rattle.flat_extra.specs.Extra.{rest_of, extra_of}
 use Rattle.flat_extra.specs.Reading.{failed, pointer_in, pointer_tests, pointer_value, pointer_line, then_read, all_read}
 use Rattle.flat_extra.specs.Whole.{and_then, pointers_read}
@@ -61,16 +61,16 @@ module _ {A : Type 0} (test : A → Bool) (read : ℕ → ExtraLine → Result A
 
 -- ---- a whole text
 
-pub pointers-known : (bytes : List ℕ) (read : WithPointers) → pointers_read bytes ≡ Ok read
+pub pointers-known : (bytes : List ℕ) (read : PointerScript) → pointers_read bytes ≡ Ok read
     → IsTrue (list_all (λ line. nat_lt line.pointer POINTERS) read.lines)
 pointers-known bytes read is =
     let found : Result (List PointerLine) ScriptFault = all_read pointer_line 0 (extra_of Pointer bytes) in
-    let whole : Script → Result WithPointers ScriptFault = λ script. and_then found (λ lines. Ok (record { script = script; lines = lines })) in
+    let whole : Script → Result PointerScript ScriptFault = λ script. and_then found (λ lines. Ok (record { script = script; lines = lines })) in
     let parts = both-read (text_read (rest_of Pointer bytes)) whole read
     (not-refused (nat_lt SCRIPT_BYTES_MAX (length bytes)) (record { line = 0; kind = TooLong }) (and_then (text_read (rest_of Pointer bytes)) whole) read is) in
-    let second : List PointerLine → Result WithPointers ScriptFault = λ ls. Ok (record { script = parts.0; lines = ls }) in
+    let second : List PointerLine → Result PointerScript ScriptFault = λ ls. Ok (record { script = parts.0; lines = ls }) in
     let lines = both-read found second read parts.2 in
-    let same : ◌≡◌ {A = WithPointers} (record { script = parts.0; lines = lines.0 }) read = let ok = lines.2 in cc in
+    let same : ◌≡◌ {A = PointerScript} (record { script = parts.0; lines = lines.0 }) read = let ok = lines.2 in cc in
     let known : list_all (λ line. nat_lt line.pointer 16) lines.0 ≡ true =
     all-values (λ (line : PointerLine). nat_lt line.pointer 16) pointer_line known-line 0 (extra_of Pointer bytes) lines.0 lines.1 in
-    subst (λ (w : WithPointers). list_all (λ line. nat_lt line.pointer 16) w.lines ≡ true) same known
+    subst (λ (w : PointerScript). list_all (λ line. nat_lt line.pointer 16) w.lines ≡ true) same known

@@ -19,8 +19,8 @@ use Rattle.flat_extra.specs.declared.split.ExtraLine.{ExtraLine}
 use Rattle.flat_extra.specs.declared.split.ExtraSet.{ExtraSet}
 use Rattle.flat_focus.specs.declared.text.FocusLine.{FocusLine}
 use Rattle.flat_extra.specs.declared.split.ExtraSet.TheVariants.{Focus, Pointer}
-use Rattle.flat_extra.specs.declared.whole.WithFocus.{WithFocus}
-use Rattle.flat_extra.specs.declared.whole.WithPointers.{WithPointers}
+use Rattle.flat_extra.specs.declared.whole.FocusScript.{FocusScript}
+use Rattle.flat_extra.specs.declared.whole.PointerScript.{PointerScript}
 use Rattle.flat_extra.specs.Extra.{is_extra, is_run, if_extra, extra_from, rest_of, extra_of}
 use Rattle.flat_extra.specs.Reading.{failed, focus_line, pointer_tests, pointer_value, pointer_line, then_read, all_read}
 use Rattle.flat_extra.specs.Whole.{and_then, focus_read, pointers_read}
@@ -82,37 +82,37 @@ pub both-read : {A B : Type 0} (first : Result A ScriptFault) (next : A → Resu
 both-read (Ok a) next value is = (a, refl, is)
 both-read (Err fault) next value is = absurd (cc)
 
-pub pointers-rise : (bytes : List ℕ) (read : WithPointers) → pointers_read bytes ≡ Ok read → rise_after 0 read.lines ≡ true
+pub pointers-rise : (bytes : List ℕ) (read : PointerScript) → pointers_read bytes ≡ Ok read → rise_after 0 read.lines ≡ true
 pointers-rise bytes read is =
     let found : Result (List PointerLine) ScriptFault = all_read pointer_line 0 (extra_of Pointer bytes) in
-    let whole : Script → Result WithPointers ScriptFault = λ script. and_then found (λ lines. Ok (record { script = script; lines = lines })) in
+    let whole : Script → Result PointerScript ScriptFault = λ script. and_then found (λ lines. Ok (record { script = script; lines = lines })) in
     let parts = both-read (text_read (rest_of Pointer bytes)) whole read
     (not-refused (nat_lt SCRIPT_BYTES_MAX (length bytes)) (record { line = 0; kind = TooLong }) (and_then (text_read (rest_of Pointer bytes)) whole) read is) in
-    let second : List PointerLine → Result WithPointers ScriptFault = λ ls. Ok (record { script = parts.0; lines = ls }) in
+    let second : List PointerLine → Result PointerScript ScriptFault = λ ls. Ok (record { script = parts.0; lines = ls }) in
     let lines = both-read found second read parts.2 in
-    let same : ◌≡◌ {A = WithPointers} (record { script = parts.0; lines = lines.0 }) read = let ok = lines.2 in cc in
-    subst (λ (w : WithPointers). rise_after 0 w.lines ≡ true) same (all-rise Pointer false 1 0 0 (slice_split is_feed bytes) lines.0 (omega arith) lines.1)
+    let same : ◌≡◌ {A = PointerScript} (record { script = parts.0; lines = lines.0 }) read = let ok = lines.2 in cc in
+    subst (λ (w : PointerScript). rise_after 0 w.lines ≡ true) same (all-rise Pointer false 1 0 0 (slice_split is_feed bytes) lines.0 (omega arith) lines.1)
 
 -- ---- the rest
 
-pub focus-rest : (bytes : List ℕ) (read : WithFocus) → focus_read bytes ≡ Ok read → text_read (rest_of Focus bytes) ≡ Ok read.script
+pub focus-rest : (bytes : List ℕ) (read : FocusScript) → focus_read bytes ≡ Ok read → text_read (rest_of Focus bytes) ≡ Ok read.script
 focus-rest bytes read is =
-    let whole : Script → Result WithFocus ScriptFault = λ script. and_then (all_read (focus_line script) 0 (extra_of Focus bytes))
+    let whole : Script → Result FocusScript ScriptFault = λ script. and_then (all_read (focus_line script) 0 (extra_of Focus bytes))
     (λ lines. Ok (record { script = script; lines = lines })) in
     let parts = both-read (text_read (rest_of Focus bytes)) whole read
     (not-refused (nat_lt SCRIPT_BYTES_MAX (length bytes)) (record { line = 0; kind = TooLong }) (and_then (text_read (rest_of Focus bytes)) whole) read is) in
-    let second : List FocusLine → Result WithFocus ScriptFault = λ ls. Ok (record { script = parts.0; lines = ls }) in
+    let second : List FocusLine → Result FocusScript ScriptFault = λ ls. Ok (record { script = parts.0; lines = ls }) in
     let lines = both-read (all_read (focus_line parts.0) 0 (extra_of Focus bytes)) second read parts.2 in
-    let same : ◌≡◌ {A = WithFocus} (record { script = parts.0; lines = lines.0 }) read = let ok = lines.2 in cc in
-    parts.1 ∙ ap (λ (w : WithFocus). Ok w.script) same
+    let same : ◌≡◌ {A = FocusScript} (record { script = parts.0; lines = lines.0 }) read = let ok = lines.2 in cc in
+    parts.1 ∙ ap (λ (w : FocusScript). Ok w.script) same
 
-pub pointer-rest : (bytes : List ℕ) (read : WithPointers) → pointers_read bytes ≡ Ok read → text_read (rest_of Pointer bytes) ≡ Ok read.script
+pub pointer-rest : (bytes : List ℕ) (read : PointerScript) → pointers_read bytes ≡ Ok read → text_read (rest_of Pointer bytes) ≡ Ok read.script
 pointer-rest bytes read is =
     let found : Result (List PointerLine) ScriptFault = all_read pointer_line 0 (extra_of Pointer bytes) in
-    let whole : Script → Result WithPointers ScriptFault = λ script. and_then found (λ lines. Ok (record { script = script; lines = lines })) in
+    let whole : Script → Result PointerScript ScriptFault = λ script. and_then found (λ lines. Ok (record { script = script; lines = lines })) in
     let parts = both-read (text_read (rest_of Pointer bytes)) whole read
     (not-refused (nat_lt SCRIPT_BYTES_MAX (length bytes)) (record { line = 0; kind = TooLong }) (and_then (text_read (rest_of Pointer bytes)) whole) read is) in
-    let second : List PointerLine → Result WithPointers ScriptFault = λ ls. Ok (record { script = parts.0; lines = ls }) in
+    let second : List PointerLine → Result PointerScript ScriptFault = λ ls. Ok (record { script = parts.0; lines = ls }) in
     let lines = both-read found second read parts.2 in
-    let same : ◌≡◌ {A = WithPointers} (record { script = parts.0; lines = lines.0 }) read = let ok = lines.2 in cc in
-    parts.1 ∙ ap (λ (w : WithPointers). Ok w.script) same
+    let same : ◌≡◌ {A = PointerScript} (record { script = parts.0; lines = lines.0 }) read = let ok = lines.2 in cc in
+    parts.1 ∙ ap (λ (w : PointerScript). Ok w.script) same

@@ -2,15 +2,15 @@
 use Rattle.std.specs.Prelude.{◌≡◌, ℕ, List, Ok}
 use Rattle.flat_script.specs.Grammar.{text_read}
 use Rattle.flat_extra.specs.declared.split.ExtraSet.TheVariants.{Focus, Pointer}
-use Rattle.flat_extra.specs.declared.whole.WithFocus.{WithFocus}
-use Rattle.flat_extra.specs.declared.whole.WithPointers.{WithPointers}
+use Rattle.flat_extra.specs.declared.whole.FocusScript.{FocusScript}
+use Rattle.flat_extra.specs.declared.whole.PointerScript.{PointerScript}
 use Rattle.flat_extra.specs.Extra.{rest_of}
 use Rattle.flat_extra.specs.Whole.{focus_read, pointers_read}
 
 abbrev pub FocusRestIsRead : Type 0
-FocusRestIsRead = (bytes : List ℕ) (read : WithFocus) → focus_read bytes ≡ Ok read
+FocusRestIsRead = (bytes : List ℕ) (read : FocusScript) → focus_read bytes ≡ Ok read
     → text_read (rest_of Focus bytes) ≡ Ok read.script
 
 abbrev pub PointerRestIsRead : Type 0
-PointerRestIsRead = (bytes : List ℕ) (read : WithPointers) → pointers_read bytes ≡ Ok read
+PointerRestIsRead = (bytes : List ℕ) (read : PointerScript) → pointers_read bytes ≡ Ok read
     → text_read (rest_of Pointer bytes) ≡ Ok read.script

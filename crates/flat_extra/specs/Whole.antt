@@ -6,8 +6,8 @@ use Rattle.flat_script.specs.declared.script.ScriptFault.{ScriptFault}
 use Rattle.flat_script.specs.Grammar.{text_read}
 use Rattle.flat_extra.specs.declared.split.ExtraLine.{ExtraLine}
 use Rattle.flat_extra.specs.declared.split.ExtraSet.TheVariants.{Focus, Pointer}
-use Rattle.flat_extra.specs.declared.whole.WithFocus.{WithFocus}
-use Rattle.flat_extra.specs.declared.whole.WithPointers.{WithPointers}
+use Rattle.flat_extra.specs.declared.whole.FocusScript.{FocusScript}
+use Rattle.flat_extra.specs.declared.whole.PointerScript.{PointerScript}
 use Rattle.flat_extra.specs.Extra.{rest_of, extra_of}
 use Rattle.flat_extra.specs.Reading.{focus_line, pointer_line, all_read}
 
@@ -24,18 +24,18 @@ unless_long bytes read =
 
 -- ---- both sets: the script of a text without its extra lines, and then what is read of these
 
-abbrev pub focus_of : List ℕ → List ExtraLine → Result WithFocus ScriptFault
+abbrev pub focus_of : List ℕ → List ExtraLine → Result FocusScript ScriptFault
 focus_of rest extra =
     and_then (text_read rest) (λ script. and_then (all_read (focus_line script) 0 extra)
     (λ lines. Ok (record { script = script; lines = lines })))
 
-abbrev pub focus_read : List ℕ → Result WithFocus ScriptFault
+abbrev pub focus_read : List ℕ → Result FocusScript ScriptFault
 focus_read bytes = unless_long bytes (focus_of (rest_of Focus bytes) (extra_of Focus bytes))
 
-abbrev pub pointers_of : List ℕ → List ExtraLine → Result WithPointers ScriptFault
+abbrev pub pointers_of : List ℕ → List ExtraLine → Result PointerScript ScriptFault
 pointers_of rest extra =
     and_then (text_read rest) (λ script. and_then (all_read pointer_line 0 extra)
     (λ lines. Ok (record { script = script; lines = lines })))
 
-abbrev pub pointers_read : List ℕ → Result WithPointers ScriptFault
+abbrev pub pointers_read : List ℕ → Result PointerScript ScriptFault
 pointers_read bytes = unless_long bytes (pointers_of (rest_of Pointer bytes) (extra_of Pointer bytes))

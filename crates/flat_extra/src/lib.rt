@@ -9,5 +9,5 @@ mod whole;
 
 pub use laws::{extra_laws, pointers_rise, rests_are_read};
 pub use reading::{read_focus, read_pointers};
-pub use split::{ByteList, ExtraLine, ExtraList, ExtraSet, Split, split_text};
-pub use whole::{WithFocus, WithPointers, parse_focus, parse_pointers};
+pub use split::{ByteList, ExtraLine, ExtraList, ExtraSet, SplitText, split_text};
+pub use whole::{FocusScript, PointerScript, parse_focus, parse_pointers};

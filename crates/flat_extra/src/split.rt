@@ -36,12 +36,12 @@ pub type ExtraList = Items<ExtraLine>;
 
 /// A text in two parts.
 #[derive(Drop)]
-pub struct Split {
+pub struct SplitText {
     pub rest: ByteList,
     pub lines: ExtraList,
 }
 
-impl Split {
+impl SplitText {
     /// The text with `#` in place of each extra line.
     pub fn rest(&self) -> &[u8]
         ensures { result.now ≡ self.now.rest }
@@ -132,7 +132,7 @@ fn push_extra(
 }
 
 /// The rest of a text and its extra lines, in memory of their own.
-pub fn split_text(alloc: Global, bytes: &[u8], set: ExtraSet) -> Result<Split, NoMemory>
+pub fn split_text(alloc: Global, bytes: &[u8], set: ExtraSet) -> Result<SplitText, NoMemory>
     requires { length bytes.now ≤ SCRIPT_BYTES_MAX }
     ensures rest { IfOk result (λ split. split.rest ≡ rest_of set bytes.now) }
     ensures lines { IfOk result (λ split. split.lines ≡ extra_of set bytes.now) }
@@ -152,5 +152,5 @@ pub fn split_text(alloc: Global, bytes: &[u8], set: ExtraSet) -> Result<Split, N
         number += 1;
         left = later;
     }
-    Ok(Split { rest, lines })
+    Ok(SplitText { rest, lines })
 }

@@ -6,7 +6,7 @@ ghost use Rattle.flat_extra.specs.Readers.{Reads, IsLong};
 ghost use Rattle.flat_extra.specs.Whole.{focus_of, focus_read, pointers_of, pointers_read};
 
 use crate::reading::{read_focus, read_pointers};
-use crate::split::{ExtraSet, Split, split_text};
+use crate::split::{ExtraSet, SplitText, split_text};
 use flat_base::SCRIPT_BYTES_MAX;
 use flat_focus::FocusLines;
 use flat_places::{FaultKind, Script};
@@ -17,20 +17,20 @@ use std::alloc::Global;
 
 /// A script, and the extra lines of its text that ask for the focus.
 #[derive(Drop)]
-pub struct WithFocus {
+pub struct FocusScript {
     pub script: Script,
     pub lines: FocusLines,
 }
 
 /// A script, and the extra lines of its text that pointers have.
 #[derive(Drop)]
-pub struct WithPointers {
+pub struct PointerScript {
     pub script: Script,
     pub lines: PointerLines,
 }
 
 /// A text without its extra lines, and those lines; or that the text is too long.
-fn split_within(alloc: Global, bytes: &[u8], set: ExtraSet) -> Result<Split, ScriptError>
+fn split_within(alloc: Global, bytes: &[u8], set: ExtraSet) -> Result<SplitText, ScriptError>
     ensures short { IfOk result (λ split. length bytes.now ≤ SCRIPT_BYTES_MAX) }
     ensures rest { IfOk result (λ split. split.rest ≡ rest_of set bytes.now) }
     ensures lines { IfOk result (λ split. split.lines ≡ extra_of set bytes.now) }
@@ -49,7 +49,7 @@ fn split_within(alloc: Global, bytes: &[u8], set: ExtraSet) -> Result<Split, Scr
 }
 
 /// The script of a text that was split, and what its extra lines ask of the focus.
-fn focus_of(alloc: Global, split: &Split) -> Result<WithFocus, ScriptError>
+fn focus_of(alloc: Global, split: &SplitText) -> Result<FocusScript, ScriptError>
     ensures { Reads result (focus_of split.now.rest split.now.lines) }
 {
     let script = match parse(alloc, split.rest()) {
@@ -58,13 +58,13 @@ fn focus_of(alloc: Global, split: &Split) -> Result<WithFocus, ScriptError>
     };
     scripts_are_playable();
     match read_focus(alloc, &script, split.lines()) {
-        Ok(lines) => Ok(WithFocus { script, lines }),
+        Ok(lines) => Ok(FocusScript { script, lines }),
         Err(error) => Err(error),
     }
 }
 
 /// The same of the lines that pointers have.
-fn pointers_of(alloc: Global, split: &Split) -> Result<WithPointers, ScriptError>
+fn pointers_of(alloc: Global, split: &SplitText) -> Result<PointerScript, ScriptError>
     ensures { Reads result (pointers_of split.now.rest split.now.lines) }
 {
     let (rest, lines) = (split.rest(), split.lines());
@@ -73,7 +73,7 @@ fn pointers_of(alloc: Global, split: &Split) -> Result<WithPointers, ScriptError
         Err(error) => return Err(error),
     };
     match read_pointers(alloc, lines) {
-        Ok(lines) => Ok(WithPointers { script, lines }),
+        Ok(lines) => Ok(PointerScript { script, lines }),
         Err(error) => Err(error),
     }
 }
@@ -81,7 +81,7 @@ fn pointers_of(alloc: Global, split: &Split) -> Result<WithPointers, ScriptError
 /// The script of a text without its extra lines, and those lines; or the fault of
 /// the text: that it is too long, else the fault of the rest, else that of the first
 /// extra line with one.
-pub fn parse_focus(alloc: Global, bytes: &[u8]) -> Result<WithFocus, ScriptError>
+pub fn parse_focus(alloc: Global, bytes: &[u8]) -> Result<FocusScript, ScriptError>
     ensures { Reads result (focus_read bytes.now) }
 {
     match split_within(alloc, bytes, ExtraSet::Focus) {
@@ -91,7 +91,7 @@ pub fn parse_focus(alloc: Global, bytes: &[u8]) -> Result<WithFocus, ScriptError
 }
 
 /// The same of the lines that pointers have.
-pub fn parse_pointers(alloc: Global, bytes: &[u8]) -> Result<WithPointers, ScriptError>
+pub fn parse_pointers(alloc: Global, bytes: &[u8]) -> Result<PointerScript, ScriptError>
     ensures { Reads result (pointers_read bytes.now) }
 {
     match split_within(alloc, bytes, ExtraSet::Pointer) {

@@ -16,7 +16,7 @@ use Rattle.flat_scene.specs.declared.setup.Setup.{Setup}
 use Rattle.flat_scene.specs.Draft.{Draft, Made, an_image, a_fill, a_viewport, Name, named, without_name, of_serial, content_of, made_of, changed_at}
 use Rattle.flat_scene.specs.Effect.{effect, changed_if, on_image, on_viewport, on_fill, is_serial, new_image}
 use Rattle.flat_scene.specs.Misuse.{misuse, is_image, is_fill}
-use Rattle.flat_facts.specs.declared.live.Live.{Live}
+use Rattle.flat_facts.specs.declared.live_viewport.LiveViewport.{LiveViewport}
 use Rattle.flat_facts.specs.Lives.{lives_then}
 use Rattle.flat_facts.proofs.lemmas.Lives.{pair_made, pair_at, live_at, serial_at, lives_by, serials_by, are_apart, are_within, lives_of, IsTidy, lives-same}
 use Rattle.flat_facts.proofs.lemmas.Lives.{serials-same, within-more, lives-append, serials-append, changed-pair, image-pair, viewport-pair, fill-pair}
@@ -142,7 +142,7 @@ module _ (d : Draft) (c : ContentId) (m : Made) (tidy : IsTidy d) (fresh : named
   made-lives =
       lives-append (pair_at contents) d.content_names (name ∷ [])
       ∙ rw (lives-same (length d.contents) (pair_at contents) (pair_at d.contents) earlier d.content_names tidy.within, last)
-      (ap (λ (l : List Live). lives_of d ++ l) (append-nil (live_at name (pair_made m))))
+      (ap (λ (l : List LiveViewport). lives_of d ++ l) (append-nil (live_at name (pair_made m))))
 
   made-serials : serials_by (pair_at contents) names ≡ d.viewports ++ serial_at name (pair_made m)
   made-serials =

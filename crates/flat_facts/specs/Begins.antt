@@ -5,8 +5,8 @@ use Rattle.flat_base.specs.declared.ids.SessionNo.{SessionNo}
 use Rattle.flat_scene.specs.declared.journal.Entry.{Entry}
 use Rattle.flat_scene.specs.declared.journal.Event.{Event}
 use Rattle.flat_scene.specs.declared.journal.Event.TheVariants as event
-use Rattle.flat_scene.specs.declared.journal.Kind.TheVariants.{Begin, Finish}
-use Rattle.flat_scene.specs.declared.journal.Post.{Post}
+use Rattle.flat_scene.specs.declared.journal.EntryKind.TheVariants.{Begin, Finish}
+use Rattle.flat_scene.specs.declared.journal.PostedEvent.{PostedEvent}
 use Rattle.flat_scene.specs.declared.journal.Reply.TheVariants.{Done}
 use Rattle.flat_scene.specs.declared.setup.Setup.{Setup}
 use Rattle.flat_scene.specs.Frames.{sessions_to}
@@ -14,11 +14,11 @@ use Rattle.flat_scene.specs.History.{◌▹◌}
 use Rattle.flat_rules.specs.Posts.{events_to}
 use Rattle.flat_base.specs.declared.ids.Actor.{Actor}
 use Rattle.flat_scene.specs.declared.calls.Call.{Call}
-use Rattle.flat_scene.specs.declared.journal.Kind.{Kind}
+use Rattle.flat_scene.specs.declared.journal.EntryKind.{EntryKind}
 use Rattle.flat_scene.specs.declared.journal.Reply.{Reply}
 
 -- an entry
-abbrev pub entry_of : Actor → ℕ → List Call → Kind → Reply → Entry
+abbrev pub entry_of : Actor → ℕ → List Call → EntryKind → Reply → Entry
 entry_of who line calls kind reply = record { actor = who; line = line; calls = calls; kind = kind; reply = reply }
 
 -- a begin, and the history with it
@@ -40,10 +40,10 @@ abbrev pub took_event : ℕ → List Event
 took_event n = cond (nat_lt 0 n) (event.FramePresented n ∷ []) []
 
 -- an event of the entry at that place
-abbrev pub post_of : ℕ → SessionNo → Event → Post
+abbrev pub post_of : ℕ → SessionNo → Event → PostedEvent
 post_of place s event = record { entry = place; session = s; event = event }
 
 -- the posts that an entry makes to the first sessions
-abbrev pub posts_to : Setup → List Entry → Entry → ℕ → List Post
+abbrev pub posts_to : Setup → List Entry → Entry → ℕ → List PostedEvent
 posts_to setup history entry n = flat_map (λ s. map (post_of (length history) s) (events_to setup history entry s))
     (sessions_to n)

@@ -5,7 +5,7 @@ use Rattle.flat_base.specs.declared.ids.ContentId.{ContentId}
 use Rattle.flat_base.specs.declared.ids.PairNo.{PairNo}
 use Rattle.flat_scene.specs.declared.calls.Call.{Call}
 use Rattle.flat_scene.specs.declared.calls.Call.TheVariants.{ReleaseViewport, Clear}
-use Rattle.flat_facts.specs.declared.live.Live.{Live}
+use Rattle.flat_facts.specs.declared.live_viewport.LiveViewport.{LiveViewport}
 
 -- a call that clears
 abbrev pub is_clear : Call → Bool
@@ -26,5 +26,5 @@ decides Clear = true
 decides _ = false
 
 -- whether they clear the viewport of a pair that is among the live ones
-abbrev pub clears_pair : PairNo → List Live → List Call → Bool
+abbrev pub clears_pair : PairNo → List LiveViewport → List Call → Bool
 clears_pair p live calls = list_any (λ one. one.pair.0 == p.0 && is_cleared one.name calls) live

@@ -5,43 +5,43 @@ use Rattle.std.specs.List.{list_any}
 use Rattle.flat_base.specs.declared.ids.PairNo.{PairNo}
 use Rattle.flat_scene.specs.declared.calls.Call.{Call}
 use Rattle.flat_scene.specs.declared.calls.Call.TheVariants.{CreateViewport, ReleaseViewport, Clear}
-use Rattle.flat_facts.specs.declared.live.Live.{Live}
+use Rattle.flat_facts.specs.declared.live_viewport.LiveViewport.{LiveViewport}
 use Rattle.flat_rules.specs.Legal.{number_if}
 use Rattle.flat_rules.specs.Shown.{is_pair}
 
 -- those after a call, the newest last
-abbrev pub lives_then : List Live → Call → List Live
+abbrev pub lives_then : List LiveViewport → Call → List LiveViewport
 lives_then lives (CreateViewport c pair w h inset) = lives ++ (record { name = c; pair = pair }) ∷ []
 lives_then lives (ReleaseViewport c) = filter (λ live. not (live.name.0 == c.0)) lives
 lives_then lives Clear = []
 lives_then lives _ = lives
 
 -- the same after several
-abbrev pub lives_after : List Live → List Call → List Live
+abbrev pub lives_after : List LiveViewport → List Call → List LiveViewport
 lives_after lives [] = lives
 lives_after lives (call ∷ calls) = lives_after (lives_then lives call) calls
 
 -- the pair of the one that an id names
-abbrev pub pair_named : List Live → ℕ → Option PairNo
+abbrev pub pair_named : List LiveViewport → ℕ → Option PairNo
 pair_named [] id = None
 pair_named (live ∷ lives) id = cond (live.name.0 == id) (Some live.pair) (pair_named lives id)
 
 -- how many are of a pair
-abbrev pub held_of : PairNo → List Live → ℕ
+abbrev pub held_of : PairNo → List LiveViewport → ℕ
 held_of p [] = 0
 held_of p (live ∷ lives) = number_if (live.pair.0 == p.0) + held_of p lives
 
 -- whether a call releases the one of a pair, and whether it clears one
-abbrev pub releases_live : PairNo → List Live → Call → Bool
+abbrev pub releases_live : PairNo → List LiveViewport → Call → Bool
 releases_live p lives (ReleaseViewport c) = is_pair (pair_named lives c.0) p
 releases_live p lives _ = false
 
-abbrev pub clears_live : PairNo → List Live → Call → Bool
+abbrev pub clears_live : PairNo → List LiveViewport → Call → Bool
 clears_live p lives Clear = list_any (λ live. live.pair.0 == p.0) lives
 clears_live p lives _ = false
 
 -- at how many of these calls such a thing happens
-abbrev pub count_of : (List Live → Call → Bool) → List Live → List Call → ℕ
+abbrev pub count_of : (List LiveViewport → Call → Bool) → List LiveViewport → List Call → ℕ
 count_of test lives [] = 0
 count_of test lives (call ∷ calls) = number_if (test lives call) + count_of test (lives_then lives call) calls
 

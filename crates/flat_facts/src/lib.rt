@@ -3,7 +3,7 @@
 //! of what trees show, of pixel ratios, and of what entries post. And the walks over an
 //! entry's calls that keep these definitions: the view that calls leave, and whether they may
 //! lose an end (views), what they clear (clears), how many contents they make (contents),
-//! viewports that live by their names (live, lives), and stamps (stamps). No state is kept
+//! viewports that live by their names (live_viewport, lives), and stamps (stamps). No state is kept
 //! here; what the crates above keep stands for a history by these facts.
 //!
 //! The functions of laws.rt do nothing: their contracts are laws. The others answer exactly
@@ -21,7 +21,7 @@
 pub mod clears;
 pub mod contents;
 mod laws;
-pub mod live;
+pub mod live_viewport;
 pub mod lives;
 pub mod stamps;
 pub mod views;

@@ -2,11 +2,11 @@
 ghost use Rattle.std.specs.Prelude.{◌≡◌, ◌==◌, not, filter, vec_capacity};
 ghost use Rattle.flat_facts.specs.Lives.{pair_named};
 
-use crate::live::Live;
+use crate::live_viewport::LiveViewport;
 use flat_base::{ContentId, PairNo};
 
 /// The pair of the live viewport that an id names.
-pub fn pair_named(live: &[Live], name: ContentId) -> Option<PairNo>
+pub fn pair_named(live: &[LiveViewport], name: ContentId) -> Option<PairNo>
     ensures { result ≡ pair_named live.now name.0 }
 {
     for one in live {
@@ -18,7 +18,7 @@ pub fn pair_named(live: &[Live], name: ContentId) -> Option<PairNo>
 }
 
 /// Takes the live viewport that an id names away.
-pub fn drop_named(live: &mut Vec<Live>, name: ContentId)
+pub fn drop_named(live: &mut Vec<LiveViewport>, name: ContentId)
     ensures live { live.new.items ≡ filter (λ one. not (one.name.0 == name.0)) live.old.items }
     ensures room { vec_capacity live.new ≡ vec_capacity live.old }
 {

@@ -10,8 +10,8 @@ use Rattle.flat_scene.specs.declared.setup.BufferDecl.{BufferDecl}
 use Rattle.flat_scene.specs.declared.setup.FenceDecl.{FenceDecl}
 use Rattle.flat_places.specs.declared.kinds.FaultKind.TheVariants.{Limit}
 use Rattle.flat_places.specs.declared.script.Script.{Script}
-use Rattle.flat_places.specs.declared.names.Meaning.{Meaning}
-use Rattle.flat_places.specs.declared.names.Meaning.TheVariants.{Session, Probe, Buffers, Pair, Fence}
+use Rattle.flat_places.specs.declared.names.NameMeaning.{NameMeaning}
+use Rattle.flat_places.specs.declared.names.NameMeaning.TheVariants.{Session, Probe, Buffers, Pair, Fence}
 use Rattle.flat_places.specs.Forms.{Word, whole, unless_kind, ◌<$>◌, ◌<*>◌}
 use Rattle.flat_places.specs.Names.{place_of}
 use Rattle.flat_places.specs.Places.{session, number_from, new_name, pair_owner, owners}
@@ -76,7 +76,7 @@ one_longer xs ys x n most is count room = let below : n < most = grind (arith, n
 
 -- the meaning of words, at a script with the same names
 
-pub means_at : (s t : Script) (o : Option Meaning) (w : Word) → t.sessions ≡ s.sessions → t.probes ≡ s.probes → t.buffers ≡ s.buffers → t.pairs ≡ s.pairs
+pub means_at : (s t : Script) (o : Option NameMeaning) (w : Word) → t.sessions ≡ s.sessions → t.probes ≡ s.probes → t.buffers ≡ s.buffers → t.pairs ≡ s.pairs
     → t.fences ≡ s.fences → Means o s w → Means o t w
 means_at s t o w a b c d e m = record {
   sessions = ap (λ names. place_of names w) a ∙ m.sessions;
@@ -86,41 +86,41 @@ means_at s t o w a b c d e m = record {
   fences = ap (λ names. place_of names w) e ∙ m.fences;
 }
 
-numbered : (f : ℕ → Meaning) (b : Bool) (n m : ℕ) (o o' : Option Meaning) → n ≡ m → o' ≡ cond b (Some (f n)) o → o' ≡ cond b (Some (f m)) o
+numbered : (f : ℕ → NameMeaning) (b : Bool) (n m : ℕ) (o o' : Option NameMeaning) → n ≡ m → o' ≡ cond b (Some (f n)) o → o' ≡ cond b (Some (f m)) o
 numbered f b n m o o' e is = is ∙ ap (λ k. cond b (Some (f k)) o) e
 
 more : (names all : List Word) (name made : Word) → all ≡ names ++ made ∷ [] → made ≡ name → all ≡ names ++ name ∷ []
 more names all name made is same = is ∙ ap (λ n. names ++ n ∷ []) same
 
-pub sessions_found : (s t : Script) (name made w : Word) (n : ℕ) (o o' : Option Meaning) → t.sessions ≡ s.sessions ++ made ∷ [] → made ≡ name
+pub sessions_found : (s t : Script) (name made w : Word) (n : ℕ) (o o' : Option NameMeaning) → t.sessions ≡ s.sessions ++ made ∷ [] → made ≡ name
     → t.probes ≡ s.probes → t.buffers ≡ s.buffers → t.pairs ≡ s.pairs → t.fences ≡ s.fences → n ≡ length s.sessions → IsFresh s name
     → o' ≡ cond (bytes_eq w name) (Some (Session n)) o → Means o s w → Means o' t w
 sessions_found s t name made w n o o' is same same_probes same_buffers same_pairs same_fences count fresh meaning m =
     means_at (with_session s name) t o' w (more s.sessions t.sessions name made is same) same_probes same_buffers same_pairs same_fences
     (finds_sessions s name w o o' fresh (numbered (λ k. Session k) (bytes_eq w name) n (length s.sessions) o o' count meaning) m)
 
-pub probes_found : (s t : Script) (name made w : Word) (n : ℕ) (o o' : Option Meaning) → t.probes ≡ s.probes ++ made ∷ [] → made ≡ name
+pub probes_found : (s t : Script) (name made w : Word) (n : ℕ) (o o' : Option NameMeaning) → t.probes ≡ s.probes ++ made ∷ [] → made ≡ name
     → t.sessions ≡ s.sessions → t.buffers ≡ s.buffers → t.pairs ≡ s.pairs → t.fences ≡ s.fences → n ≡ length s.probes → IsFresh s name
     → o' ≡ cond (bytes_eq w name) (Some (Probe n)) o → Means o s w → Means o' t w
 probes_found s t name made w n o o' is same same_sessions same_buffers same_pairs same_fences count fresh meaning m =
     means_at (with_probe s name) t o' w same_sessions (more s.probes t.probes name made is same) same_buffers same_pairs same_fences
     (finds_probes s name w o o' fresh (numbered (λ k. Probe k) (bytes_eq w name) n (length s.probes) o o' count meaning) m)
 
-pub buffers_found : (s t : Script) (name made w : Word) (d : BufferDecl) (n : ℕ) (o o' : Option Meaning) → t.buffers ≡ s.buffers ++ made ∷ [] → made ≡ name
+pub buffers_found : (s t : Script) (name made w : Word) (d : BufferDecl) (n : ℕ) (o o' : Option NameMeaning) → t.buffers ≡ s.buffers ++ made ∷ [] → made ≡ name
     → t.sessions ≡ s.sessions → t.probes ≡ s.probes → t.pairs ≡ s.pairs → t.fences ≡ s.fences → n ≡ length s.buffers → IsFresh s name
     → o' ≡ cond (bytes_eq w name) (Some (Buffers n)) o → Means o s w → Means o' t w
 buffers_found s t name made w d n o o' is same same_sessions same_probes same_pairs same_fences count fresh meaning m =
     means_at (with_buffers s name d) t o' w same_sessions same_probes (more s.buffers t.buffers name made is same) same_pairs same_fences
     (finds_buffers s name w d o o' fresh (numbered (λ k. Buffers k) (bytes_eq w name) n (length s.buffers) o o' count meaning) m)
 
-pub pairs_found : (s t : Script) (name made w : Word) (d : PairDecl) (n : ℕ) (o o' : Option Meaning) → t.pairs ≡ s.pairs ++ made ∷ [] → made ≡ name
+pub pairs_found : (s t : Script) (name made w : Word) (d : PairDecl) (n : ℕ) (o o' : Option NameMeaning) → t.pairs ≡ s.pairs ++ made ∷ [] → made ≡ name
     → t.sessions ≡ s.sessions → t.probes ≡ s.probes → t.buffers ≡ s.buffers → t.fences ≡ s.fences → n ≡ length s.pairs → IsFresh s name
     → o' ≡ cond (bytes_eq w name) (Some (Pair n)) o → Means o s w → Means o' t w
 pairs_found s t name made w d n o o' is same same_sessions same_probes same_buffers same_fences count fresh meaning m =
     means_at (with_pair s name d) t o' w same_sessions same_probes same_buffers (more s.pairs t.pairs name made is same) same_fences
     (finds_pairs s name w d o o' fresh (numbered (λ k. Pair k) (bytes_eq w name) n (length s.pairs) o o' count meaning) m)
 
-pub fences_found : (s t : Script) (name made w : Word) (d : FenceDecl) (n : ℕ) (o o' : Option Meaning) → t.fences ≡ s.fences ++ made ∷ [] → made ≡ name
+pub fences_found : (s t : Script) (name made w : Word) (d : FenceDecl) (n : ℕ) (o o' : Option NameMeaning) → t.fences ≡ s.fences ++ made ∷ [] → made ≡ name
     → t.sessions ≡ s.sessions → t.probes ≡ s.probes → t.buffers ≡ s.buffers → t.pairs ≡ s.pairs → n ≡ length s.fences → IsFresh s name
     → o' ≡ cond (bytes_eq w name) (Some (Fence n)) o → Means o s w → Means o' t w
 fences_found s t name made w d n o o' is same same_sessions same_probes same_buffers same_pairs count fresh meaning m =
@@ -129,7 +129,7 @@ fences_found s t name made w d n o o' is same same_sessions same_probes same_buf
 
 -- nothing is declared
 
-pub nothing_found : (o : Option Meaning) (w : Word) → o ≡ None → Means o empty w
+pub nothing_found : (o : Option NameMeaning) (w : Word) → o ≡ None → Means o empty w
 nothing_found o w none = record {
   sessions = sym (ap session_place none);
   probes = sym (ap probe_place none);

@@ -10,16 +10,16 @@ use Rattle.flat_base.specs.declared.ids.SessionNo.{SessionNo}
 use Rattle.flat_base.specs.declared.ids.FenceNo.{FenceNo}
 use Rattle.flat_scene.specs.declared.calls.PresentArgs.{PresentArgs}
 use Rattle.flat_scene.specs.declared.calls.Watch.TheVariants as watch
-use Rattle.flat_scene.specs.declared.script.Cond.{Cond}
-use Rattle.flat_scene.specs.declared.script.Cond.TheVariants as cond
-use Rattle.flat_scene.specs.declared.script.Line.{Line}
-use Rattle.flat_scene.specs.declared.script.Line.TheVariants as line
+use Rattle.flat_scene.specs.declared.script.WaitCondition.{WaitCondition}
+use Rattle.flat_scene.specs.declared.script.WaitCondition.TheVariants as cond
+use Rattle.flat_scene.specs.declared.script.SessionLine.{SessionLine}
+use Rattle.flat_scene.specs.declared.script.SessionLine.TheVariants as line
 use Rattle.flat_scene.specs.declared.script.DisplayLine.{DisplayLine}
 use Rattle.flat_scene.specs.declared.script.DisplayLine.TheVariants as display
 use Rattle.flat_scene.specs.declared.script.ProbeLine.{ProbeLine}
 use Rattle.flat_scene.specs.declared.script.ProbeLine.TheVariants as probe
-use Rattle.flat_scene.specs.declared.script.Body.{Body}
-use Rattle.flat_scene.specs.declared.script.Body.TheVariants as body
+use Rattle.flat_scene.specs.declared.script.LineBody.{LineBody}
+use Rattle.flat_scene.specs.declared.script.LineBody.TheVariants as body
 use Rattle.flat_base.specs.declared.limits.TheConstants.{FRAMES_MAX, LINES_PER_ACTOR_MAX}
 use Rattle.flat_places.specs.declared.kinds.FaultKind.TheVariants.{UnknownActor, UnknownCall, WrongCount, Limit}
 use Rattle.flat_places.specs.declared.kinds.FaultKind.TheVariants.{BadOrder}
@@ -50,29 +50,29 @@ present s a =
 -- Wait
 
 -- what a session may wait for
-abbrev pub session_condition : Script → SessionNo → List Word → Reading Cond
+abbrev pub session_condition : Script → SessionNo → List Word → Reading WaitCondition
 session_condition s a = named s.version UnknownCall (
     (codes "frames", whole (cond.Frames <$> u32)) ∷ (codes "credits", whole (cond.Credits <$> u32)) ∷
     (codes "taken", whole (cond.Taken <$> u32)) ∷ (codes "answers", whole (cond.Answers <$> u32)) ∷
     (codes "fence", whole (cond.Fence <$> fence s (Session a))) ∷ [])
 
 -- so many presents of a session
-abbrev pub presents_asked : Script → Form Cond
+abbrev pub presents_asked : Script → Form WaitCondition
 presents_asked s = (λ x n. cond.Presents x n) <$> session s <*> u32
 
 -- what the display may wait for
-abbrev pub display_condition : Script → List Word → Reading Cond
+abbrev pub display_condition : Script → List Word → Reading WaitCondition
 display_condition s = named s.version UnknownCall (
     (codes "presents", whole (presents_asked s)) ∷ (codes "fence", whole (cond.Fence <$> fence s Display)) ∷ [])
 
 -- sessions
 
 -- a get of a viewport
-abbrev pub child_asked : Form Line
+abbrev pub child_asked : Form SessionLine
 child_asked = (λ c. line.Get (watch.Child c)) <$> content
 
 -- a line of a session that is no call
-abbrev pub other_line : Script → SessionNo → List Word → Reading Line
+abbrev pub other_line : Script → SessionNo → List Word → Reading SessionLine
 other_line s a = named s.version UnknownCall (
     (codes "Present", whole (line.Present <$> present s a)) ∷
     (codes "GetLayout", whole (give (line.Get watch.Layout))) ∷
@@ -84,7 +84,7 @@ other_line s a = named s.version UnknownCall (
     (codes "Disconnect", whole (give line.Disconnect)) ∷ [])
 
 -- a line of a session: a call, or one of the other lines
-abbrev pub session_line : Script → SessionNo → List Word → Reading Line
+abbrev pub session_line : Script → SessionNo → List Word → Reading SessionLine
 session_line s a [] = Err UnknownCall
 session_line s a (w ∷ words) =
     option_map_or (λ n. mapped line.Call (whole (call_form s a n) words)) (call_named s.version w)
@@ -93,7 +93,7 @@ session_line s a (w ∷ words) =
 -- the display
 
 -- the time of a `begin`
-abbrev pub time_begun : Body → Option ℕ
+abbrev pub time_begun : LineBody → Option ℕ
 time_begun (body.Display d) = of d
   where
     of : DisplayLine → Option ℕ
@@ -102,7 +102,7 @@ time_begun (body.Display d) = of d
 time_begun _ = None
 
 -- a `done`
-abbrev pub ends_frame : Body → Bool
+abbrev pub ends_frame : LineBody → Bool
 ends_frame (body.Display d) = of d
   where
     of : DisplayLine → Bool
@@ -165,7 +165,7 @@ probe_line version = named version UnknownCall (
 -- all actors
 
 -- what stands behind an actor
-abbrev pub actor_line : Script → Actor → List Word → Reading Body
+abbrev pub actor_line : Script → Actor → List Word → Reading LineBody
 actor_line s Display words = mapped body.Display (display_line s words)
 actor_line s (Session a) words = mapped body.Session (session_line s a words)
 actor_line s (Probe p) words = mapped body.Probe (probe_line s.version words)
@@ -175,7 +175,7 @@ abbrev pub lines_of_actor : Script → Actor → ℕ
 lines_of_actor s a = count_by (λ l. is_actor l.actor a) s.lines
 
 -- the script with the line of that number at its end
-abbrev pub with_line : Script → ℕ → Actor → Body → Script
+abbrev pub with_line : Script → ℕ → Actor → LineBody → Script
 with_line s n a b = record s { lines = s.lines ++ record { number = n; actor = a; body = b } ∷ [] }
 
 -- an actor has at most so many lines

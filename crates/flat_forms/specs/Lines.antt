@@ -4,14 +4,14 @@ use Rattle.std.specs.Str.{bytes_eq}
 use Rattle.flat_places.specs.declared.kinds.FaultKind.TheVariants.{BadHead}
 use Rattle.flat_places.specs.declared.script.Script.{Script}
 use Rattle.flat_places.specs.Forms.{Word, Reading, mapped}
-use Rattle.flat_forms.specs.declared.lines.Part.{Part}
-use Rattle.flat_forms.specs.declared.lines.Part.TheVariants.{Start, Head, Body}
+use Rattle.flat_forms.specs.declared.lines.TextPart.{TextPart}
+use Rattle.flat_forms.specs.declared.lines.TextPart.TheVariants.{Start, Head, Body}
 use Rattle.flat_forms.specs.Head.{first_line, head_line, run_line, with_version}
 use Rattle.flat_forms.specs.Body.{body_line}
 
 -- the part of the text that the next line is in, and the script so far
 abbrev pub Sofar : Type 0
-Sofar = Part × Script
+Sofar = TextPart × Script
 
 -- what the words of line n make of it
 abbrev pub words_read : ℕ → Sofar → List Word → Reading Sofar

@@ -3,7 +3,7 @@ use Rattle.std.specs.Prelude.{◌≡◌, Bool, true, ◌&&◌, List, [], Ok, cod
 use Rattle.std.specs.List.{list_any, before_first, after_first}
 use Rattle.std.specs.Str.{bytes_eq}
 use Rattle.flat_base.specs.declared.ids.FenceNo.{FenceNo}
-use Rattle.flat_places.specs.declared.places.Places.{Places}
+use Rattle.flat_places.specs.declared.word_cursor.WordCursor.{WordCursor}
 use Rattle.flat_places.specs.Forms.{Word, Reading}
 use Rattle.flat_places.specs.Reads.{sofar, lower, giving, left}
 
@@ -12,7 +12,7 @@ abbrev pub ends_list : Bool → Word → Bool
 ends_list follows w = follows && bytes_eq w (codes "release")
 
 -- a list was read: the words up to its end were taken, those from there on are left
-pub record ReadsList (reading : List Word → Reading (List FenceNo)) (follows : Bool) (old new : Places)
+pub record ReadsList (reading : List Word → Reading (List FenceNo)) (follows : Bool) (old new : WordCursor)
     (found : List FenceNo) : Type 0 where
   pub read : lower (sofar old) (reading (before_first (ends_list follows) (left old))) ≡ giving found (sofar new)
   pub stops : before_first (ends_list follows) (left new) ≡ []

@@ -14,15 +14,15 @@ use crate::lines::LineError;
 use crate::parser::Parser;
 use crate::session_forms::session_line;
 use flat_base::Actor;
-use flat_places::{FaultKind, Indexed};
-use flat_scene::{Body, Line};
+use flat_places::{FaultKind, IndexedScript};
+use flat_scene::{LineBody, SessionLine};
 use flat_text::next_piece;
 use std::alloc::Global;
 
 /// The actor of a line of the body and what it says, whatever lines stand before it. None
 /// for a line of the display, for one with a fault, and where memory ran out: of such a
 /// line nothing is known.
-pub fn said_ahead(alloc: Global, script: &Indexed, words: &[u8]) -> Option<(Actor, Body)>
+pub fn said_ahead(alloc: Global, script: &IndexedScript, words: &[u8]) -> Option<(Actor, LineBody)>
     requires { IsIndexed script.now }
     ensures { IfSome result (λ said. IsSaid script.now.script (words_of words.now) said.0 said.1) }
 {
@@ -33,7 +33,12 @@ pub fn said_ahead(alloc: Global, script: &Indexed, words: &[u8]) -> Option<(Acto
 }
 
 /// What an actor's line says behind the actor, whatever lines stand before it.
-fn body_ahead(alloc: Global, script: &Indexed, actor: Actor, words: Option<&[u8]>) -> Option<Body>
+fn body_ahead(
+    alloc: Global,
+    script: &IndexedScript,
+    actor: Actor,
+    words: Option<&[u8]>,
+) -> Option<LineBody>
     requires { IsIndexed script.now }
     ensures { IfSome result
         (SaysAhead script.now.script actor (pieces_left is_space words.entry)) }
@@ -41,11 +46,11 @@ fn body_ahead(alloc: Global, script: &Indexed, actor: Actor, words: Option<&[u8]
     match actor {
         Actor::Display => None,
         Actor::Session(session) => match session_line(alloc, script, session, words) {
-            Ok(line) => Some(Body::Session(line)),
+            Ok(line) => Some(LineBody::Session(line)),
             Err(_) => None,
         },
         Actor::Probe(_) => match forms::probe_line(words) {
-            Ok(line) => Some(Body::Probe(line)),
+            Ok(line) => Some(LineBody::Probe(line)),
             Err(_) => None,
         },
     }
@@ -54,7 +59,7 @@ fn body_ahead(alloc: Global, script: &Indexed, actor: Actor, words: Option<&[u8]
 impl Parser {
     /// Puts a line that was read ahead at the script's end, where its actor may have one
     /// more. At a fault, or out of memory, nothing is known of the parser.
-    pub fn take_said(&mut self, number: u32, actor: Actor, body: Body) -> Result<(), LineError>
+    pub fn take_said(&mut self, number: u32, actor: Actor, body: LineBody) -> Result<(), LineError>
         requires kept { Kept self.old }
         requires counted { IsCounted actor }
         requires begins { self.old.begins + 1 < 2 ^ 32 }

@@ -20,14 +20,14 @@ ghost use Rattle.flat_forms.specs.Steps.{Reaches};
 use crate::calls::CallName;
 use crate::lines::LineError;
 use flat_base::{NoMemory, SessionNo};
-use flat_places::{Indexed, Places};
+use flat_places::{IndexedScript, WordCursor};
 use flat_scene::{Call, Inset};
 use std::alloc::Global;
 
 /// The call of that name that the words behind its name write.
 pub fn call(
     alloc: Global,
-    script: &Indexed,
+    script: &IndexedScript,
     session: SessionNo,
     name: CallName,
     words: Option<&[u8]>,
@@ -36,7 +36,7 @@ pub fn call(
     ensures { Reaches result (whole (call_form script.now.script session name)
         (pieces_left is_space words.entry)) }
 {
-    let mut places = Places::new(words);
+    let mut places = WordCursor::new(words);
     let found = fields(&mut places, alloc, script, session, name)?;
     match places.finish(found) {
         Ok(call) => Ok(call),
@@ -46,9 +46,9 @@ pub fn call(
 
 /// The fields of a call.
 fn fields(
-    places: &mut Places,
+    places: &mut WordCursor,
     alloc: Global,
-    script: &Indexed,
+    script: &IndexedScript,
     session: SessionNo,
     name: CallName,
 ) -> Result<Call, NoMemory>
@@ -93,7 +93,12 @@ fn fields(
 }
 
 /// The fields of a call that makes, changes or releases a content.
-fn content_fields(places: &mut Places, script: &Indexed, session: SessionNo, name: CallName) -> Call
+fn content_fields(
+    places: &mut WordCursor,
+    script: &IndexedScript,
+    session: SessionNo,
+    name: CallName,
+) -> Call
     requires indexed { IsIndexed script.now }
     requires contents { is_of_contents name ≡ true }
     ensures { Reads (call_form script.now.script session name) places.old places.new result }
@@ -136,7 +141,7 @@ fn content_fields(places: &mut Places, script: &Indexed, session: SessionNo, nam
     }
 }
 
-fn set_translation(places: &mut Places) -> Call
+fn set_translation(places: &mut WordCursor) -> Call
     ensures { (s : Script) (a : SessionNo) → Reads (call_form s a SetTranslation) places.old
         places.new result }
 {
@@ -146,7 +151,7 @@ fn set_translation(places: &mut Places) -> Call
     Call::SetTranslation { t, x, y }
 }
 
-fn set_orientation(places: &mut Places) -> Call
+fn set_orientation(places: &mut WordCursor) -> Call
     ensures { (s : Script) (a : SessionNo) → Reads (call_form s a SetOrientation) places.old
         places.new result }
 {
@@ -155,7 +160,7 @@ fn set_orientation(places: &mut Places) -> Call
     Call::SetOrientation { t, o }
 }
 
-fn set_scale(places: &mut Places) -> Call
+fn set_scale(places: &mut WordCursor) -> Call
     ensures { (s : Script) (a : SessionNo) → Reads (call_form s a SetScale) places.old places.new
         result }
 {
@@ -165,7 +170,7 @@ fn set_scale(places: &mut Places) -> Call
     Call::SetScale { t, sx, sy }
 }
 
-fn set_opacity(places: &mut Places) -> Call
+fn set_opacity(places: &mut WordCursor) -> Call
     ensures { (s : Script) (a : SessionNo) → Reads (call_form s a SetOpacity) places.old places.new
         result }
 {
@@ -174,7 +179,7 @@ fn set_opacity(places: &mut Places) -> Call
     Call::SetOpacity { t, v }
 }
 
-fn set_clip_boundary(places: &mut Places) -> Call
+fn set_clip_boundary(places: &mut WordCursor) -> Call
     ensures { (s : Script) (a : SessionNo) → Reads (call_form s a SetClipBoundary) places.old
         places.new result }
 {
@@ -183,7 +188,7 @@ fn set_clip_boundary(places: &mut Places) -> Call
     Call::SetClipBoundary { t, rect }
 }
 
-fn add_child(places: &mut Places) -> Call
+fn add_child(places: &mut WordCursor) -> Call
     ensures { (s : Script) (a : SessionNo) → Reads (call_form s a AddChild) places.old places.new
         result }
 {
@@ -192,7 +197,7 @@ fn add_child(places: &mut Places) -> Call
     Call::AddChild { p, k }
 }
 
-fn remove_child(places: &mut Places) -> Call
+fn remove_child(places: &mut WordCursor) -> Call
     ensures { (s : Script) (a : SessionNo) → Reads (call_form s a RemoveChild) places.old places.new
         result }
 {
@@ -201,7 +206,7 @@ fn remove_child(places: &mut Places) -> Call
     Call::RemoveChild { p, k }
 }
 
-fn set_infinite_hit_region(places: &mut Places) -> Call
+fn set_infinite_hit_region(places: &mut WordCursor) -> Call
     ensures { (s : Script) (a : SessionNo) → Reads (call_form s a SetInfiniteHitRegion) places.old
         places.new result }
 {
@@ -210,7 +215,7 @@ fn set_infinite_hit_region(places: &mut Places) -> Call
     Call::SetInfiniteHitRegion { t, i }
 }
 
-fn set_content(places: &mut Places) -> Call
+fn set_content(places: &mut WordCursor) -> Call
     ensures { (s : Script) (a : SessionNo) → Reads (call_form s a SetContent) places.old places.new
         result }
 {
@@ -219,7 +224,7 @@ fn set_content(places: &mut Places) -> Call
     Call::SetContent { t, c }
 }
 
-fn create_viewport(places: &mut Places, script: &Indexed, session: SessionNo) -> Call
+fn create_viewport(places: &mut WordCursor, script: &IndexedScript, session: SessionNo) -> Call
     requires { IsIndexed script.now }
     ensures { Reads (call_form script.now.script session CreateViewport) places.old places.new
         result }
@@ -238,7 +243,7 @@ fn create_viewport(places: &mut Places, script: &Indexed, session: SessionNo) ->
     }
 }
 
-fn set_viewport_properties(places: &mut Places) -> Call
+fn set_viewport_properties(places: &mut WordCursor) -> Call
     ensures { (s : Script) (a : SessionNo) → Reads (call_form s a SetViewportProperties) places.old
         places.new result }
 {
@@ -249,7 +254,7 @@ fn set_viewport_properties(places: &mut Places) -> Call
     Call::SetViewportProperties { c, w, h, inset }
 }
 
-fn create_image(places: &mut Places, script: &Indexed, session: SessionNo) -> Call
+fn create_image(places: &mut WordCursor, script: &IndexedScript, session: SessionNo) -> Call
     requires { IsIndexed script.now }
     ensures { Reads (call_form script.now.script session CreateImage) places.old places.new result }
 {
@@ -267,7 +272,7 @@ fn create_image(places: &mut Places, script: &Indexed, session: SessionNo) -> Ca
     }
 }
 
-fn set_image_destination_size(places: &mut Places) -> Call
+fn set_image_destination_size(places: &mut WordCursor) -> Call
     ensures { (s : Script) (a : SessionNo) → Reads (call_form s a SetImageDestinationSize)
         places.old places.new result }
 {
@@ -277,7 +282,7 @@ fn set_image_destination_size(places: &mut Places) -> Call
     Call::SetImageDestinationSize { c, w, h }
 }
 
-fn set_solid_fill(places: &mut Places) -> Call
+fn set_solid_fill(places: &mut WordCursor) -> Call
     ensures { (s : Script) (a : SessionNo) → Reads (call_form s a SetSolidFill) places.old
         places.new result }
 {

@@ -8,16 +8,16 @@ ghost use Rattle.flat_places.specs.Places.{u32};
 
 use crate::forms::owned_fence;
 use flat_base::{Actor, SessionNo};
-use flat_places::{FaultKind, Indexed, Places, is_word};
-use flat_scene::Cond;
+use flat_places::{FaultKind, IndexedScript, WordCursor, is_word};
+use flat_scene::WaitCondition;
 use flat_text::next_piece;
 
 /// What a session waits for, behind `Wait`.
 pub fn session_condition(
-    script: &Indexed,
+    script: &IndexedScript,
     session: SessionNo,
     words: Option<&[u8]>,
-) -> Result<Cond, FaultKind>
+) -> Result<WaitCondition, FaultKind>
     requires { IsIndexed script.now }
     ensures { result ≡ session_condition script.now.script session
         (pieces_left is_space words.entry) }
@@ -28,31 +28,31 @@ pub fn session_condition(
     let (word, rest) = next_piece(words, b' ');
     if is_word(word, "frames") {
         return match count(rest) {
-            Ok(n) => Ok(Cond::Frames(n)),
+            Ok(n) => Ok(WaitCondition::Frames(n)),
             Err(k) => Err(k),
         };
     }
     if is_word(word, "credits") {
         return match count(rest) {
-            Ok(n) => Ok(Cond::Credits(n)),
+            Ok(n) => Ok(WaitCondition::Credits(n)),
             Err(k) => Err(k),
         };
     }
     if is_word(word, "taken") {
         return match count(rest) {
-            Ok(n) => Ok(Cond::Taken(n)),
+            Ok(n) => Ok(WaitCondition::Taken(n)),
             Err(k) => Err(k),
         };
     }
     if is_word(word, "answers") {
         return match count(rest) {
-            Ok(n) => Ok(Cond::Answers(n)),
+            Ok(n) => Ok(WaitCondition::Answers(n)),
             Err(k) => Err(k),
         };
     }
     if is_word(word, "fence") {
         return match owned_fence(script, Actor::Session(session), rest) {
-            Ok(f) => Ok(Cond::Fence(f)),
+            Ok(f) => Ok(WaitCondition::Fence(f)),
             Err(k) => Err(k),
         };
     }
@@ -60,7 +60,10 @@ pub fn session_condition(
 }
 
 /// What the display waits for, behind `Wait`.
-pub fn display_condition(script: &Indexed, words: Option<&[u8]>) -> Result<Cond, FaultKind>
+pub fn display_condition(
+    script: &IndexedScript,
+    words: Option<&[u8]>,
+) -> Result<WaitCondition, FaultKind>
     requires { IsIndexed script.now }
     ensures { result ≡ display_condition script.now.script
         (pieces_left is_space words.entry) }
@@ -74,7 +77,7 @@ pub fn display_condition(script: &Indexed, words: Option<&[u8]>) -> Result<Cond,
     }
     if is_word(word, "fence") {
         return match owned_fence(script, Actor::Display, rest) {
-            Ok(f) => Ok(Cond::Fence(f)),
+            Ok(f) => Ok(WaitCondition::Fence(f)),
             Err(k) => Err(k),
         };
     }
@@ -85,17 +88,17 @@ pub fn display_condition(script: &Indexed, words: Option<&[u8]>) -> Result<Cond,
 pub fn count(words: Option<&[u8]>) -> Result<u32, FaultKind>
     ensures { result ≡ whole u32 (pieces_left is_space words.entry) }
 {
-    let mut places = Places::new(words);
+    let mut places = WordCursor::new(words);
     let n = places.u32();
     places.finish(n)
 }
 
-fn presents(script: &Indexed, words: Option<&[u8]>) -> Result<Cond, FaultKind>
+fn presents(script: &IndexedScript, words: Option<&[u8]>) -> Result<WaitCondition, FaultKind>
     requires { IsIndexed script.now }
     ensures { result ≡ whole (presents_asked script.now.script) (pieces_left is_space words.entry) }
 {
-    let mut places = Places::new(words);
+    let mut places = WordCursor::new(words);
     let s = places.session(script);
     let n = places.u32();
-    places.finish(Cond::Presents(s, n))
+    places.finish(WaitCondition::Presents(s, n))
 }

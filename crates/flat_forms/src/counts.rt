@@ -9,7 +9,7 @@ ghost use Rattle.flat_forms.specs.Body.{time_begun, ends_frame};
 
 use flat_base::{Actor, PROBES_MAX, SESSIONS_MAX};
 use flat_places::FaultKind;
-use flat_scene::{Body, DisplayLine};
+use flat_scene::{DisplayLine, LineBody};
 
 // The display's count stands first, then those of the sessions, numbered from 1, and
 // those of the probes.
@@ -43,21 +43,21 @@ pub fn limited(room: bool, kind: FaultKind) -> FaultKind
 }
 
 /// The time of a begin, where the line is one.
-pub fn time_begun(body: &Body) -> Option<u64>
+pub fn time_begun(body: &LineBody) -> Option<u64>
     ensures { result ≡ time_begun body.now }
 {
     match body {
-        Body::Display(DisplayLine::Begin(time)) => Some(*time),
+        LineBody::Display(DisplayLine::Begin(time)) => Some(*time),
         _ => None,
     }
 }
 
 /// Whether the line is a done.
-pub fn ends_frame(body: &Body) -> bool
+pub fn ends_frame(body: &LineBody) -> bool
     ensures { result ≡ ends_frame body.now }
 {
     match body {
-        Body::Display(DisplayLine::Done) => true,
+        LineBody::Display(DisplayLine::Done) => true,
         _ => false,
     }
 }

@@ -5,7 +5,7 @@ ghost use Rattle.flat_places.specs.Names.{is_name};
 ghost use Rattle.flat_forms.specs.Head.{empty};
 
 use flat_base::{Items, NoMemory, ONE};
-use flat_places::{Meaning, Name, NameList, Names, Script};
+use flat_places::{Name, NameList, NameMeaning, Names, Script};
 use flat_scene::Setup;
 use std::alloc::Global;
 
@@ -40,7 +40,7 @@ pub fn add_name(
     list: &mut NameList,
     names: &mut Names,
     name: &[u8],
-    meaning: Meaning,
+    meaning: NameMeaning,
 ) -> Result<(), NoMemory>
     requires cache { IsCache names.old }
     requires name { is_name name.now ≡ true }

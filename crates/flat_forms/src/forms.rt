@@ -21,9 +21,9 @@ use crate::lines::LineError;
 use flat_base::{
     Actor, BUFFERS_PER_COLLECTION_MAX, FRAMES_MAX, FenceNo, SIDE_MAX, SessionNo, TIME_MAX,
 };
-use flat_places::{FaultKind, Indexed, Places, is_word, knows};
+use flat_places::{FaultKind, IndexedScript, WordCursor, is_word, knows};
 use flat_scene::{
-    BufferDecl, DisplayLine, FenceDecl, Line, PairDecl, PresentArgs, ProbeLine, Watch,
+    BufferDecl, DisplayLine, FenceDecl, PairDecl, PresentArgs, ProbeLine, SessionLine, Watch,
 };
 use flat_text::{next_piece, read_natural};
 use std::alloc::Global;
@@ -42,7 +42,7 @@ pub fn first_line(words: &[u8]) -> Result<u32, FaultKind>
 fn version(words: Option<&[u8]>) -> Result<u32, FaultKind>
     ensures { result ≡ whole version (pieces_left is_space words.entry) }
 {
-    let mut places = Places::new(words);
+    let mut places = WordCursor::new(words);
     let version = places.version();
     places.finish(version)
 }
@@ -53,7 +53,7 @@ pub fn size(fresh: bool, version: u32, words: Option<&[u8]>) -> Result<(u32, u32
     ensures { result ≡ unless_kind BadHead fresh
         (whole (size version) (pieces_left is_space words.entry)) }
 {
-    let mut places = Places::new(words);
+    let mut places = WordCursor::new(words);
     places.note_unless(FaultKind::BadHead, fresh);
     let w = places.number_from(1, SIDE_MAX);
     let h = places.number_from(1, SIDE_MAX);
@@ -63,7 +63,7 @@ pub fn size(fresh: bool, version: u32, words: Option<&[u8]>) -> Result<(u32, u32
 
 /// The name of a session or a probe, where `room` says whether there may be one more.
 pub fn lone_name<'a>(
-    script: &Indexed,
+    script: &IndexedScript,
     room: bool,
     words: Option<&'a [u8]>,
 ) -> Result<&'a [u8], FaultKind>
@@ -72,7 +72,7 @@ pub fn lone_name<'a>(
         ≡ unless_kind Limit room (whole (new_name script.now.script)
         (pieces_left is_space words.entry)) }
 {
-    let mut places = Places::new(words);
+    let mut places = WordCursor::new(words);
     places.note_unless(FaultKind::Limit, room);
     let name = places.new_name(script);
     places.finish(name)
@@ -80,7 +80,7 @@ pub fn lone_name<'a>(
 
 /// A buffer collection, where `room` says whether there may be one more.
 pub fn buffers<'a>(
-    script: &Indexed,
+    script: &IndexedScript,
     room: bool,
     words: Option<&'a [u8]>,
 ) -> Result<(&'a [u8], BufferDecl), FaultKind>
@@ -89,7 +89,7 @@ pub fn buffers<'a>(
         ≡ unless_kind Limit room (whole (buffers script.now.script)
         (pieces_left is_space words.entry)) }
 {
-    let mut places = Places::new(words);
+    let mut places = WordCursor::new(words);
     places.note_unless(FaultKind::Limit, room);
     let name = places.new_name(script);
     let owner = places.session(script);
@@ -102,7 +102,7 @@ pub fn buffers<'a>(
 /// A pair, where `room` says whether there may be one more, and `paired` whether
 /// the display has one.
 pub fn pair<'a>(
-    script: &Indexed,
+    script: &IndexedScript,
     room: bool,
     paired: bool,
     words: Option<&'a [u8]>,
@@ -113,7 +113,7 @@ pub fn pair<'a>(
         ≡ unless_kind Limit room (whole (pair script.now.script)
         (pieces_left is_space words.entry)) }
 {
-    let mut places = Places::new(words);
+    let mut places = WordCursor::new(words);
     places.note_unless(FaultKind::Limit, room);
     let name = places.new_name(script);
     let viewport = places.pair_owner(script, paired);
@@ -124,7 +124,7 @@ pub fn pair<'a>(
 /// A fence, where `room` says whether there may be one more.
 pub fn fence<'a>(
     alloc: Global,
-    script: &Indexed,
+    script: &IndexedScript,
     room: bool,
     words: Option<&'a [u8]>,
 ) -> Result<(&'a [u8], FenceDecl), LineError>
@@ -133,7 +133,7 @@ pub fn fence<'a>(
         (unless_kind Limit room (whole (head.fence script.now.script)
         (pieces_left is_space words.entry))) }
 {
-    let mut places = Places::new(words);
+    let mut places = WordCursor::new(words);
     places.note_unless(FaultKind::Limit, room);
     let name = places.new_name(script);
     let owners = places.owners(alloc, script)?;
@@ -148,21 +148,21 @@ pub fn run(ready: bool, words: Option<&[u8]>) -> Result<(), FaultKind>
     ensures { result ≡ unless_kind BadHead ready
         (whole (give tt) (pieces_left is_space words.entry)) }
 {
-    let mut places = Places::new(words);
+    let mut places = WordCursor::new(words);
     places.note_unless(FaultKind::BadHead, ready);
     places.finish(())
 }
 
 /// A fence of the actor, and nothing behind it.
 pub fn owned_fence(
-    script: &Indexed,
+    script: &IndexedScript,
     owner: Actor,
     words: Option<&[u8]>,
 ) -> Result<FenceNo, FaultKind>
     requires { IsIndexed script.now }
     ensures { result ≡ whole (fence script.now.script owner) (pieces_left is_space words.entry) }
 {
-    let mut places = Places::new(words);
+    let mut places = WordCursor::new(words);
     let found = places.fence(script, owner);
     places.finish(found)
 }
@@ -170,7 +170,7 @@ pub fn owned_fence(
 /// The time of a begin, where `begins` counts the earlier ones, `in_frame` says
 /// whether a frame is open, and `last` is the greatest earlier time.
 fn begin(
-    script: &Indexed,
+    script: &IndexedScript,
     begins: u32,
     in_frame: bool,
     last: u64,
@@ -181,7 +181,7 @@ fn begin(
         (unless_kind BadOrder (not in_frame) (whole (begin_place script.now.script)
         (pieces_left is_space words.entry))) }
 {
-    let mut places = Places::new(words);
+    let mut places = WordCursor::new(words);
     places.note_unless(FaultKind::Limit, begins < FRAMES_MAX);
     places.note_unless(FaultKind::BadOrder, !in_frame);
     let time = begin_time(&mut places, script, last);
@@ -189,7 +189,7 @@ fn begin(
 }
 
 /// A time that isn't before `last`, the greatest of the earlier begins.
-fn begin_time(places: &mut Places, script: &Indexed, last: u64) -> u64
+fn begin_time(places: &mut WordCursor, script: &IndexedScript, last: u64) -> u64
     requires { last ≡ greatest (begin_times script.now.script) }
     ensures { Reads (begin_place script.now.script) places.old places.new result }
 {
@@ -226,7 +226,7 @@ fn done(in_frame: bool, words: Option<&[u8]>) -> Result<DisplayLine, FaultKind>
     ensures { result ≡ unless_kind BadOrder in_frame
         (whole (give Done) (pieces_left is_space words.entry)) }
 {
-    let mut places = Places::new(words);
+    let mut places = WordCursor::new(words);
     places.note_unless(FaultKind::BadOrder, in_frame);
     places.finish(DisplayLine::Done)
 }
@@ -234,7 +234,7 @@ fn done(in_frame: bool, words: Option<&[u8]>) -> Result<DisplayLine, FaultKind>
 /// What a line of the display writes, where `begins` and `dones` count the
 /// earlier ones and `last` is the greatest earlier time.
 pub fn display_line(
-    script: &Indexed,
+    script: &IndexedScript,
     begins: u32,
     ended: u32,
     last: u64,
@@ -266,7 +266,7 @@ pub fn display_line(
 /// What a line of the display that is neither a begin nor a done writes, behind its
 /// first word.
 fn timeless_line(
-    script: &Indexed,
+    script: &IndexedScript,
     word: &[u8],
     words: Option<&[u8]>,
 ) -> Result<DisplayLine, FaultKind>
@@ -300,7 +300,7 @@ fn timeless_line(
 fn dpr(words: Option<&[u8]>) -> Result<DisplayLine, FaultKind>
     ensures { result ≡ whole ratio_line (pieces_left is_space words.entry) }
 {
-    let mut places = Places::new(words);
+    let mut places = WordCursor::new(words);
     let ratio = places.ratio();
     places.finish(DisplayLine::Dpr(ratio))
 }
@@ -329,7 +329,7 @@ pub fn probe_line(words: Option<&[u8]>) -> Result<ProbeLine, FaultKind>
 fn hit(words: Option<&[u8]>) -> Result<DisplayLine, FaultKind>
     ensures { result ≡ whole (point (λ x y. display.Hit x y)) (pieces_left is_space words.entry) }
 {
-    let mut places = Places::new(words);
+    let mut places = WordCursor::new(words);
     let x = places.i32();
     let y = places.i32();
     places.finish(DisplayLine::Hit(x, y))
@@ -339,7 +339,7 @@ fn hit(words: Option<&[u8]>) -> Result<DisplayLine, FaultKind>
 fn probe_hit(words: Option<&[u8]>) -> Result<ProbeLine, FaultKind>
     ensures { result ≡ whole (point (λ x y. probe.Hit x y)) (pieces_left is_space words.entry) }
 {
-    let mut places = Places::new(words);
+    let mut places = WordCursor::new(words);
     let x = places.i32();
     let y = places.i32();
     places.finish(ProbeLine::Hit(x, y))

@@ -24,5 +24,5 @@ mod session_forms;
 
 pub use ahead::said_ahead;
 pub use calls::CallName;
-pub use lines::{LineError, Part};
+pub use lines::{LineError, TextPart};
 pub use parser::Parser;

@@ -6,7 +6,7 @@ use flat_places::FaultKind;
 
 /// The part of a text that a line is in.
 #[derive(Clone, Copy)]
-pub enum Part {
+pub enum TextPart {
     /// Before the first line that isn't skipped.
     Start,
     /// What is declared, up to `run`.

@@ -9,13 +9,13 @@ ghost use Rattle.flat_places.specs.Places.{fence_word};
 ghost use Rattle.flat_places.specs.Reads.{Reads, left};
 
 use flat_base::{Actor, FenceList, Items, NoMemory, SessionNo};
-use flat_places::{FaultKind, Indexed, Places, is_word};
+use flat_places::{FaultKind, IndexedScript, WordCursor, is_word};
 use flat_text::next_piece;
 use std::alloc::Global;
 
 /// Whether the next word is a fence's: the line goes on, and, where another
 /// list may follow, not with its keyword.
-fn has_fence(places: &Places, follows: bool) -> bool
+fn has_fence(places: &WordCursor, follows: bool) -> bool
     ensures { result ≡ nat_lt 0 (length (before_first (ends_list follows) (left places.now))) }
 {
     match places.words {
@@ -29,9 +29,9 @@ fn has_fence(places: &Places, follows: bool) -> bool
 
 /// Fences up to the end of their list.
 fn each_fence(
-    places: &mut Places,
+    places: &mut WordCursor,
     alloc: Global,
-    script: &Indexed,
+    script: &IndexedScript,
     owner: Actor,
     follows: bool,
 ) -> Result<FenceList, NoMemory>
@@ -49,9 +49,9 @@ fn each_fence(
 
 /// The same, and there has to be one at least.
 fn some_fences(
-    places: &mut Places,
+    places: &mut WordCursor,
     alloc: Global,
-    script: &Indexed,
+    script: &IndexedScript,
     owner: Actor,
     follows: bool,
 ) -> Result<FenceList, NoMemory>
@@ -66,9 +66,9 @@ fn some_fences(
 
 /// The fences to the end of the line, one at least.
 fn last_list(
-    places: &mut Places,
+    places: &mut WordCursor,
     alloc: Global,
-    script: &Indexed,
+    script: &IndexedScript,
     owner: Actor,
 ) -> Result<FenceList, NoMemory>
     requires { IsIndexed script.now }
@@ -81,9 +81,9 @@ fn last_list(
 
 /// The fences behind `release`, where it comes next.
 fn list_if_any(
-    places: &mut Places,
+    places: &mut WordCursor,
     alloc: Global,
-    script: &Indexed,
+    script: &IndexedScript,
     owner: Actor,
 ) -> Result<FenceList, NoMemory>
     requires indexed { IsIndexed script.now }
@@ -99,9 +99,9 @@ fn list_if_any(
 
 /// The lists of fences of a present, to the end of the line.
 pub fn fence_lists(
-    places: &mut Places,
+    places: &mut WordCursor,
     alloc: Global,
-    script: &Indexed,
+    script: &IndexedScript,
     session: SessionNo,
 ) -> Result<(FenceList, FenceList), NoMemory>
     requires { IsIndexed script.now }

@@ -2,7 +2,7 @@ ghost use Rattle.std.specs.Prelude.{◌≡◌, ◌<◌, ◌≤◌, ◌+◌, ◌^
 ghost use Rattle.flat_text.specs.Pieces.{is_space, words_of};
 ghost use Rattle.flat_text.specs.Left.{pieces_left};
 ghost use Rattle.flat_forms.specs.declared.lines.LineError.TheVariants.{Memory};
-ghost use Rattle.flat_forms.specs.declared.lines.Part.TheVariants.{Start};
+ghost use Rattle.flat_forms.specs.declared.lines.TextPart.TheVariants.{Start};
 ghost use Rattle.flat_places.specs.Forms.{Reading, mapped};
 ghost use Rattle.flat_forms.specs.Head.{has_display, display_line, session_line, probe_line, buffers_line, pair_line};
 ghost use Rattle.flat_forms.specs.Head.{fence_line, head_line, is_ready, empty};
@@ -16,14 +16,14 @@ use crate::counts::{
     ACTORS_MAX, ends_frame, last_after, limited, one_if, or_display, slot, time_begun,
 };
 use crate::declared::{add_name, empty};
-use crate::lines::{LineError, Part};
+use crate::lines::{LineError, TextPart};
 use crate::{forms, session_forms};
 use flat_base::{
     Actor, BUFFER_COLLECTIONS_MAX, FENCES_MAX, LINES_PER_ACTOR_MAX, PAIRS_MAX, PROBES_MAX,
     SESSIONS_MAX,
 };
-use flat_places::{FaultKind, Indexed, Meaning, Names, is_word};
-use flat_scene::{Body, ScriptLine};
+use flat_places::{FaultKind, IndexedScript, NameMeaning, Names, is_word};
+use flat_scene::{LineBody, ScriptLine};
 use flat_text::next_piece;
 use std::alloc::Global;
 
@@ -31,9 +31,9 @@ use std::alloc::Global;
 #[derive(Drop)]
 pub struct Parser {
     /// The part of the text that the next line is in.
-    pub part: Part,
+    pub part: TextPart,
     /// The script so far, with its names.
-    pub text: Indexed,
+    pub text: IndexedScript,
     /// Whether the display has a pair.
     pub paired: bool,
     /// The begins of frames.
@@ -54,8 +54,8 @@ impl Parser {
         ensures none { (result.begins ≡ 0) × (result.dones ≡ 0) }
     {
         Parser {
-            part: Part::Start,
-            text: Indexed {
+            part: TextPart::Start,
+            text: IndexedScript {
                 script: empty(alloc),
                 names: Names::new(alloc),
             },
@@ -102,7 +102,7 @@ impl Parser {
             &mut self.text.script.sessions,
             &mut self.text.names,
             name,
-            Meaning::Session(number),
+            NameMeaning::Session(number),
         )?;
         Ok(())
     }
@@ -121,7 +121,7 @@ impl Parser {
             &mut self.text.script.probes,
             &mut self.text.names,
             name,
-            Meaning::Probe(number),
+            NameMeaning::Probe(number),
         )?;
         Ok(())
     }
@@ -140,7 +140,7 @@ impl Parser {
             &mut self.text.script.buffers,
             &mut self.text.names,
             name,
-            Meaning::Buffers(number),
+            NameMeaning::Buffers(number),
         )?;
         Ok(())
     }
@@ -160,7 +160,7 @@ impl Parser {
             &mut self.text.script.pairs,
             &mut self.text.names,
             name,
-            Meaning::Pair(number),
+            NameMeaning::Pair(number),
         )?;
         Ok(())
     }
@@ -179,7 +179,7 @@ impl Parser {
             &mut self.text.script.fences,
             &mut self.text.names,
             name,
-            Meaning::Fence(number),
+            NameMeaning::Fence(number),
         )?;
         Ok(())
     }
@@ -218,7 +218,7 @@ impl Parser {
         alloc: Global,
         actor: Actor,
         words: Option<&[u8]>,
-    ) -> Result<Body, LineError>
+    ) -> Result<LineBody, LineError>
         requires { Kept self.now }
         ensures { Reaches result (actor_line self.now.text.script actor
             (pieces_left is_space words.entry)) }
@@ -231,17 +231,17 @@ impl Parser {
                 self.last,
                 words,
             ) {
-                Ok(found) => Ok(Body::Display(found)),
+                Ok(found) => Ok(LineBody::Display(found)),
                 Err(k) => Err(LineError::Kind(k)),
             },
             Actor::Session(session) => match session_forms::session_line(
                 alloc, &self.text, session, words,
             ) {
-                Ok(found) => Ok(Body::Session(found)),
+                Ok(found) => Ok(LineBody::Session(found)),
                 Err(e) => Err(e),
             },
             Actor::Probe(_) => match forms::probe_line(words) {
-                Ok(found) => Ok(Body::Probe(found)),
+                Ok(found) => Ok(LineBody::Probe(found)),
                 Err(k) => Err(LineError::Kind(k)),
             },
         }
@@ -257,7 +257,12 @@ impl Parser {
     }
 
     /// Puts the line at the script's end.
-    pub(crate) fn take(&mut self, number: u32, actor: Actor, body: Body) -> Result<(), LineError>
+    pub(crate) fn take(
+        &mut self,
+        number: u32,
+        actor: Actor,
+        body: LineBody,
+    ) -> Result<(), LineError>
         requires kept { Kept self.old }
         requires counted { IsCounted actor }
         requires room { lines_of_actor self.old.text.script actor < LINES_PER_ACTOR_MAX }
@@ -360,21 +365,21 @@ impl Parser {
             × (self.new.dones ≤ self.old.dones + 1) }
     {
         match self.part {
-            Part::Start => {
+            TextPart::Start => {
                 self.text.script.version = forms::first_line(words)?;
-                self.part = Part::Head;
+                self.part = TextPart::Head;
                 Ok(())
             }
-            Part::Head => {
+            TextPart::Head => {
                 let (word, rest) = next_piece(words, b' ');
                 if is_word(word, "run") {
                     forms::run(self.is_ready(), rest)?;
-                    self.part = Part::Body;
+                    self.part = TextPart::Body;
                     return Ok(());
                 }
                 self.head(alloc, words)
             }
-            Part::Body => self.body(alloc, number, words),
+            TextPart::Body => self.body(alloc, number, words),
         }
     }
 }

@@ -14,18 +14,18 @@ use crate::forms::owned_fence;
 use crate::lines::LineError;
 use crate::lists::fence_lists;
 use flat_base::{Actor, SessionNo};
-use flat_places::{FaultKind, Indexed, Places, is_word};
-use flat_scene::{Line, PresentArgs, Watch};
+use flat_places::{FaultKind, IndexedScript, WordCursor, is_word};
+use flat_scene::{PresentArgs, SessionLine, Watch};
 use flat_text::next_piece;
 use std::alloc::Global;
 
 /// What a line of a session writes.
 pub fn session_line(
     alloc: Global,
-    script: &Indexed,
+    script: &IndexedScript,
     session: SessionNo,
     words: Option<&[u8]>,
-) -> Result<Line, LineError>
+) -> Result<SessionLine, LineError>
     requires { IsIndexed script.now }
     ensures { Reaches result (session_line script.now.script session
         (pieces_left is_space words.entry)) }
@@ -36,7 +36,7 @@ pub fn session_line(
     let (word, rest) = next_piece(words, b' ');
     match call_named(script.script.version, word) {
         Some(name) => match call(alloc, script, session, name, rest) {
-            Ok(found) => Ok(Line::Call(found)),
+            Ok(found) => Ok(SessionLine::Call(found)),
             Err(e) => Err(e),
         },
         None => other_line(alloc, script, session, word, rest),
@@ -46,18 +46,18 @@ pub fn session_line(
 /// What a line of a session that is no call writes, behind its first word.
 fn other_line(
     alloc: Global,
-    script: &Indexed,
+    script: &IndexedScript,
     session: SessionNo,
     word: &[u8],
     words: Option<&[u8]>,
-) -> Result<Line, LineError>
+) -> Result<SessionLine, LineError>
     requires { IsIndexed script.now }
     ensures { Reaches result (other_line script.now.script session
         (word.now ∷ pieces_left is_space words.entry)) }
 {
     if is_word(word, "Present") {
         return match present(alloc, script, session, words) {
-            Ok(args) => Ok(Line::Present(args)),
+            Ok(args) => Ok(SessionLine::Present(args)),
             Err(e) => Err(e),
         };
     }
@@ -70,42 +70,42 @@ fn other_line(
 /// What a line of a session that is neither a call nor a present writes, behind its
 /// first word.
 fn timeless_line(
-    script: &Indexed,
+    script: &IndexedScript,
     session: SessionNo,
     word: &[u8],
     words: Option<&[u8]>,
-) -> Result<Line, FaultKind>
+) -> Result<SessionLine, FaultKind>
     requires { IsIndexed script.now }
     ensures { bytes_eq word.now (codes "Present") ≡ false → result
         ≡ other_line script.now.script session (word.now ∷ pieces_left is_space
         words.entry) }
 {
     if is_word(word, "GetLayout") {
-        return alone(Line::Get(Watch::Layout), words);
+        return alone(SessionLine::Get(Watch::Layout), words);
     }
     if is_word(word, "GetStatus") {
-        return alone(Line::Get(Watch::Status), words);
+        return alone(SessionLine::Get(Watch::Status), words);
     }
     if is_word(word, "GetChildStatus") {
         return get_child(words);
     }
     if is_word(word, "Signal") {
         return match owned_fence(script, Actor::Session(session), words) {
-            Ok(f) => Ok(Line::Signal(f)),
+            Ok(f) => Ok(SessionLine::Signal(f)),
             Err(k) => Err(k),
         };
     }
     if is_word(word, "Poll") {
-        return alone(Line::Poll, words);
+        return alone(SessionLine::Poll, words);
     }
     if is_word(word, "Wait") {
         return match session_condition(script, session, words) {
-            Ok(c) => Ok(Line::Wait(c)),
+            Ok(c) => Ok(SessionLine::Wait(c)),
             Err(k) => Err(k),
         };
     }
     if is_word(word, "Disconnect") {
-        return alone(Line::Disconnect, words);
+        return alone(SessionLine::Disconnect, words);
     }
     Err(FaultKind::UnknownCall)
 }
@@ -113,7 +113,7 @@ fn timeless_line(
 /// A present: its time, whether it is unsquashable, and its lists of fences.
 fn present(
     alloc: Global,
-    script: &Indexed,
+    script: &IndexedScript,
     session: SessionNo,
     words: Option<&[u8]>,
 ) -> Result<PresentArgs, LineError>
@@ -121,7 +121,7 @@ fn present(
     ensures { Reaches result (whole (present script.now.script session)
         (pieces_left is_space words.entry)) }
 {
-    let mut places = Places::new(words);
+    let mut places = WordCursor::new(words);
     let time = places.time();
     let unsquashable = places.unsquashable(script.script.version);
     let (acquire, release) = fence_lists(&mut places, alloc, script, session)?;
@@ -137,18 +137,18 @@ fn present(
 }
 
 /// A line that is its first word alone.
-fn alone(line: Line, words: Option<&[u8]>) -> Result<Line, FaultKind>
+fn alone(line: SessionLine, words: Option<&[u8]>) -> Result<SessionLine, FaultKind>
     ensures { result ≡ whole (give line) (pieces_left is_space words.entry) }
 {
-    let places = Places::new(words);
+    let places = WordCursor::new(words);
     places.finish(line)
 }
 
 /// A get of a viewport.
-fn get_child(words: Option<&[u8]>) -> Result<Line, FaultKind>
+fn get_child(words: Option<&[u8]>) -> Result<SessionLine, FaultKind>
     ensures { result ≡ whole child_asked (pieces_left is_space words.entry) }
 {
-    let mut places = Places::new(words);
+    let mut places = WordCursor::new(words);
     let c = places.content();
-    places.finish(Line::Get(Watch::Child(c)))
+    places.finish(SessionLine::Get(Watch::Child(c)))
 }

@@ -7,7 +7,7 @@ use Rattle.flat_base.specs.declared.ids.Actor.TheVariants.{Display, Session, Pro
 use Rattle.flat_base.specs.declared.ids.PairNo.{PairNo}
 use Rattle.flat_base.specs.declared.ids.SessionNo.{SessionNo}
 use Rattle.flat_scene.specs.declared.journal.Entry.{Entry}
-use Rattle.flat_scene.specs.declared.journal.Told.{Told}
+use Rattle.flat_scene.specs.declared.journal.WatcherValue.{WatcherValue}
 use Rattle.flat_scene.specs.declared.setup.Setup.{Setup}
 use Rattle.flat_scene.specs.History.{is_closed, is_session}
 use Rattle.flat_watch.specs.Told.{Watching, settled}
@@ -183,7 +183,7 @@ module _ (setup : Setup) (h : List Entry) (line : ℕ) (legal : Legal setup (fin
           → new ≡ former_gets (λ j. watching setup (child_of p j) (reached (n + 1) (viewport_owner setup p) k h)) m
       tell-formers p b m old new is was quiet foreign = by_heard (hears setup s (child_of p 0)) refl
         where
-          now : Option Told
+          now : Option WatcherValue
           now = told setup k (child_of p 0)
 
           o : Option Actor

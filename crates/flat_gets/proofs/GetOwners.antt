@@ -11,8 +11,8 @@ use Rattle.flat_base.specs.declared.ids.SessionNo.{SessionNo}
 use Rattle.flat_scene.specs.declared.calls.Watch.{Watch}
 use Rattle.flat_scene.specs.declared.calls.Watch.TheVariants as watch
 use Rattle.flat_scene.specs.declared.journal.Entry.{Entry}
-use Rattle.flat_scene.specs.declared.journal.Kind.{Kind}
-use Rattle.flat_scene.specs.declared.journal.Kind.TheVariants.{Get}
+use Rattle.flat_scene.specs.declared.journal.EntryKind.{EntryKind}
+use Rattle.flat_scene.specs.declared.journal.EntryKind.TheVariants.{Get}
 use Rattle.flat_scene.specs.declared.setup.Setup.{Setup}
 use Rattle.flat_scene.specs.Draft.{Draft, Made, an_image, a_fill, a_viewport, of_serial, content_of}
 use Rattle.flat_scene.specs.Effect.{draft_of}
@@ -75,7 +75,7 @@ module _ (setup : Setup) (h : List Entry) (e : Entry) (legal : Legal setup (h �
     (asks : e.kind ≡ Get get) where
   may : MayEnter setup h (Session t) e.calls (Get get)
   may =
-      let K : Kind → Type 0 = λ kind. MayEnter setup h e.actor e.calls kind in
+      let K : EntryKind → Type 0 = λ kind. MayEnter setup h e.actor e.calls kind in
       let A : Actor → Type 0 = λ who. MayEnter setup h who e.calls (Get get) in
       subst A is (subst K asks legal.1.may)
 

@@ -14,11 +14,11 @@ use Rattle.flat_scene.specs.declared.calls.Watch.{Watch}
 use Rattle.flat_scene.specs.declared.journal.Entry.{Entry}
 use Rattle.flat_scene.specs.declared.journal.Event.{Event}
 use Rattle.flat_scene.specs.declared.journal.Event.TheVariants as event
-use Rattle.flat_scene.specs.declared.journal.Kind.{Kind}
-use Rattle.flat_scene.specs.declared.journal.Kind.TheVariants.{View, Viewport, Present, Get, Wait, Close}
+use Rattle.flat_scene.specs.declared.journal.EntryKind.{EntryKind}
+use Rattle.flat_scene.specs.declared.journal.EntryKind.TheVariants.{View, Viewport, Present, Get, Wait, Close}
 use Rattle.flat_scene.specs.declared.journal.Reply.{Reply}
 use Rattle.flat_scene.specs.declared.journal.Reply.TheVariants.{Done}
-use Rattle.flat_scene.specs.declared.journal.Told.{Told}
+use Rattle.flat_scene.specs.declared.journal.WatcherValue.{WatcherValue}
 use Rattle.flat_scene.specs.declared.setup.Setup.{Setup}
 use Rattle.flat_scene.specs.Frames.{credits}
 use Rattle.flat_base.proofs.lemmas.Tests.{and-left, and-right}
@@ -44,12 +44,12 @@ use Rattle.std.proofs.lemmas.Bool.{and_right}
 
 -- ---- which events tell
 
-told-answer : (p : PairNo) (get : Watch) (o : Option Told) (rest : List Event) → filter is_told rest ≡ rest
+told-answer : (p : PairNo) (get : Watch) (o : Option WatcherValue) (rest : List Event) → filter is_told rest ≡ rest
     → filter is_told (event_of p (Some get) o ++ rest) ≡ event_of p (Some get) o ++ rest
 told-answer p get None rest is = is
 told-answer p get (Some value) rest is = ap (λ (l : List Event). event.Told p get value ∷ l) is
 
-told-answers : (now : Watcher → Option Told) (held : List HeldGet) → filter is_told (answers_to now held) ≡ answers_to now held
+told-answers : (now : Watcher → Option WatcherValue) (held : List HeldGet) → filter is_told (answers_to now held) ≡ answers_to now held
 told-answers now [] = refl
 told-answers now (one ∷ more) = told-answer (pair_watched one.watcher) one.get (news_of now one) (answers_to now more) (told-answers now more)
 
@@ -116,7 +116,7 @@ module _ (setup : Setup) where
       → ((w : Watcher) → hears setup s w ≡ true → (asked setup w h e ≡ None) × (watching setup w (h ▹ e) ≡ watching setup w h))
       → answers_to (told setup (h ▹ e)) (helds_of setup h s) ≡ []
   quiet-all h e s opened rests =
-      let now : Watcher → Option Told = told setup (h ▹ e) in
+      let now : Watcher → Option WatcherValue = told setup (h ▹ e) in
       flat-nested (λ one. event_of (pair_watched one.watcher) (Some one.get) (news_of now one)) (held_of setup h) (watchers_of setup h s)
       ∙ flat-none (hears setup s) (λ w. answers_to now (held_of setup h w))
       (λ w heard. quiet w h e (rests w heard).0 (hears-open setup s w (h ▹ e) heard opened) (rests w heard).1) (watchers_of setup h s)
@@ -128,7 +128,7 @@ module _ (setup : Setup) where
 pub idle-kind : (setup : Setup) (h : List Entry) (e : Entry) → is_get e.kind ≡ false → (w : Watcher) → asked setup w h e ≡ None
 idle-kind setup h e no_get w = by_kind e.kind no_get
   where
-    by_kind : (kind : Kind) → is_get kind ≡ false → asked_in setup w h e kind ≡ None
+    by_kind : (kind : EntryKind) → is_get kind ≡ false → asked_in setup w h e kind ≡ None
     by_kind (Get get) is = cc
     by_kind _ is = refl
 
@@ -145,7 +145,7 @@ untold-kind setup h e legal no_get = ap is_now legal.1.reply ∙ by_kind e.actor
     by_present Display = refl
     by_present (Probe p) = refl
 
-    by_kind : (who : Actor) (kind : Kind) → is_get kind ≡ false → is_now (reply_to setup h who e.calls kind) ≡ false
+    by_kind : (who : Actor) (kind : EntryKind) → is_get kind ≡ false → is_now (reply_to setup h who e.calls kind) ≡ false
     by_kind who (View p) is = not-now (length (view_uses p h) == 0) _ _ refl refl
     by_kind who (Viewport p props) is = not-now (has_token setup p h) _ _ refl refl
     by_kind who (Get get) is = cc
@@ -160,7 +160,7 @@ module _ (setup : Setup) (h : List Entry) (e : Entry) (legal : Legal setup (h �
   view-rests : (q : PairNo) → e.kind ≡ View q → (w : Watcher) → asked setup w h e ≡ None → watching setup w (h ▹ e) ≡ watching setup w h
   view-rests q is w idle = by_watcher w idle
     where
-      K : PairNo → Kind → Type 0
+      K : PairNo → EntryKind → Type 0
       K p kind = (is_finish kind ≡ false) × (uses_viewport p kind ≡ false) × (uses_view p kind ≡ (q.0 == p.0))
 
       kind_is : (p : PairNo) → K p e.kind
@@ -179,7 +179,7 @@ module _ (setup : Setup) (h : List Entry) (e : Entry) (legal : Legal setup (h �
               let here : (q.0 == p.0) ≡ true = sym (kind_is p).2 ∙ and-left (uses_view p e.kind) (is_done e.reply) uses in
               let done : is_done e.reply ≡ true = and-right (uses_view p e.kind) (is_done e.reply) uses in
               let pair : q ≡ p = same-pair q p here in
-              let R : Kind → Type 0 = λ kind. e.reply ≡ reply_to setup h e.actor e.calls kind in
+              let R : EntryKind → Type 0 = λ kind. e.reply ≡ reply_to setup h e.actor e.calls kind in
               let replied : e.reply ≡ cond (length (view_uses q h) == 0) Done refused_token = subst R is legal.1.reply in
               let U : PairNo → Type 0 = λ r. used_in h r ≡ false in
               unheld-stays setup v h e (unused (subst U pair (fresh-view (length (view_uses q h)) e.reply (length (view_uses q h) == 0) refl replied done)))
@@ -197,14 +197,14 @@ module _ (setup : Setup) (h : List Entry) (e : Entry) (legal : Legal setup (h �
       → watching setup w (h ▹ e) ≡ watching setup w h
   rests-between no_finish no_viewport w idle = by_kind e.kind refl no_finish no_viewport
     where
-      by_kind : (kind : Kind) → e.kind ≡ kind → is_finish kind ≡ false → is_viewport kind ≡ false → watching setup w (h ▹ e) ≡ watching setup w h
+      by_kind : (kind : EntryKind) → e.kind ≡ kind → is_finish kind ≡ false → is_viewport kind ≡ false → watching setup w (h ▹ e) ≡ watching setup w h
       by_kind (View q) is f v = view-rests q is w idle
       by_kind (Viewport q props) is f v = cc
       by_kind kind is f v = watching-same setup w h e (record { no_finish = no_finish; no_view = rw is refl; no_viewport = rw is refl }) idle
 
   -- ---- a viewport's entry
 
-  abbrev IsJoin : PairNo → Kind → Type 0
+  abbrev IsJoin : PairNo → EntryKind → Type 0
   IsJoin q kind = (is_finish kind ≡ false) × (is_get kind ≡ false) × ((p : PairNo) → (uses_view p kind ≡ false) × (uses_viewport p kind ≡ (q.0 == p.0)))
 
   join-kind : (q : PairNo) (props : ViewportProps) → e.kind ≡ Viewport q props → IsJoin q e.kind

@@ -2,7 +2,7 @@ pub mod FinishSteps
 pub mod GetMeans
 pub mod GetOwners
 pub mod GetSteps
-pub mod GotCells
+pub mod GotHangingGets
 pub mod PairLists
 pub mod PartSteps
 pub mod SettleSteps

@@ -7,8 +7,8 @@ use Rattle.std.proofs.lemmas.Option.{slice_get_cases}
 use Rattle.flat_base.specs.declared.ids.PairNo.{PairNo}
 use Rattle.flat_base.specs.declared.ids.SessionNo.{SessionNo}
 use Rattle.flat_scene.specs.declared.journal.Event.{Event}
-use Rattle.flat_scene.specs.declared.journal.Post.{Post}
-use Rattle.flat_scene.specs.declared.journal.Told.{Told}
+use Rattle.flat_scene.specs.declared.journal.PostedEvent.{PostedEvent}
+use Rattle.flat_scene.specs.declared.journal.WatcherValue.{WatcherValue}
 use Rattle.flat_facts.specs.Begins.{post_of}
 use Rattle.flat_rules.specs.Posts.{event_of}
 use Rattle.flat_rules.specs.Watch.{Watcher}
@@ -16,8 +16,8 @@ use Rattle.flat_rules.proofs.lemmas.ListLemmas.{flat-each}
 use Rattle.flat_watch.specs.Told.{Watching, answer, settled}
 use Rattle.flat_gets.specs.declared.pair.FormerGet.{FormerGet}
 use Rattle.flat_gets.specs.declared.pair.PairWatchers.{PairWatchers}
-use Rattle.flat_gets.specs.declared.pair.Part.{Part}
-use Rattle.flat_gets.specs.declared.pair.Part.TheVariants as parts
+use Rattle.flat_gets.specs.declared.pair.WatchedPart.{WatchedPart}
+use Rattle.flat_gets.specs.declared.pair.WatchedPart.TheVariants as parts
 use Rattle.flat_gets.specs.Listed.{KeptGets, is_listed}
 use Rattle.flat_gets.specs.Pairs.{former_events, is_child, is_layout, is_status, part_events, still_waiting, watcher_at}
 use Rattle.flat_gets.specs.Watchers.{IsToldAll, TellsEach, all_answers, part_answers}
@@ -26,13 +26,14 @@ use Rattle.flat_gets.proofs.PartSteps.{two-posted}
 -- ---- a part, of any pair
 
 -- What is kept of a pair, where it is listed and where it isn't.
-record IsToldIf (listed : Bool) (part : Part) (now : Option Told) (old new : PairWatchers) : Type 0 where
+record IsToldIf (listed : Bool) (part : WatchedPart) (now : Option WatcherValue) (old new : PairWatchers) : Type 0 where
   layout : new.layout ≡ settled (is_layout part && listed) now old.layout
   status : new.status ≡ settled (is_status part && listed) now old.status
   child : new.child ≡ settled (is_child part && listed) now old.child
   former : new.former.items ≡ cond (is_child part && listed) (still_waiting now old.former.items) old.former.items
 
-module _ (part : Part) (now : PairNo → Option Told) (place : ℕ) (s : SessionNo) (listed : List PairNo) (old new : List PairWatchers) (posts after : List Post)
+module _ (part : WatchedPart) (now : PairNo → Option WatcherValue) (place : ℕ) (s : SessionNo) (listed : List PairNo) (old new : List PairWatchers)
+    (posts after : List PostedEvent)
     (count : ℕ) (tells : TellsEach part now place s listed old new posts after count) where
   and-true : (b : Bool) → (b && true) ≡ b
   and-true true = refl
@@ -83,7 +84,8 @@ module _ (part : Part) (now : PairNo → Option Told) (place : ℕ) (s : Session
 
 -- ---- all parts
 
-module _ (now : Watcher → Option Told) (place : ℕ) (s : SessionNo) (from : KeptGets) (p0 p1 p2 p3 : List PairWatchers) (q0 q1 q2 q3 : List Post) (a b c : ℕ)
+module _ (now : Watcher → Option WatcherValue) (place : ℕ) (s : SessionNo) (from : KeptGets) (p0 p1 p2 p3 : List PairWatchers) (q0 q1 q2 q3 : List PostedEvent)
+    (a b c : ℕ)
     (layouts : TellsEach parts.Layout (λ p. now (watcher_at parts.Layout p 0)) place s from.views p0 p1 q0 q1 a)
     (statuses : TellsEach parts.Status (λ p. now (watcher_at parts.Status p 0)) place s from.views p1 p2 q1 q2 b)
     (children : TellsEach parts.Child (λ p. now (watcher_at parts.Child p 0)) place s from.viewports p2 p3 q2 q3 c) where
@@ -152,7 +154,7 @@ module _ (now : Watcher → Option Told) (place : ℕ) (s : SessionNo) (from : K
 
   pub settled-posted : (d : PairWatchers) → q3 ≡ q0 ++ map (post_of place s) (all_answers now from p0 d)
   settled-posted d =
-      let f : Event → Post = post_of place s in
+      let f : Event → PostedEvent = post_of place s in
       let xs : List Event = part_answers parts.Layout (λ p. now (watcher_at parts.Layout p 0)) p0 d from.views in
       let ys : List Event = part_answers parts.Status (λ p. now (watcher_at parts.Status p 0)) p0 d from.views in
       let zs : List Event = part_answers parts.Child (λ p. now (watcher_at parts.Child p 0)) p0 d from.viewports in

@@ -8,7 +8,7 @@ use Rattle.flat_base.specs.declared.ids.SessionNo.{SessionNo}
 use Rattle.flat_scene.specs.declared.journal.Entry.{Entry}
 use Rattle.flat_scene.specs.declared.setup.Setup.{Setup}
 use Rattle.flat_scene.specs.History.{is_closed}
-use Rattle.flat_scene.specs.declared.journal.Told.{Told}
+use Rattle.flat_scene.specs.declared.journal.WatcherValue.{WatcherValue}
 use Rattle.flat_watch.specs.Told.{Watching}
 use Rattle.flat_rules.specs.Ends.{view_owner, viewport_owner, viewport_uses}
 use Rattle.flat_rules.specs.Legal.{Legal, owns_view}
@@ -88,7 +88,7 @@ module _ (setup : Setup) (h : List Entry) (line : ℕ) (legal : Legal setup (fin
 
 -- ---- where nothing waited nothing does
 
-module _ (now : Watcher → Option Told) (from : KeptGets) (p : PairNo) (old new : PairWatchers) (all : IsToldAll now from p old new) where
+module _ (now : Watcher → Option WatcherValue) (from : KeptGets) (p : PairNo) (old new : PairWatchers) (all : IsToldAll now from p old new) where
   pub settled-views : view_waits old ≡ false → view_waits new ≡ false
   settled-views none =
       let layout : is_some new.layout.waits ≡ false = ap (λ (w : Watching). is_some w.waits) all.layout

@@ -12,7 +12,7 @@ use Rattle.flat_base.specs.declared.ids.SessionNo.{SessionNo}
 use Rattle.flat_scene.specs.declared.calls.Watch.{Watch}
 use Rattle.flat_scene.specs.declared.journal.Entry.{Entry}
 use Rattle.flat_scene.specs.declared.journal.Event.{Event}
-use Rattle.flat_scene.specs.declared.journal.Told.{Told}
+use Rattle.flat_scene.specs.declared.journal.WatcherValue.{WatcherValue}
 use Rattle.flat_scene.specs.declared.setup.Setup.{Setup}
 use Rattle.flat_watch.specs.Told.{Watching, answer, news}
 use Rattle.flat_rules.specs.Ends.{viewport_owner, viewport_uses, view_owner, views_of, viewports_of}
@@ -27,7 +27,7 @@ use Rattle.flat_facts.specs.Begins.{finish_entry, finished}
 use Rattle.flat_facts.specs.Pairs.{pair}
 use Rattle.flat_gets.specs.declared.pair.FormerGet.{FormerGet}
 use Rattle.flat_gets.specs.declared.pair.PairWatchers.{PairWatchers}
-use Rattle.flat_gets.specs.declared.pair.Part.TheVariants as parts
+use Rattle.flat_gets.specs.declared.pair.WatchedPart.TheVariants as parts
 use Rattle.flat_gets.specs.Gets.{answers_to, hears, helds_of}
 use Rattle.flat_gets.specs.Listed.{AreListed, KeptGets, view_waits, viewport_waits}
 use Rattle.flat_gets.specs.Pairs.{AreAt, former_events, former_gets, former_of, former_with, part_events}
@@ -64,20 +64,20 @@ pub no-formers : (xs : List FormerGet) → nat_lt 0 (length xs) ≡ false → xs
 no-formers [] none = refl
 no-formers (x ∷ xs) none = absurd (let some : 0 < length (x ∷ xs) = omega arith in grind (arith, nat_tests))
 
-former-event : (p : PairNo) (now : Option Told) (v : Watching) → former_events p now (former_of v) ≡ event_of p v.waits (answer now v)
+former-event : (p : PairNo) (now : Option WatcherValue) (v : Watching) → former_events p now (former_of v) ≡ event_of p v.waits (answer now v)
 former-event p now v = by_waits v.waits
   where
     by_waits : (o : Option Watch) → former_events p now (former_with v.last o) ≡ event_of p o (answer now (record { last = v.last; waits = o }))
     by_waits None = refl
     by_waits (Some get) = append-nil (event_of p (Some get) (news now v.last))
 
-formers-events : (p : PairNo) (now : Option Told) (f : ℕ → Watching) (n : ℕ)
+formers-events : (p : PairNo) (now : Option WatcherValue) (f : ℕ → Watching) (n : ℕ)
     → former_events p now (former_gets f n) ≡ flat_map (λ j. event_of p (f j).waits (answer now (f j))) (up_to n)
 formers-events p now f n =
     flat-nested (λ (former : FormerGet). event_of p (Some former.get) (news now former.last)) (λ j. former_of (f j)) (up_to n)
     ∙ flat-each (λ j. former_events p now (former_of (f j))) (λ j. event_of p (f j).waits (answer now (f j))) (λ j. former-event p now (f j)) (up_to n)
 
-children-events : (p : PairNo) (now : Option Told) (f : ℕ → Watching) → (f 0).waits ≡ None → (n : ℕ)
+children-events : (p : PairNo) (now : Option WatcherValue) (f : ℕ → Watching) → (f 0).waits ≡ None → (n : ℕ)
     → (former_events p now (former_gets f (n - 1)) ++ event_of p (f n).waits (answer now (f n)))
     ≡ flat_map (λ j. event_of p (f j).waits (answer now (f j))) (up_to n)
 children-events p now f none zero = rw none refl
@@ -101,7 +101,7 @@ module _ (setup : Setup) (h : List Entry) (line : ℕ) (legal : Legal setup (fin
     abbrev e : Entry
     e = finish_entry line
 
-    abbrev now : Watcher → Option Told
+    abbrev now : Watcher → Option WatcherValue
     now = told setup k
 
     abbrev at : PairNo → PairWatchers

@@ -9,18 +9,18 @@ use Rattle.std.proofs.lemmas.Grind.{flat_map-append}
 use Rattle.flat_base.specs.declared.ids.PairNo.{PairNo}
 use Rattle.flat_base.specs.declared.ids.SessionNo.{SessionNo}
 use Rattle.flat_scene.specs.declared.journal.Event.{Event}
-use Rattle.flat_scene.specs.declared.journal.Post.{Post}
-use Rattle.flat_scene.specs.declared.journal.Told.{Told}
+use Rattle.flat_scene.specs.declared.journal.PostedEvent.{PostedEvent}
+use Rattle.flat_scene.specs.declared.journal.WatcherValue.{WatcherValue}
 use Rattle.flat_facts.specs.Begins.{post_of}
 use Rattle.flat_facts.proofs.lemmas.Tests.{same-pair}
 use Rattle.flat_gets.specs.declared.pair.PairWatchers.{PairWatchers}
-use Rattle.flat_gets.specs.declared.pair.Part.{Part}
+use Rattle.flat_gets.specs.declared.pair.WatchedPart.{WatchedPart}
 use Rattle.flat_gets.specs.Listed.{is_listed}
 use Rattle.flat_gets.specs.Pairs.{IsTold, part_events, waiting_in}
 use Rattle.flat_gets.specs.Watchers.{TellsEach, part_answers}
 use Rattle.flat_gets.proofs.PairLists.{listed-append}
 
-pub tells-none : (part : Part) (now : PairNo → Option Told) (place : ℕ) (s : SessionNo) (old : List PairWatchers) (posts : List Post)
+pub tells-none : (part : WatchedPart) (now : PairNo → Option WatcherValue) (place : ℕ) (s : SessionNo) (old : List PairWatchers) (posts : List PostedEvent)
     → TellsEach part now place s [] old old posts posts 0
 tells-none part now place s old posts = record {
   length_is = refl;
@@ -30,8 +30,9 @@ tells-none part now place s old posts = record {
   counted = λ d. refl;
 }
 
-module _ (part : Part) (now : PairNo → Option Told) (place : ℕ) (s : SessionNo) where
-  pub tells-next : (before : List PairNo) (p : PairNo) (old cur : List PairWatchers) (was then : PairWatchers) (posts so_far more : List Post) (count n : ℕ)
+module _ (part : WatchedPart) (now : PairNo → Option WatcherValue) (place : ℕ) (s : SessionNo) where
+  pub tells-next : (before : List PairNo) (p : PairNo) (old cur : List PairWatchers) (was then : PairWatchers) (posts so_far more : List PostedEvent)
+      (count n : ℕ)
       → is_listed p.0 before ≡ false → p.0 < length old
       → TellsEach part now place s before old cur posts so_far count → was ≡ slice_index_or cur p.0 was → IsTold part (now p) was then
       → more ≡ so_far ++ map (post_of place s) (part_events part p (now p) was) → n ≡ length (part_events part p (now p) was)
@@ -46,9 +47,9 @@ module _ (part : Part) (now : PairNo → Option Told) (place : ℕ) (s : Session
         get_or-set_other cur p.0 i then d differ ∙ each.others i d within (grind arith);
     posted = λ d.
         let first : part_answers part now old d (before ++ p ∷ []) ≡ part_answers part now old d before ++ part_events part p (now p) was = all d in
-        pushed ∙ ap (λ (l : List Post). l ++ map f (part_events part p (now p) was)) (each.posted d)
+        pushed ∙ ap (λ (l : List PostedEvent). l ++ map f (part_events part p (now p) was)) (each.posted d)
         ∙ append_assoc posts (map f (part_answers part now old d before)) (map f (part_events part p (now p) was))
-        ∙ ap (λ (l : List Post). posts ++ l) (sym (map-append f (part_answers part now old d before) (part_events part p (now p) was)))
+        ∙ ap (λ (l : List PostedEvent). posts ++ l) (sym (map-append f (part_answers part now old d before) (part_events part p (now p) was)))
         ∙ ap (λ (l : List Event). posts ++ map f l) (sym first);
     counted = λ d. omega (
       arith,
@@ -59,7 +60,7 @@ module _ (part : Part) (now : PairNo → Option Told) (place : ℕ) (s : Session
     );
   }
     where
-      f : Event → Post
+      f : Event → PostedEvent
       f = post_of place s
 
       or-nothing : (a b : Bool) → (a || (b || false)) ≡ (a || b)
@@ -103,6 +104,6 @@ pub due-next : (cur : List PairWatchers) (place : ℕ) (was then : PairWatchers)
     → waiting_in then + n ≡ waiting_in was → sum_by waiting_in (slice_set cur place then) + n ≡ sum_by waiting_in cur
 due-next cur place was then n below at fewer = omega (arith, sum_by-set waiting_in cur place then was below, ap waiting_in at, fewer)
 
-pub count-map : (f : Event → Post) (events : List Event) → length (map f events) ≡ length events
+pub count-map : (f : Event → PostedEvent) (events : List Event) → length (map f events) ≡ length events
 count-map f [] = refl
 count-map f (event ∷ more) = ap suc (count-map f more)

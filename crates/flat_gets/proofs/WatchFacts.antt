@@ -9,8 +9,8 @@ use Rattle.flat_base.specs.declared.ids.SessionNo.{SessionNo}
 use Rattle.flat_scene.specs.declared.calls.ViewportProps.{ViewportProps}
 use Rattle.flat_scene.specs.declared.calls.Watch.{Watch}
 use Rattle.flat_scene.specs.declared.journal.Entry.{Entry}
-use Rattle.flat_scene.specs.declared.journal.Kind.{Kind}
-use Rattle.flat_scene.specs.declared.journal.Kind.TheVariants.{Viewport, Get}
+use Rattle.flat_scene.specs.declared.journal.EntryKind.{EntryKind}
+use Rattle.flat_scene.specs.declared.journal.EntryKind.TheVariants.{Viewport, Get}
 use Rattle.flat_scene.specs.declared.setup.Setup.{Setup}
 use Rattle.flat_scene.specs.History.{◌▹◌, is_closed, is_finish, is_session}
 use Rattle.flat_scene.specs.Setups.{is_declared}
@@ -89,11 +89,11 @@ module _ (setup : Setup) (h : List Entry) (e : Entry) (legal : Legal setup (h �
   pub no-use : is_viewport e.kind ≡ false → (p : PairNo) → length (viewport_uses p (h ▹ e)) ≡ length (viewport_uses p h)
   no-use no_viewport p = by_kind e.kind refl no_viewport
     where
-      by_kind : (kind : Kind) → e.kind ≡ kind → is_viewport kind ≡ false → length (viewport_uses p (h ▹ e)) ≡ length (viewport_uses p h)
+      by_kind : (kind : EntryKind) → e.kind ≡ kind → is_viewport kind ≡ false → length (viewport_uses p (h ▹ e)) ≡ length (viewport_uses p h)
       by_kind (Viewport q props) is none = cc
       by_kind kind is none = rw is refl
 
-  abbrev pub IsUse : PairNo → Kind → Type 0
+  abbrev pub IsUse : PairNo → EntryKind → Type 0
   IsUse q kind = (is_get kind ≡ false) × ((is_finish kind ≡ false) × ((p : PairNo) → uses_viewport p kind ≡ (q.0 == p.0)))
 
   pub use-kind : (q : PairNo) (props : ViewportProps) → e.kind ≡ Viewport q props → IsUse q e.kind

@@ -11,10 +11,10 @@ use Rattle.flat_scene.specs.declared.calls.ViewportProps.{ViewportProps}
 use Rattle.flat_scene.specs.declared.calls.Watch.{Watch}
 use Rattle.flat_scene.specs.declared.journal.Entry.{Entry}
 use Rattle.flat_scene.specs.declared.journal.Event.{Event}
-use Rattle.flat_scene.specs.declared.journal.Kind.TheVariants.{Viewport}
+use Rattle.flat_scene.specs.declared.journal.EntryKind.TheVariants.{Viewport}
 use Rattle.flat_scene.specs.declared.journal.Reply.{Reply}
 use Rattle.flat_scene.specs.declared.journal.Reply.TheVariants.{Now}
-use Rattle.flat_scene.specs.declared.journal.Told.{Told}
+use Rattle.flat_scene.specs.declared.journal.WatcherValue.{WatcherValue}
 use Rattle.flat_scene.specs.declared.setup.Setup.{Setup}
 use Rattle.flat_scene.specs.History.{◌▹◌, closes, is_closed, is_session}
 use Rattle.flat_rules.specs.Legal.{Legal, answers, is_now, is_told, number_if, owns_view, sent_to}
@@ -63,7 +63,7 @@ gets-few (h ▹ e) = omega (arith, gets-few h, few-if (is_get e.kind))
 
 -- ---- answers
 
-told-one : (p : PairNo) (waits : Option Watch) (given : Option Told) → filter is_told (event_of p waits given) ≡ event_of p waits given
+told-one : (p : PairNo) (waits : Option Watch) (given : Option WatcherValue) → filter is_told (event_of p waits given) ≡ event_of p waits given
 told-one p (Some get) (Some value) = refl
 told-one p (Some get) None = refl
 told-one p None given = refl

@@ -10,14 +10,14 @@ use Rattle.flat_base.specs.declared.ids.PairNo.{PairNo}
 use Rattle.flat_base.specs.declared.ids.SessionNo.{SessionNo}
 use Rattle.flat_scene.specs.declared.calls.Watch.{Watch}
 use Rattle.flat_scene.specs.declared.journal.Entry.{Entry}
-use Rattle.flat_scene.specs.declared.journal.Kind.{Kind}
-use Rattle.flat_scene.specs.declared.journal.Kind.TheVariants.{Get}
+use Rattle.flat_scene.specs.declared.journal.EntryKind.{EntryKind}
+use Rattle.flat_scene.specs.declared.journal.EntryKind.TheVariants.{Get}
 use Rattle.flat_scene.specs.declared.journal.Reply.{Reply}
-use Rattle.flat_scene.specs.declared.journal.Told.{Told}
+use Rattle.flat_scene.specs.declared.journal.WatcherValue.{WatcherValue}
 use Rattle.flat_scene.specs.declared.setup.Setup.{Setup}
 use Rattle.flat_scene.specs.History.{◌▹◌, is_finish, is_session, own}
 use Rattle.flat_scene.specs.Setups.{is_declared}
-use Rattle.flat_watch.specs.Cells.{after_get}
+use Rattle.flat_watch.specs.HangingGets.{after_get}
 use Rattle.flat_watch.specs.Told.{Watching}
 use Rattle.flat_facts.specs.Pairs.{pair}
 use Rattle.flat_facts.proofs.lemmas.Between.{is_viewport}
@@ -31,8 +31,8 @@ use Rattle.flat_rules.specs.Numbers.{number, AllNumbered}
 use Rattle.flat_rules.specs.Watch.{Watcher, layout_of, status_of, child_of, watching, told, asked, same_watcher, watcher_of}
 use Rattle.flat_rules.proofs.lemmas.SameWatchers.{same-is}
 use Rattle.flat_gets.specs.declared.pair.PairWatchers.{PairWatchers}
-use Rattle.flat_gets.specs.declared.pair.Part.{Part}
-use Rattle.flat_gets.specs.declared.pair.Part.TheVariants as parts
+use Rattle.flat_gets.specs.declared.pair.WatchedPart.{WatchedPart}
+use Rattle.flat_gets.specs.declared.pair.WatchedPart.TheVariants as parts
 use Rattle.flat_gets.specs.declared.watching.Watchers.{Watchers}
 use Rattle.flat_gets.specs.Listed.{AreListed, IsList, KeptGets, view_waits, viewport_waits, waits_at, with_pair}
 use Rattle.flat_gets.specs.Pairs.{AreAt, IsGot, former_gets, is_child, part_of, waiting_in, watcher_at}
@@ -45,8 +45,9 @@ use Rattle.flat_gets.proofs.WatchLists.{list-fewer, list-more, list-owned, view-
 use Rattle.flat_gets.proofs.WatchedJoins.{due-set, fewer-set}
 use Rattle.flat_rules.proofs.lemmas.WatchLocal.{one-viewport}
 use Rattle.flat_gets.proofs.WatchedPairs.{at-rested, formers-below, formers-same}
-use Rattle.flat_gets.proofs.GotCells.{answer_of, got-few, got-viewports, got-views, meant, other-rests, own-counted, own-got, unheld-viewports, unheld-views}
-use Rattle.flat_gets.proofs.GotCells.{watched-pair}
+use Rattle.flat_gets.proofs.GotHangingGets.{answer_of, got-few, got-viewports, got-views, meant, other-rests, own-counted, own-got, unheld-viewports}
+use Rattle.flat_gets.proofs.GotHangingGets.{unheld-views}
+use Rattle.flat_gets.proofs.GotHangingGets.{watched-pair}
 
 -- ---- all of them
 
@@ -55,7 +56,7 @@ module _ (setup : Setup) (h : List Entry) (e : Entry) (legal : Legal setup (h �
   abbrev w : Watcher
   w = watcher_meant h get p
 
-  abbrev K : Kind → Type 0
+  abbrev K : EntryKind → Type 0
   K kind = (is_finish kind ≡ false) × (is_viewport kind ≡ false)
 
   kind_is : K e.kind
@@ -94,7 +95,7 @@ module _ (setup : Setup) (h : List Entry) (e : Entry) (legal : Legal setup (h �
       itself : (p.0 == p.0) ≡ true
       itself = grind (arith, nat_tests)
 
-      by_part : (part : Part) → IsGot part get (told setup h (watcher_at part p 0)) was then
+      by_part : (part : WatchedPart) → IsGot part get (told setup h (watcher_at part p 0)) was then
           → watching setup (watcher_at part p n) (h ▹ e) ≡ after_get get (told setup h (watcher_at part p n)) (watching setup (watcher_at part p n) h)
           → ((v : Watcher) → same_watcher v (watcher_at part p n) ≡ false → watching setup v (h ▹ e) ≡ watching setup v h) → AreAt setup (h ▹ e) (h ▹ e) p then
       by_part parts.Layout got_one own_one rests = record {
@@ -129,11 +130,11 @@ module _ (setup : Setup) (h : List Entry) (e : Entry) (legal : Legal setup (h �
       (λ v heard. let idle = others-unasked setup h e legal (number j) theirs v heard in (idle, rests-between setup h e legal kind_is.0 kind_is.1 v idle))
 
   -- who owns the end that is watched
-  owner-is : (part : Part) → IsMeant setup h s (watcher_at part p (length (viewport_uses p h)))
+  owner-is : (part : WatchedPart) → IsMeant setup h s (watcher_at part p (length (viewport_uses p h)))
       → ((is_child part ≡ false) × (owns_view setup s p ≡ true)) ⊎ ((is_child part ≡ true) × (owns_viewport setup s p ≡ true))
   owner-is part meant_is = by_meant part (watcher_at part p (length (viewport_uses p h))) refl meant_is
     where
-      by_meant : (part : Part) (v : Watcher) → v ≡ watcher_at part p (length (viewport_uses p h)) → IsMeant setup h s v
+      by_meant : (part : WatchedPart) (v : Watcher) → v ≡ watcher_at part p (length (viewport_uses p h)) → IsMeant setup h s v
           → ((is_child part ≡ false) × (owns_view setup s p ≡ true)) ⊎ ((is_child part ≡ true) × (owns_viewport setup s p ≡ true))
       by_meant parts.Layout v at (of_layout q owned) = let same : q ≡ p = cc in inl (refl, subst (λ (r : PairNo). owns_view setup s r ≡ true) same owned)
       by_meant parts.Layout v at (of_status q owned) = absurd (cc)
@@ -146,7 +147,7 @@ module _ (setup : Setup) (h : List Entry) (e : Entry) (legal : Legal setup (h �
       by_meant parts.Child v at (of_child q owned some) = let same : q ≡ p = cc in inr (refl, subst (λ (r : PairNo). owns_viewport setup s r ≡ true) same owned)
 
   -- what is listed then
-  module _ (old : List PairWatchers) (was then : PairWatchers) (now : Option Told) (below : p.0 < length old) (at : was ≡ slice_index_or old p.0 was)
+  module _ (old : List PairWatchers) (was then : PairWatchers) (now : Option WatcherValue) (below : p.0 < length old) (at : was ≡ slice_index_or old p.0 was)
       (gets : IsGot (part_of get) get now was then) where
     abbrev new_pairs : List PairWatchers
     new_pairs = slice_set old p.0 then
@@ -225,7 +226,7 @@ module _ (setup : Setup) (h : List Entry) (e : Entry) (legal : Legal setup (h �
       → AreWatched setup h old → AreWatched setup (h ▹ e) new
   watched-asked declared within old new asked are =
       let here = declared-some s.0 setup.sessions declared in
-      let value : Option Told = told setup h (watcher_at (part_of get) p 0) in
+      let value : Option WatcherValue = told setup h (watcher_at (part_of get) p 0) in
       let below : p.0 < length old.pairs.items = omega (arith, within, are.count) in
       let place : s.0 - 1 < length old.sessions.items = omega (arith, here.0, here.1, are.sessions) in
       let its : AreAt setup h h p asked.was = subst (AreAt setup h h p) (sym asked.of_was) (are.each p.0 asked.was below) in
@@ -239,7 +240,7 @@ module _ (setup : Setup) (h : List Entry) (e : Entry) (legal : Legal setup (h �
       let few = got-few get value asked.was asked.then (part_of get) asked.gets in
       let now_is : number_if (is_now (answer_of get value asked.was asked.then (part_of get))) ≡ number_if (is_now e.reply) =
       ap (λ (r : Reply). number_if (is_now r)) (sym asked.replied) in
-      let made : number_if (is_get e.kind) ≡ 1 = ap (λ (k : Kind). number_if (is_get k)) asks in
+      let made : number_if (is_get e.kind) ≡ 1 = ap (λ (k : EntryKind). number_if (is_get k)) asks in
       let total : sum_by answers_in (slice_set old.sessions.items (s.0 - 1) asked.to) ≡ sum_by answers_in old.sessions.items + number_if (is_now e.reply) =
       omega (arith, sum_by-set answers_in old.sessions.items (s.0 - 1) asked.to asked.from place, ap answers_in asked.of_from, asked.counted) in
       record {

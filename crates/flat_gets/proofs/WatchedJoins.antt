@@ -13,9 +13,9 @@ use Rattle.flat_scene.specs.declared.calls.ViewportProps.{ViewportProps}
 use Rattle.flat_scene.specs.declared.calls.Watch.{Watch}
 use Rattle.flat_scene.specs.declared.journal.Entry.{Entry}
 use Rattle.flat_scene.specs.declared.journal.Event.{Event}
-use Rattle.flat_scene.specs.declared.journal.Kind.TheVariants.{Viewport}
-use Rattle.flat_scene.specs.declared.journal.Post.{Post}
-use Rattle.flat_scene.specs.declared.journal.Told.{Told}
+use Rattle.flat_scene.specs.declared.journal.EntryKind.TheVariants.{Viewport}
+use Rattle.flat_scene.specs.declared.journal.PostedEvent.{PostedEvent}
+use Rattle.flat_scene.specs.declared.journal.WatcherValue.{WatcherValue}
 use Rattle.flat_scene.specs.declared.setup.Setup.{Setup}
 use Rattle.flat_scene.specs.History.{◌▹◌, closes, is_closed, is_session, own}
 use Rattle.flat_scene.specs.Setups.{is_declared}
@@ -142,7 +142,7 @@ module _ (old new : PairWatchers) (started : IsStarted old new) where
       ap (λ (w : Watching). number_if (is_some w.waits)) started.status in
       omega (arith, child, former, layout, status)
 
-pub told-views : (now : Watcher → Option Told) {p : PairNo} (old new : PairWatchers) → IsViewTold now p old new → view_waits old ≡ false
+pub told-views : (now : Watcher → Option WatcherValue) {p : PairNo} (old new : PairWatchers) → IsViewTold now p old new → view_waits old ≡ false
     → view_waits new ≡ false
 told-views now {p} old new told none =
     let first : is_some old.layout.waits ≡ false = none-left (is_some old.layout.waits) _ none in
@@ -296,7 +296,7 @@ module _ (setup : Setup) (h : List Entry) (e : Entry) (legal : Legal setup (h �
 
     -- or is open, and was told
     pub watched-joined : is_declared setup t ≡ true → is_closed t (h ▹ e) ≡ false
-        → (old mid new : Watchers) (was then : PairWatchers) (before after : List Post) (count : ℕ) → q.0 < length old.pairs.items
+        → (old mid new : Watchers) (was then : PairWatchers) (before after : List PostedEvent) (count : ℕ) → q.0 < length old.pairs.items
         → TellsView (told setup (h ▹ e)) (length h) t q old mid before after count → due_told mid + count ≡ due_told old
         → was ≡ slice_index_or mid.pairs.items q.0 was → new.pairs.items ≡ slice_set mid.pairs.items q.0 then → new.sessions.items ≡ mid.sessions.items
         → IsStarted was then → before ≡ posts setup h
@@ -384,7 +384,7 @@ module _ (setup : Setup) (h : List Entry) (e : Entry) (legal : Legal setup (h �
                 (subst (λ (ps : List PairWatchers). L ps (slice_set old.sessions.items (t.0 - 1) to)) (sym pairs_is) changed);
             few = omega (arith, are.few, fewer, due_new, total, ap (sum_by answers_in) sessions_is);
           },
-          tells.posted ∙ ap (λ (ps : List Post). ps ++ map (post_of (length h) t) given) posted
+          tells.posted ∙ ap (λ (ps : List PostedEvent). ps ++ map (post_of (length h) t) given) posted
               ∙ ap (λ (l : List Event). posts setup h ++ map (post_of (length h) t) l) same
               ∙ sym (joined-posts setup h e legal q props is t declared owned opened),
         )
@@ -401,14 +401,14 @@ module _ (setup : Setup) (h : List Entry) (e : Entry) (legal : Legal setup (h �
 -- ---- by what the board asks
 
 pub unjoined-is : (setup : Setup) (h : List Entry) (e : Entry) (t : SessionNo) (shut : Bool) (q : PairNo) → IsJoin setup h e false t shut q
-    → (watchers : Watchers) (before : List Post) → before ≡ posts setup h → AreWatched setup h watchers
+    → (watchers : Watchers) (before : List PostedEvent) → before ≡ posts setup h → AreWatched setup h watchers
     → AreWatched setup (h ▹ e) watchers × (before ≡ posts setup (h ▹ e))
 unjoined-is setup h e t shut q join watchers before posted old =
     let two = watched-refused setup h e join.legal q join.props join.kind (ap is_done join.replied) watchers old in
     (two.0, posted ∙ sym two.1)
 
 pub shut-is : (setup : Setup) (h : List Entry) (e : Entry) (t : SessionNo) (q : PairNo) → IsJoin setup h e true t true q
-    → (old new : Watchers) (was then : PairWatchers) (before : List Post) → q.0 < length old.pairs.items → was ≡ slice_index_or old.pairs.items q.0 was
+    → (old new : Watchers) (was then : PairWatchers) (before : List PostedEvent) → q.0 < length old.pairs.items → was ≡ slice_index_or old.pairs.items q.0 was
     → new.pairs.items ≡ slice_set old.pairs.items q.0 then → new.sessions.items ≡ old.sessions.items → IsStarted was then → before ≡ posts setup h
     → AreWatched setup h old → AreWatched setup (h ▹ e) new × (before ≡ posts setup (h ▹ e))
 shut-is setup h e t q join old new was then before below at pairs sessions started posted are = by_why (join.closed refl)
@@ -423,7 +423,7 @@ shut-is setup h e t q join old new was then before below at pairs sessions start
         below at pairs sessions started are in (two.0, posted ∙ sym two.1)
 
 pub joined-is : (setup : Setup) (h : List Entry) (e : Entry) (t : SessionNo) (q : PairNo) → IsJoin setup h e true t false q
-    → (old mid new : Watchers) (was then : PairWatchers) (before after : List Post) (count : ℕ) → q.0 < length old.pairs.items
+    → (old mid new : Watchers) (was then : PairWatchers) (before after : List PostedEvent) (count : ℕ) → q.0 < length old.pairs.items
     → TellsView (told setup (h ▹ e)) (length h) t q old mid before after count → due_told mid + count ≡ due_told old
     → was ≡ slice_index_or mid.pairs.items q.0 was → new.pairs.items ≡ slice_set mid.pairs.items q.0 then → new.sessions.items ≡ mid.sessions.items
     → IsStarted was then → before ≡ posts setup h → AreWatched setup h old → AreWatched setup (h ▹ e) new × (after ≡ posts setup (h ▹ e))

@@ -10,11 +10,11 @@ use Rattle.flat_base.specs.declared.ids.PairNo.{PairNo}
 use Rattle.flat_base.specs.declared.ids.SessionNo.{SessionNo}
 use Rattle.flat_scene.specs.declared.calls.Watch.{Watch}
 use Rattle.flat_scene.specs.declared.journal.Entry.{Entry}
-use Rattle.flat_scene.specs.declared.journal.Told.{Told}
+use Rattle.flat_scene.specs.declared.journal.WatcherValue.{WatcherValue}
 use Rattle.flat_scene.specs.declared.setup.Setup.{Setup}
 use Rattle.flat_scene.specs.History.{◌▹◌, is_session}
 use Rattle.flat_watch.specs.Told.{Watching, answered_by, news, settled}
-use Rattle.flat_watch.specs.Cells.{new_cell}
+use Rattle.flat_watch.specs.HangingGets.{new_hanging_get}
 use Rattle.flat_rules.specs.Ends.{viewport_uses}
 use Rattle.flat_rules.specs.Legal.{Legal}
 use Rattle.flat_rules.specs.Local.{pair_watched}
@@ -51,10 +51,10 @@ former-more f (suc n) none = let less : suc n - 1 ≡ n = omega arith in ap (λ 
 
 -- ---- what a watcher's answer leaves
 
-former-settled : (now : Option Told) (w : Watching) → former_of (settled true now w) ≡ still_waiting now (former_of w)
+former-settled : (now : Option WatcherValue) (w : Watching) → former_of (settled true now w) ≡ still_waiting now (former_of w)
 former-settled now w = by_waits w.waits
   where
-    by_news : (get : Watch) (o : Option Told) → former_of (answered_by o (record { last = w.last; waits = Some get }))
+    by_news : (get : Watch) (o : Option WatcherValue) → former_of (answered_by o (record { last = w.last; waits = Some get }))
         ≡ cond (not (is_some o)) ((record { get = get; last = w.last }) ∷ []) []
     by_news get (Some value) = refl
     by_news get None = refl
@@ -64,17 +64,17 @@ former-settled now w = by_waits w.waits
     by_waits (Some get) = by_news get (news now w.last)
 
 -- those of earlier uses that wait on, where each was told this
-pub formers-settled : (now : Option Told) (f g : ℕ → Watching) (n : ℕ) → ((k : ℕ) → g k ≡ settled true now (f k))
+pub formers-settled : (now : Option WatcherValue) (f g : ℕ → Watching) (n : ℕ) → ((k : ℕ) → g k ≡ settled true now (f k))
     → former_gets g n ≡ still_waiting now (former_gets f n)
 formers-settled now f g n told =
     flat-each (λ k. former_of (g k)) (λ k. still_waiting now (former_of (f k))) (λ k. ap former_of (told k) ∙ former-settled now (f k)) (up_to n)
     ∙ sym (flat-filtered (λ (former : FormerGet). not (is_some (news now former.last))) (λ k. former_of (f k)) (up_to n))
 
 -- where none waits, what is told changes nothing
-unheld-settled : (now : Option Told) (w : Watching) → w.waits ≡ None → settled true now w ≡ w
+unheld-settled : (now : Option WatcherValue) (w : Watching) → w.waits ≡ None → settled true now w ≡ w
 unheld-settled now w none = rw none refl
 
-pub quiet-settled : (now : Option Told) (w : Watching) (b : Bool) → (b ≡ false → is_some w.waits ≡ false) → settled b now w ≡ settled true now w
+pub quiet-settled : (now : Option WatcherValue) (w : Watching) (b : Bool) → (b ≡ false → is_some w.waits ≡ false) → settled b now w ≡ settled true now w
 quiet-settled now w true quiet = refl
 quiet-settled now w false quiet = sym (unheld-settled now w (none w.waits (quiet refl)))
   where
@@ -121,7 +121,7 @@ module _ (setup : Setup) where
       let f : ℕ → Watching = λ k. watching setup (child_of p k) h in
       let g : ℕ → Watching = λ k. watching setup (child_of p k) (h ▹ e) in
       let past : n < n + 1 = omega arith in
-      let fresh : g (n + 1) ≡ new_cell = next-fresh setup p (n + 1) h e past (fresh-use setup p (n + 1) h past) in
+      let fresh : g (n + 1) ≡ new_hanging_get = next-fresh setup p (n + 1) h e past (fresh-use setup p (n + 1) h past) in
       let none : n ≡ 0 → former_of (f 0) ≡ [] = λ zero_uses. ap former_of (unused-fresh setup h legal.0 p) in
       record {
         layout = started.layout ∙ is.layout;

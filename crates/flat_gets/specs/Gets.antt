@@ -5,7 +5,7 @@ use Rattle.flat_base.specs.declared.ids.SessionNo.{SessionNo}
 use Rattle.flat_scene.specs.declared.calls.Watch.{Watch}
 use Rattle.flat_scene.specs.declared.journal.Entry.{Entry}
 use Rattle.flat_scene.specs.declared.journal.Event.{Event}
-use Rattle.flat_scene.specs.declared.journal.Told.{Told}
+use Rattle.flat_scene.specs.declared.journal.WatcherValue.{WatcherValue}
 use Rattle.flat_scene.specs.declared.setup.Setup.{Setup}
 use Rattle.flat_scene.specs.History.{◌▹◌, is_session}
 use Rattle.flat_watch.specs.Told.{Watching, news}
@@ -20,10 +20,10 @@ use Rattle.flat_rules.specs.Watch.{Watcher, layout_of, status_of, child_of, watc
 pub record HeldGet : Type 0 where
   pub watcher : Watcher
   pub get : Watch
-  pub last : Option Told
+  pub last : Option WatcherValue
 
 -- the get that a watcher holds, if it holds one
-abbrev pub held_with : Watcher → Option Told → Option Watch → List HeldGet
+abbrev pub held_with : Watcher → Option WatcherValue → Option Watch → List HeldGet
 held_with watcher last (Some get) = (record { watcher = watcher; get = get; last = last }) ∷ []
 held_with watcher last None = []
 
@@ -32,11 +32,11 @@ held_by watcher w = held_with watcher w.last w.waits
 
 -- ---- answers, where this is told now
 
-abbrev pub news_of : (Watcher → Option Told) → HeldGet → Option Told
+abbrev pub news_of : (Watcher → Option WatcherValue) → HeldGet → Option WatcherValue
 news_of now one = news (now one.watcher) one.last
 
 -- the answers to held gets, as events
-abbrev pub answers_to : (Watcher → Option Told) → List HeldGet → List Event
+abbrev pub answers_to : (Watcher → Option WatcherValue) → List HeldGet → List Event
 answers_to now = flat_map (λ one. event_of (pair_watched one.watcher) (Some one.get) (news_of now one))
 
 -- ---- all that wait after a history

@@ -10,20 +10,20 @@ use Rattle.flat_scene.specs.declared.calls.ViewportProps.{ViewportProps}
 use Rattle.flat_scene.specs.declared.calls.Watch.{Watch}
 use Rattle.flat_scene.specs.declared.journal.Entry.{Entry}
 use Rattle.flat_scene.specs.declared.journal.Event.{Event}
-use Rattle.flat_scene.specs.declared.journal.Kind.TheVariants.{Viewport}
-use Rattle.flat_scene.specs.declared.journal.Post.{Post}
+use Rattle.flat_scene.specs.declared.journal.EntryKind.TheVariants.{Viewport}
+use Rattle.flat_scene.specs.declared.journal.PostedEvent.{PostedEvent}
 use Rattle.flat_scene.specs.declared.journal.Reply.{Reply}
 use Rattle.flat_scene.specs.declared.journal.Reply.TheVariants.{Closed, Held, Now}
 use Rattle.flat_base.specs.declared.errors.FlatlandError.TheVariants.{BadHangingGet}
-use Rattle.flat_watch.specs.declared.cell.GetAnswer.{GetAnswer}
-use Rattle.flat_watch.specs.declared.cell.GetAnswer.TheVariants as answers_at_once
-use Rattle.flat_scene.specs.declared.journal.Told.{Told}
+use Rattle.flat_watch.specs.declared.hanging_get.GetAnswer.{GetAnswer}
+use Rattle.flat_watch.specs.declared.hanging_get.GetAnswer.TheVariants as answers_at_once
+use Rattle.flat_scene.specs.declared.journal.WatcherValue.{WatcherValue}
 use Rattle.flat_scene.specs.declared.setup.Setup.{Setup}
 use Rattle.flat_scene.specs.History.{◌▹◌, is_closed}
 use Rattle.flat_scene.specs.Setups.{is_declared}
 use Rattle.flat_gets.specs.declared.pair.PairWatchers.{PairWatchers}
-use Rattle.flat_gets.specs.declared.pair.Part.{Part}
-use Rattle.flat_gets.specs.declared.pair.Part.TheVariants as parts
+use Rattle.flat_gets.specs.declared.pair.WatchedPart.{WatchedPart}
+use Rattle.flat_gets.specs.declared.pair.WatchedPart.TheVariants as parts
 use Rattle.flat_gets.specs.declared.watching.Watchers.{Watchers}
 use Rattle.flat_states.specs.declared.state.SessionState.{SessionState}
 use Rattle.flat_facts.specs.Begins.{post_of}
@@ -38,7 +38,7 @@ use Rattle.flat_watch.specs.Told.{answer, news, settled}
 use Rattle.flat_gets.specs.Dues.{due_told}
 use Rattle.flat_gets.specs.Gets.{gets_made}
 use Rattle.flat_gets.specs.Listed.{AreListed, KeptGets, is_listed, view_waits, viewport_waits, waits_at, with_pair}
-use Rattle.flat_gets.specs.Pairs.{AreAt, IsGot, IsTold, cell_at, is_child, part_events, part_of, still_waiting}
+use Rattle.flat_gets.specs.Pairs.{AreAt, IsGot, IsTold, hanging_get_at, is_child, part_events, part_of, still_waiting}
 use Rattle.flat_gets.specs.Pairs.{watcher_at}
 
 -- ---- a get
@@ -47,7 +47,7 @@ use Rattle.flat_gets.specs.Pairs.{watcher_at}
 abbrev pub watcher_meant : List Entry → Watch → PairNo → Watcher
 watcher_meant history get p = watcher_at (part_of get) p (length (viewport_uses p history))
 
--- the reply to a get by the answer of its cell
+-- the reply to a get by the answer of its hanging get
 abbrev pub replied : GetAnswer → Reply
 replied (answers_at_once.Now value) = Now value
 replied answers_at_once.Held = Held
@@ -70,8 +70,8 @@ pub record IsAsked (setup : Setup) (history : List Entry) (s : SessionNo) (p : P
   pub of_from : from ≡ slice_index_or old.sessions.items (s.0 - 1) from
   pub sessions_are : new.sessions.items ≡ slice_set old.sessions.items (s.0 - 1) to
   pub gets : IsGot (part_of get) get (told setup history (watcher_at (part_of get) p 0)) was then
-  pub replied : reply ≡ got (is_some (cell_at (part_of get) was).waits)
-      (news (told setup history (watcher_at (part_of get) p 0)) (cell_at (part_of get) was).last)
+  pub replied : reply ≡ got (is_some (hanging_get_at (part_of get) was).waits)
+      (news (told setup history (watcher_at (part_of get) p 0)) (hanging_get_at (part_of get) was).last)
   pub counted : to.answers ≡ from.answers + number_if (is_now reply)
   pub views : to.views ≡ cond (is_held reply && not (is_child (part_of get))) (with_pair p from.views) from.views
   pub viewports : to.viewports ≡ cond (is_held reply && is_child (part_of get)) (with_pair p from.viewports)
@@ -80,12 +80,14 @@ pub record IsAsked (setup : Setup) (history : List Entry) (s : SessionNo) (p : P
 -- ---- gets are answered
 
 -- what the listed pairs answer of a part, where this is told of each now
-abbrev pub part_answers : Part → (PairNo → Option Told) → List PairWatchers → PairWatchers → List PairNo → List Event
+abbrev pub part_answers : WatchedPart → (PairNo → Option WatcherValue) → List PairWatchers → PairWatchers → List PairNo
+    → List Event
 part_answers part now pairs d = flat_map (λ p. part_events part p (now p) (slice_index_or pairs p.0 d))
 
 -- The listed pairs answer a part, by an entry of that place.
-pub record TellsEach (part : Part) (now : PairNo → Option Told) (place : ℕ) (s : SessionNo) (listed : List PairNo)
-    (old new : List PairWatchers) (posts after : List Post) (count : ℕ) : Type 0 where
+pub record TellsEach (part : WatchedPart) (now : PairNo → Option WatcherValue) (place : ℕ) (s : SessionNo)
+    (listed : List PairNo)
+    (old new : List PairWatchers) (posts after : List PostedEvent) (count : ℕ) : Type 0 where
   pub length_is : length new ≡ length old
   pub told : (p : PairNo) (d : PairWatchers) → p.0 < length old → is_listed p.0 listed ≡ true
       → IsTold part (now p) (slice_index_or old p.0 d) (slice_index_or new p.0 d)
@@ -95,7 +97,8 @@ pub record TellsEach (part : Part) (now : PairNo → Option Told) (place : ℕ) 
   pub counted : (d : PairWatchers) → count ≡ length (part_answers part now old d listed)
 
 -- What is kept of a pair after all answers to a session, of which these pairs were listed.
-pub record IsToldAll (now : Watcher → Option Told) (from : KeptGets) (p : PairNo) (old new : PairWatchers) : Type 0
+pub record IsToldAll (now : Watcher → Option WatcherValue) (from : KeptGets) (p : PairNo) (old new : PairWatchers)
+    : Type 0
   where
     pub layout : new.layout ≡ settled (is_listed p.0 from.views) (now (watcher_at parts.Layout p 0)) old.layout
     pub status : new.status ≡ settled (is_listed p.0 from.views) (now (watcher_at parts.Status p 0)) old.status
@@ -104,15 +107,15 @@ pub record IsToldAll (now : Watcher → Option Told) (from : KeptGets) (p : Pair
         (still_waiting (now (watcher_at parts.Child p 0)) old.former.items) old.former.items
 
 -- all answers to a session, in order: layouts, statuses, children
-abbrev pub all_answers : (Watcher → Option Told) → KeptGets → List PairWatchers → PairWatchers → List Event
+abbrev pub all_answers : (Watcher → Option WatcherValue) → KeptGets → List PairWatchers → PairWatchers → List Event
 all_answers now from pairs d =
     part_answers parts.Layout (λ p. now (watcher_at parts.Layout p 0)) pairs d from.views
     ++ part_answers parts.Status (λ p. now (watcher_at parts.Status p 0)) pairs d from.views
     ++ part_answers parts.Child (λ p. now (watcher_at parts.Child p 0)) pairs d from.viewports
 
 -- The gets of a session that wait are answered where there is news, and others aren't.
-pub record IsSettled (now : Watcher → Option Told) (place : ℕ) (s : SessionNo) (old new : Watchers)
-    (posts after : List Post) (count : ℕ) : Type 0 where
+pub record IsSettled (now : Watcher → Option WatcherValue) (place : ℕ) (s : SessionNo) (old new : Watchers)
+    (posts after : List PostedEvent) (count : ℕ) : Type 0 where
   pub from : KeptGets
   pub to : KeptGets
   pub of_from : from ≡ slice_index_or old.sessions.items (s.0 - 1) from
@@ -127,15 +130,15 @@ pub record IsSettled (now : Watcher → Option Told) (place : ℕ) (s : SessionN
   pub viewports : to.viewports ≡ filter (waits_at viewport_waits new.pairs.items) from.viewports
 
 -- What is kept of a pair after the answers to gets of its view.
-pub record IsViewTold (now : Watcher → Option Told) (p : PairNo) (old new : PairWatchers) : Type 0 where
+pub record IsViewTold (now : Watcher → Option WatcherValue) (p : PairNo) (old new : PairWatchers) : Type 0 where
   pub layout : new.layout ≡ settled true (now (layout_of p)) old.layout
   pub status : new.status ≡ settled true (now (status_of p)) old.status
   pub child : new.child ≡ old.child
   pub former : new.former.items ≡ old.former.items
 
 -- The gets of a pair's view that wait are answered where there is news, to a session.
-pub record TellsView (now : Watcher → Option Told) (place : ℕ) (s : SessionNo) (p : PairNo) (old new : Watchers)
-    (posts after : List Post) (count : ℕ) : Type 0 where
+pub record TellsView (now : Watcher → Option WatcherValue) (place : ℕ) (s : SessionNo) (p : PairNo) (old new : Watchers)
+    (posts after : List PostedEvent) (count : ℕ) : Type 0 where
   pub was : PairWatchers
   pub then : PairWatchers
   pub from : KeptGets

@@ -1,42 +1,42 @@
 //! The watchers of a pair.
 //!
 //! A get names the last use of a viewport end alone, since the viewport before it was
-//! released then. So a pair has one cell for a child, and of the children of earlier uses
+//! released then. So a pair has one hanging get for a child, and of the children of earlier uses
 //! only the gets that still wait.
 ghost use Rattle.std.specs.Prelude.{◌≡◌, ℕ, ◌+◌, ◌<◌, ◌≤◌, ◌^◌, ◌++◌, ◌&&◌, [], ◌∷◌, false, not, length, map};
 ghost use Rattle.std.specs.Prelude.{is_some, vec_capacity, OnOk};
 ghost use Rattle.flat_facts.specs.Begins.{post_of};
 ghost use Rattle.flat_rules.specs.Legal.{number_if};
-ghost use Rattle.flat_watch.specs.Cells.{got};
+ghost use Rattle.flat_watch.specs.HangingGets.{got};
 ghost use Rattle.flat_watch.specs.Told.{news};
-ghost use Rattle.flat_gets.specs.Pairs.{IsGot, IsSameBut, IsStarted, IsTold, IsUnasked, cell_at};
+ghost use Rattle.flat_gets.specs.Pairs.{IsGot, IsSameBut, IsStarted, IsTold, IsUnasked, hanging_get_at};
 ghost use Rattle.flat_gets.specs.Pairs.{events_of, former_events, part_events, part_of};
 ghost use Rattle.flat_gets.specs.Pairs.{is_child, still_waiting, waiting_in};
 
 use flat_base::{NoMemory, PairNo, SessionNo};
-use flat_scene::{Event, Post, Told, Watch};
-use flat_states::log::Log;
-use flat_watch::{Answer, Cell, GetAnswer, news};
+use flat_scene::{Event, PostedEvent, Watch, WatcherValue};
+use flat_states::roomy_journal::RoomyJournal;
+use flat_watch::{GetAnswer, HangingGet, HeldAnswer, news};
 use std::alloc::Global;
 
 /// What of a pair is watched: the layout or the status of its view, or the child of its
 /// viewport.
 #[derive(Clone, Copy, PartialEq, Eq)]
-pub enum Part {
+pub enum WatchedPart {
     Layout,
     Status,
     Child,
 }
 
-impl Part {
+impl WatchedPart {
     /// What a get watches.
-    pub fn of(get: Watch) -> Part
+    pub fn of(get: Watch) -> WatchedPart
         ensures { result ≡ part_of get }
     {
         match get {
-            Watch::Layout => Part::Layout,
-            Watch::Status => Part::Status,
-            Watch::Child(_) => Part::Child,
+            Watch::Layout => WatchedPart::Layout,
+            Watch::Status => WatchedPart::Status,
+            Watch::Child(_) => WatchedPart::Child,
         }
     }
 }
@@ -46,23 +46,23 @@ impl Part {
 pub struct FormerGet {
     pub get: Watch,
     /// What its watcher answered last.
-    pub last: Option<Told>,
+    pub last: Option<WatcherValue>,
 }
 
 /// What is kept of the watchers of a pair.
 #[derive(Drop)]
 pub struct PairWatchers {
     /// Of the layout and the status of its view.
-    pub layout: Cell,
-    pub status: Cell,
+    pub layout: HangingGet,
+    pub status: HangingGet,
     /// Of the child of the last use of its viewport end.
-    pub child: Cell,
+    pub child: HangingGet,
     /// The gets of children of earlier uses that wait, by rising uses.
     pub former: Vec<FormerGet>,
 }
 
 /// Posts the answer to a held get, if there is one. Answers how many events that is.
-fn post_answer(answer: Option<Answer>, p: PairNo, s: SessionNo, log: &mut Log) -> usize
+fn post_answer(answer: Option<HeldAnswer>, p: PairNo, s: SessionNo, log: &mut RoomyJournal) -> usize
     requires place { length log.old.history < 2 ^ 32 }
     requires room { number_if (is_some answer) ≤ log.old.post_room }
     ensures posts { log.new.posts ≡ log.old.posts ++ map (post_of (length log.old.history) s)
@@ -75,7 +75,7 @@ fn post_answer(answer: Option<Answer>, p: PairNo, s: SessionNo, log: &mut Log) -
     match answer {
         None => 0,
         Some(given) => {
-            log.post(Post {
+            log.post(PostedEvent {
                 entry: log.len(),
                 session: s,
                 event: Event::Told(p, given.get, given.value),
@@ -86,13 +86,13 @@ fn post_answer(answer: Option<Answer>, p: PairNo, s: SessionNo, log: &mut Log) -
 }
 
 /// The answer to a former get, where this is told now.
-fn former_answer(former: &FormerGet, now: Option<Told>) -> Option<Answer>
+fn former_answer(former: &FormerGet, now: Option<WatcherValue>) -> Option<HeldAnswer>
     ensures posts { (p : PairNo) → events_of p result ≡ former_events p now (former.now ∷ []) }
     ensures some { is_some result ≡ is_some (news now former.now.last) }
 {
     match news(now, former.last) {
         None => None,
-        Some(value) => Some(Answer {
+        Some(value) => Some(HeldAnswer {
             get: former.get,
             value,
         }),
@@ -105,8 +105,8 @@ fn post_former(
     former: &[FormerGet],
     p: PairNo,
     s: SessionNo,
-    now: Option<Told>,
-    log: &mut Log,
+    now: Option<WatcherValue>,
+    log: &mut RoomyJournal,
 ) -> usize
     requires place { length log.old.history < 2 ^ 32 }
     requires room { length former.now ≤ log.old.post_room }
@@ -131,9 +131,9 @@ impl PairWatchers {
         ensures { IsUnasked result }
     {
         PairWatchers {
-            layout: Cell::new(),
-            status: Cell::new(),
-            child: Cell::new(),
+            layout: HangingGet::new(),
+            status: HangingGet::new(),
+            child: HangingGet::new(),
             former: Vec::new(alloc),
         }
     }
@@ -148,30 +148,30 @@ impl PairWatchers {
     }
 
     /// What is kept of a part's watcher.
-    fn cell(&self, part: Part) -> Cell
-        ensures { result ≡ cell_at part self.now }
+    fn hanging_get(&self, part: WatchedPart) -> HangingGet
+        ensures { result ≡ hanging_get_at part self.now }
     {
         match part {
-            Part::Layout => self.layout,
-            Part::Status => self.status,
-            Part::Child => self.child,
+            WatchedPart::Layout => self.layout,
+            WatchedPart::Status => self.status,
+            WatchedPart::Child => self.child,
         }
     }
 
     /// Whether a get of a part would wait, where this is told now.
-    pub fn would_wait(&self, part: Part, now: Option<Told>) -> bool
-        ensures { result ≡ (not (is_some (cell_at part self.now).waits)
-            && not (is_some (news now (cell_at part self.now).last))) }
+    pub fn would_wait(&self, part: WatchedPart, now: Option<WatcherValue>) -> bool
+        ensures { result ≡ (not (is_some (hanging_get_at part self.now).waits)
+            && not (is_some (news now (hanging_get_at part self.now).last))) }
     {
-        let cell = self.cell(part);
-        cell.waits().is_none() && news(now, cell.last()).is_none()
+        let hanging_get = self.hanging_get(part);
+        hanging_get.waits().is_none() && news(now, hanging_get.last()).is_none()
     }
 
     /// A get, where this is told now of what it watches. It takes no memory.
-    pub fn get(&mut self, get: Watch, now: Option<Told>) -> GetAnswer
+    pub fn get(&mut self, get: Watch, now: Option<WatcherValue>) -> GetAnswer
         ensures gets { IsGot (part_of get) get now self.old self.new }
-        ensures answer { result ≡ got (is_some (cell_at (part_of get) self.old).waits)
-            (news now (cell_at (part_of get) self.old).last) }
+        ensures answer { result ≡ got (is_some (hanging_get_at (part_of get) self.old).waits)
+            (news now (hanging_get_at (part_of get) self.old).last) }
     {
         match get {
             Watch::Layout => self.layout.get(get, now),
@@ -184,11 +184,11 @@ impl PairWatchers {
     /// Answers how many. It takes no memory.
     pub fn tell(
         &mut self,
-        part: Part,
+        part: WatchedPart,
         p: PairNo,
         s: SessionNo,
-        now: Option<Told>,
-        log: &mut Log,
+        now: Option<WatcherValue>,
+        log: &mut RoomyJournal,
     ) -> usize
         requires place { length log.old.history < 2 ^ 32 }
         requires room { waiting_in self.old ≤ log.old.post_room }
@@ -204,9 +204,9 @@ impl PairWatchers {
         ensures post_room { log.new.post_room + result ≡ log.old.post_room }
     {
         match part {
-            Part::Layout => post_answer(self.layout.tell(now), p, s, log),
-            Part::Status => post_answer(self.status.tell(now), p, s, log),
-            Part::Child => {
+            WatchedPart::Layout => post_answer(self.layout.tell(now), p, s, log),
+            WatchedPart::Status => post_answer(self.status.tell(now), p, s, log),
+            WatchedPart::Child => {
                 let earlier = post_former(self.former.as_slice(), p, s, now, log);
                 self.former.retain(|one| news(now, one.last).is_none());
                 earlier + post_answer(self.child.tell(now), p, s, log)
@@ -224,6 +224,6 @@ impl PairWatchers {
             let last = self.child.last();
             self.former.push_reserved(FormerGet { get, last });
         }
-        self.child = Cell::new();
+        self.child = HangingGet::new();
     }
 }

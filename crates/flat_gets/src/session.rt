@@ -7,7 +7,7 @@ ghost use Rattle.flat_gets.specs.Listed.{rises_from, view_waits, viewport_waits}
 ghost use Rattle.flat_gets.specs.Listed.{waits_at, with_pair};
 ghost use Rattle.flat_gets.specs.Pairs.{is_child};
 
-use crate::pair::{PairWatchers, Part};
+use crate::pair::{PairWatchers, WatchedPart};
 use flat_base::{NoMemory, PairNo};
 use std::alloc::Global;
 use std::marker::Model;
@@ -137,7 +137,7 @@ impl SessionGets {
     }
 
     /// A get of a part of a pair is to wait, or not.
-    pub fn list(&mut self, waits: bool, part: Part, p: PairNo) -> Result<(), NoMemory>
+    pub fn list(&mut self, waits: bool, part: WatchedPart, p: PairNo) -> Result<(), NoMemory>
         ensures answers { self.new.answers ≡ self.old.answers }
         ensures views { OnOk result (self.new.views ≡ cond (waits && not (is_child part))
             (with_pair p self.old.views) self.old.views) }
@@ -149,7 +149,7 @@ impl SessionGets {
             return Ok(());
         }
         match part {
-            Part::Child => list_pair(&mut self.viewports, p),
+            WatchedPart::Child => list_pair(&mut self.viewports, p),
             _ => list_pair(&mut self.views, p),
         }
     }

@@ -13,12 +13,12 @@ ghost use Rattle.flat_gets.specs.Pairs.{IsUnasked, watcher_at, waiting_in};
 ghost use Rattle.flat_gets.specs.Watchers.{AreWatched, HasRoomAt, IsAsked, IsJoin, IsSettled, TellsEach, TellsView};
 ghost use Rattle.flat_gets.specs.Watchers.{WatchedUpTo, is_held, replied, told_and_due};
 
-use crate::pair::{PairWatchers, Part};
+use crate::pair::{PairWatchers, WatchedPart};
 use crate::session::SessionGets;
-use crate::telling::{Tells, told_of};
+use crate::watcher_values::{WatcherValues, told_of};
 use flat_base::{FlatlandError, NoMemory, PairNo, SessionNo};
 use flat_scene::{Reply, Setup, Watch};
-use flat_states::log::Log;
+use flat_states::roomy_journal::RoomyJournal;
 use flat_watch::GetAnswer;
 use std::alloc::Global;
 
@@ -76,13 +76,13 @@ fn count_now(reply: Reply) -> u32
 
 /// The gets of a part of each of these pairs are answered where there is news. Answers
 /// how many.
-fn tell_each<T: Tells>(
+fn tell_each<T: WatcherValues>(
     pairs: &mut Vec<PairWatchers>,
     listed: &[PairNo],
-    part: Part,
+    part: WatchedPart,
     s: SessionNo,
     tells: &T,
-    log: &mut Log,
+    log: &mut RoomyJournal,
 ) -> usize
     requires rising { rises_from 0 listed.now ≡ true }
     requires known { All (λ p. p.0 < length pairs.old.items) listed.now }
@@ -130,13 +130,13 @@ impl Watchers {
     }
 
     /// A session asks for a value of a pair. The room is made for so many posts.
-    pub fn ask<T: Tells>(
+    pub fn ask<T: WatcherValues>(
         &mut self,
         s: SessionNo,
         p: PairNo,
         get: Watch,
         tells: &T,
-        log: &mut Log,
+        log: &mut RoomyJournal,
         posts: usize,
     ) -> Result<Reply, NoMemory>
         requires some { 0 < s.0 }
@@ -158,7 +158,7 @@ impl Watchers {
         ensures post_room { log.old.post_room ≤ log.new.post_room }
     {
         log.reserve(posts)?;
-        let part = Part::of(get);
+        let part = WatchedPart::of(get);
         let now = told_of(tells, part, p);
         let pair = &mut self.pairs[p.0 as usize];
         let session = &mut self.sessions[s.0 as usize - 1];
@@ -183,12 +183,12 @@ impl Watchers {
 
     /// The gets of a pair's view that wait are answered where there is news, which its
     /// owner hears. Answers how many. It takes no memory.
-    fn tell_view<T: Tells>(
+    fn tell_view<T: WatcherValues>(
         &mut self,
         owner: SessionNo,
         p: PairNo,
         tells: &T,
-        log: &mut Log,
+        log: &mut RoomyJournal,
     ) -> usize
         requires some { 0 < owner.0 }
         requires within { owner.0 ≤ length self.old.sessions.items }
@@ -211,8 +211,8 @@ impl Watchers {
         let layout = tells.layout(p);
         let status = tells.status(p);
         let pair = &mut self.pairs[p.0 as usize];
-        let first = pair.tell(Part::Layout, p, owner, layout, log);
-        let second = pair.tell(Part::Status, p, owner, status, log);
+        let first = pair.tell(WatchedPart::Layout, p, owner, layout, log);
+        let second = pair.tell(WatchedPart::Status, p, owner, status, log);
         let session = &mut self.sessions[owner.0 as usize - 1];
         session.count((first + second) as u32);
         first + second
@@ -221,14 +221,14 @@ impl Watchers {
     /// A viewport end is used anew, if its token was held: the gets of the pair's view are
     /// answered for which there is news, unless its owner is closed. Answers how many. It
     /// takes no memory.
-    pub fn join<T: Tells>(
+    pub fn join<T: WatcherValues>(
         &mut self,
         is_held: bool,
         owner: SessionNo,
         closed: bool,
         p: PairNo,
         tells: &T,
-        log: &mut Log,
+        log: &mut RoomyJournal,
     ) -> usize
         requires some { closed ≡ false → 0 < owner.0 }
         requires within { closed ≡ false → owner.0 ≤ length self.old.sessions.items }
@@ -263,12 +263,12 @@ impl Watchers {
     /// Answers the gets of a session that wait and for which there is news, unless it is
     /// passed over. It looks at the pairs that are listed alone. Answers how many. It
     /// takes no memory.
-    pub fn settle<T: Tells>(
+    pub fn settle<T: WatcherValues>(
         &mut self,
         s: SessionNo,
         is_passed: bool,
         tells: &T,
-        log: &mut Log,
+        log: &mut RoomyJournal,
     ) -> usize
         requires watched { (setup : Setup) × ((n : ℕ) × ((after : List Entry)
             × ((before : List Entry) × WatchedUpTo setup n after before self.old))) }
@@ -294,9 +294,16 @@ impl Watchers {
         let place = s.0 as usize - 1;
         let session = &mut self.sessions[place];
         let pairs = &mut self.pairs;
-        let layouts = tell_each(pairs, session.views(), Part::Layout, s, tells, log);
-        let statuses = tell_each(pairs, session.views(), Part::Status, s, tells, log);
-        let children = tell_each(pairs, session.viewports(), Part::Child, s, tells, log);
+        let layouts = tell_each(pairs, session.views(), WatchedPart::Layout, s, tells, log);
+        let statuses = tell_each(pairs, session.views(), WatchedPart::Status, s, tells, log);
+        let children = tell_each(
+            pairs,
+            session.viewports(),
+            WatchedPart::Child,
+            s,
+            tells,
+            log,
+        );
         let count = layouts + statuses + children;
         session.count(count as u32);
         session.forget(pairs.as_slice());

@@ -7,7 +7,7 @@ use Rattle.std.specs.List.{Contains, cons_option}
 use Rattle.std.proofs.lemmas.List.{map-append, get_or-set_same, get_or-set_other}
 use Rattle.std.proofs.lemmas.Bool.Decides.{eqb_tells, nat_tests}
 use Rattle.flat_base.specs.declared.ids.TransformId.{TransformId}
-use Rattle.flat_scene.specs.declared.trees.Held.{Held}
+use Rattle.flat_scene.specs.declared.trees.HeldContent.{HeldContent}
 use Rattle.flat_scene.specs.Draft.{Draft, Transform, of_serial, changed_at}
 use Rattle.flat_scene.specs.Effect as effect
 use Rattle.flat_scene.specs.Effect.{with_transform, changed_if, is_serial, serials_of}
@@ -25,7 +25,7 @@ use Rattle.flat_graph.proofs.Soundness.{KeyCases, sound-changed, node-changed, i
 pub record Changes (graph : GraphState) (draft : Draft) (old new : GraphNode) (f : Transform → Transform) : Type 0 where
   pub serial : new.serial ≡ old.serial
   pub children : (child : ℕ) → Contains new.children child → IsKept graph.nodes child
-  pub contents : (held : Held) → new.content ≡ Some held → IsHeld draft.contents held
+  pub contents : (held : HeldContent) → new.content ≡ Some held → IsHeld draft.contents held
   pub same : f (as_transform graph old) ≡ as_transform graph new
 
 serial-set : (graph : GraphState) (key : ℕ) (old new : GraphNode) → node_at graph key ≡ Some old → new.serial ≡ old.serial → (k : ℕ)
@@ -81,7 +81,7 @@ stands-set graph draft key old new f s there changes = record {
     by_two k k' node node' (inr was) (inl is) e = s.apart k key node old was.1 there (e ∙ ap (λ (n : GraphNode). n.serial) is.1 ∙ changes.serial) ∙ sym is.0
     by_two k k' node node' (inr was) (inr was') e = s.apart k k' node node' was.1 was'.1 e
 
-    by_held : (k : ℕ) (node : GraphNode) (held : Held) → IsNow k node → node.content ≡ Some held → IsHeld draft.contents held
+    by_held : (k : ℕ) (node : GraphNode) (held : HeldContent) → IsNow k node → node.content ≡ Some held → IsHeld draft.contents held
     by_held k node held (inl is) e = changes.contents held (ap (λ (n : GraphNode). n.content) (sym is.1) ∙ e)
     by_held k node held (inr was) e = s.contents k node held was.1 e
 

@@ -7,11 +7,11 @@ use Rattle.std.proofs.lemmas.Bool.Decides.{nat_tests}
 use Rattle.flat_base.specs.declared.ids.TransformId.{TransformId}
 use Rattle.flat_base.specs.declared.ids.ContentId.{ContentId}
 use Rattle.flat_scene.specs.declared.calls.Call.TheVariants.{CreateTransform, ReleaseTransform, SetRootTransform, ReleaseViewport, Clear}
-use Rattle.flat_scene.specs.declared.trees.Held.{Held}
+use Rattle.flat_scene.specs.declared.trees.HeldContent.{HeldContent}
 use Rattle.flat_scene.specs.Draft.{Draft, Transform, Name, named, of_serial, new_transform, without_name, content_of, empty_draft}
 use Rattle.flat_scene.specs.Effect as effect
 use Rattle.flat_scene.specs.Effect.{effect, is_serial}
-use Rattle.flat_graph.specs.declared.names.Named.{Named}
+use Rattle.flat_graph.specs.declared.names.NamedNode.{NamedNode}
 use Rattle.flat_graph.specs.declared.nodes.GraphNode.{GraphNode}
 use Rattle.flat_graph.specs.Names.{key_named, names_but, IsRising}
 use Rattle.flat_graph.specs.State.{GraphState, IsSound, IsKept, IsMarked, MayKeep, Creates, node_at, new_node, without_content, held_but, released, with_root}
@@ -142,7 +142,7 @@ module _ (graph : GraphState) (draft : Draft) (s : StandsFor graph draft) where
       by_node (Some node) = refl
 
   -- what a transform holds but for the content
-  held-same : (serial : ℕ) (x : Option Held) → effect.held_but (Some serial) (option_map serial_of x) ≡ option_map serial_of (held_but serial x)
+  held-same : (serial : ℕ) (x : Option HeldContent) → effect.held_but (Some serial) (option_map serial_of x) ≡ option_map serial_of (held_but serial x)
   held-same serial None = refl
   held-same serial (Some held) = by_test (held.serial == serial)
     where
@@ -150,7 +150,7 @@ module _ (graph : GraphState) (draft : Draft) (s : StandsFor graph draft) where
       by_test true = refl
       by_test false = refl
 
-  still-held : (serial : ℕ) (x : Option Held) (held : Held) → held_but serial x ≡ Some held → x ≡ Some held
+  still-held : (serial : ℕ) (x : Option HeldContent) (held : HeldContent) → held_but serial x ≡ Some held → x ≡ Some held
   still-held serial None held e = absurd (cc)
   still-held serial (Some other) held e = by_test (other.serial == serial) e
     where
@@ -199,7 +199,7 @@ module _ (graph : GraphState) (draft : Draft) (s : StandsFor graph draft) where
       by_two k k' node node' (old, there, is) (old', there', is') same =
           s.apart k k' old old' there there' (ap (λ (n : GraphNode). n.serial) (sym is) ∙ same ∙ ap (λ (n : GraphNode). n.serial) is')
 
-      by_held : (k : ℕ) (node : GraphNode) (held : Held) → Was k node → node.content ≡ Some held → IsHeld draft.contents held
+      by_held : (k : ℕ) (node : GraphNode) (held : HeldContent) → Was k node → node.content ≡ Some held → IsHeld draft.contents held
       by_held k node held (old, there, is) e = s.contents k old held there (still-held serial old.content held (ap (λ (n : GraphNode). n.content) (sym is) ∙ e))
 
   pub stands-dropped : (c : ContentId) (serial : ℕ) → content_of draft c ≡ Some serial
@@ -246,7 +246,7 @@ module _ (graph : GraphState) (draft : Draft) (s : StandsFor graph draft) where
       contents = λ k node held e h. by_held k node held (is k node e) h;
     }
       where
-        name : Named
+        name : NamedNode
         name = record { id = t.0; key = made.key }
 
         new_name : Name
@@ -260,14 +260,14 @@ module _ (graph : GraphState) (draft : Draft) (s : StandsFor graph draft) where
 
         sound : IsSound new
         sound = record {
-          names_kept = λ id key e. sound'.names_kept id key (ap (λ (ns : List Named). key_named ns id) (sym made.names) ∙ e);
+          names_kept = λ id key e. sound'.names_kept id key (ap (λ (ns : List NamedNode). key_named ns id) (sym made.names) ∙ e);
           root_kept = λ key e. sound'.root_kept key (sym made.root ∙ e);
           children_kept = sound'.children_kept;
-          rising = subst (λ (ns : List Named). IsRising ns) (sym made.names) sound'.rising;
-          no_zero = ap (λ (ns : List Named). key_named ns 0) made.names ∙ sound'.no_zero;
+          rising = subst (λ (ns : List NamedNode). IsRising ns) (sym made.names) sound'.rising;
+          no_zero = ap (λ (ns : List NamedNode). key_named ns 0) made.names ∙ sound'.no_zero;
           apart = λ id other key e e'.
-              sound'.apart id other key (ap (λ (ns : List Named). key_named ns id) (sym made.names) ∙ e)
-              (ap (λ (ns : List Named). key_named ns other) (sym made.names) ∙ e');
+              sound'.apart id other key (ap (λ (ns : List NamedNode). key_named ns id) (sym made.names) ∙ e)
+              (ap (λ (ns : List NamedNode). key_named ns other) (sym made.names) ∙ e');
         }
 
         by_same : (id : ℕ) (b : Bool) → option_map (serial_at new) (cond b (Some made.key) (key_named graph.names id))
@@ -278,7 +278,7 @@ module _ (graph : GraphState) (draft : Draft) (s : StandsFor graph draft) where
 
         names : (id : ℕ) → option_map (serial_at new) (key_named new.names id) ≡ named (draft.transform_names ++ new_name ∷ []) id
         names id =
-            ap (λ (ns : List Named). option_map (serial_at new) (key_named ns id)) made.names
+            ap (λ (ns : List NamedNode). option_map (serial_at new) (key_named ns id)) made.names
             ∙ ap (option_map (serial_at new)) (keys.named-with name graph.names id absent)
             ∙ by_same id (t.0 == id) ∙ sym (named-append draft.transform_names new_name id unnamed)
 
@@ -309,6 +309,7 @@ module _ (graph : GraphState) (draft : Draft) (s : StandsFor graph draft) where
         two k k' node node' (inl was) (inr now) same = absurd (high k node' node now.1 was (sym same))
         two k k' node node' (inl was) (inl was') same = s.apart k k' node node' was was' same
 
-        by_held : (k : ℕ) (node : GraphNode) (held : Held) → IsNow k node → node.content ≡ Some held → IsHeld draft.contents held
+        by_held : (k : ℕ) (node : GraphNode) (held : HeldContent) → IsNow k node → node.content ≡ Some held → IsHeld draft.contents held
         by_held k node held (inl was) h = s.contents k node held was h
-        by_held k node held (inr now) h = let no : ◌≡◌ {A = Option Held} None (Some held) = sym (ap (λ (n : GraphNode). n.content) now.1) ∙ h in absurd (cc)
+        by_held k node held (inr now) h = let no : ◌≡◌ {A = Option HeldContent} None (Some held) = sym (ap (λ (n : GraphNode). n.content) now.1) ∙ h in absurd
+            (cc)

@@ -14,7 +14,7 @@ use Rattle.flat_scene.specs.declared.calls.Call.TheVariants.{ReleaseViewport, Cl
 use Rattle.flat_scene.specs.declared.calls.HitRegion.{HitRegion}
 use Rattle.flat_scene.specs.declared.calls.Interaction.{Interaction}
 use Rattle.flat_scene.specs.declared.setup.Setup.{Setup}
-use Rattle.flat_scene.specs.declared.trees.Held.{Held}
+use Rattle.flat_scene.specs.declared.trees.HeldContent.{HeldContent}
 use Rattle.flat_scene.specs.Draft.{Draft, empty_draft, content_of}
 use Rattle.flat_scene.specs.Effect.{effect}
 use Rattle.flat_scene.specs.Misuse.{Test, misuse, first_reason, names_transform}
@@ -43,13 +43,13 @@ module _ (setup : Setup) (graph : GraphState) (draft : Draft) where
         → serial ≡ graph.made + 1 → Creates graph new t.0 serial → StandsFor new (effect draft (CreateTransform t))
 
   -- the content that a call gives is the one that its id names
-  pub record IsContent (c : ContentId) (held : Option Held) : Type 0 where
+  pub record IsContent (c : ContentId) (held : Option HeldContent) : Type 0 where
     pub serial : option_map serial_of held ≡ content_of draft c
-    pub made : (it : Held) → held ≡ Some it → IsHeld draft.contents it
+    pub made : (it : HeldContent) → held ≡ Some it → IsHeld draft.contents it
 
   -- giving a content has the draft's reasons but for the content's, and the graph after it stands for the draft after
   -- it
-  pub record IsGiving (t : TransformId) (c : ContentId) (held : Option Held) : Type 0 where
+  pub record IsGiving (t : TransformId) (c : ContentId) (held : Option HeldContent) : Type 0 where
     pub reason : first_reason (name_tests graph t.0) ≡ first_reason (names_transform draft t)
     pub stands : StandsFor (change_named graph t.0 (λ node. record node { content = held }))
         (effect draft (SetContent t c))
@@ -91,7 +91,8 @@ module _ (setup : Setup) (graph : GraphState) (draft : Draft) where
         → regions ≡ (record { area = None; interaction = i }) ∷ []
         → IsCall setup draft (SetInfiniteHitRegion t i) (hits_tests graph t.0 regions)
         (change_named graph t.0 (λ node. record node { hits = Some regions }))
-    pub set_content : (t : TransformId) (c : ContentId) (held : Option Held) → IsContent c held → IsGiving t c held
+    pub set_content : (t : TransformId) (c : ContentId) (held : Option HeldContent) → IsContent c held
+        → IsGiving t c held
     -- the viewport of a released name is taken from each transform
     pub drop_content : (c : ContentId) (serial : ℕ) → content_of draft c ≡ Some serial
         → StandsFor (without_held graph serial) (effect draft (ReleaseViewport c))

@@ -1,7 +1,7 @@
 -- How a graph stands for the transforms of a draft.
 use Rattle.std.specs.Prelude.{ℕ, ◌≡◌, List, [], ◌∷◌, map, length, IsSome, Option, Some, None}
 use Rattle.std.specs.Option.{option_map}
-use Rattle.flat_scene.specs.declared.trees.Held.{Held}
+use Rattle.flat_scene.specs.declared.trees.HeldContent.{HeldContent}
 use Rattle.flat_scene.specs.Draft.{Draft, Transform, Made, Name, named, of_serial}
 use Rattle.flat_scene.specs.Misuse.{is_viewport}
 use Rattle.flat_graph.specs.declared.nodes.GraphNode.{GraphNode}
@@ -17,7 +17,7 @@ node_serial (Some node) = node.serial
 abbrev pub serial_at : GraphState → ℕ → ℕ
 serial_at graph key = node_serial (node_at graph key)
 
-abbrev pub serial_of : Held → ℕ
+abbrev pub serial_of : HeldContent → ℕ
 serial_of held = held.serial
 
 -- a node as a transform of the draft: its children and its content are serials
@@ -39,7 +39,7 @@ IsOnce [] = Unit {0}
 IsOnce (name ∷ names) = (named names name.id ≡ None) × IsOnce names
 
 -- what is held was made, and the mark says whether it is a viewport
-pub record IsHeld (contents : List Made) (held : Held) : Type 0 where
+pub record IsHeld (contents : List Made) (held : HeldContent) : Type 0 where
   pub made : IsSome (of_serial contents held.serial)
   pub sort : held.viewport ≡ is_viewport (of_serial contents held.serial)
 
@@ -57,5 +57,6 @@ pub record StandsFor (graph : GraphState) (draft : Draft) : Type 0 where
   -- no two nodes are of one transform
   pub apart : (key other : ℕ) (node node' : GraphNode) → node_at graph key ≡ Some node
       → node_at graph other ≡ Some node' → node.serial ≡ node'.serial → key ≡ other
-  pub contents : (key : ℕ) (node : GraphNode) (held : Held) → node_at graph key ≡ Some node → node.content ≡ Some held
+  pub contents : (key : ℕ) (node : GraphNode) (held : HeldContent) → node_at graph key ≡ Some node
+      → node.content ≡ Some held
       → IsHeld draft.contents held

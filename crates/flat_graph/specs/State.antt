@@ -6,8 +6,8 @@ use Rattle.std.specs.Option.{option_map}
 use Rattle.std.specs.List.{Contains}
 use Rattle.flat_base.specs.declared.shapes.Orientation.TheVariants.{Ccw0}
 use Rattle.flat_base.specs.declared.limits.TheConstants.{ONE, OPACITY_MAX}
-use Rattle.flat_scene.specs.declared.trees.Held.{Held}
-use Rattle.flat_graph.specs.declared.names.Named.{Named}
+use Rattle.flat_scene.specs.declared.trees.HeldContent.{HeldContent}
+use Rattle.flat_graph.specs.declared.names.NamedNode.{NamedNode}
 use Rattle.flat_graph.specs.declared.nodes.GraphNode.{GraphNode}
 use Rattle.flat_graph.specs.Names.{key_named, names_but, names_with, IsRising}
 
@@ -15,7 +15,7 @@ use Rattle.flat_graph.specs.Names.{key_named, names_but, names_with, IsRising}
 -- ever made
 pub record GraphState : Type 0 where
   pub nodes : List (Option GraphNode)
-  pub names : List Named
+  pub names : List NamedNode
   pub root : Option ℕ
   pub made : ℕ
 
@@ -114,7 +114,7 @@ abbrev pub with_children : List ℕ → GraphNode → GraphNode
 with_children children node = record node { children = children }
 
 -- what a node holds, but for the content of a serial number
-abbrev pub held_but : ℕ → Option Held → Option Held
+abbrev pub held_but : ℕ → Option HeldContent → Option HeldContent
 held_but serial None = None
 held_but serial (Some held) = cond (held.serial == serial) None (Some held)
 

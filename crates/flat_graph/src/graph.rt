@@ -6,7 +6,7 @@ ghost use Rattle.flat_graph.specs.Names.{key_named, keys_named};
 ghost use Rattle.flat_graph.specs.State.{GraphState, IsGraph, IsKept, node_at};
 
 use crate::names::{
-    Named, add_name, has_twice, has_unknown, has_zero, key_of, keys_of, remove_name,
+    NamedNode, add_name, has_twice, has_unknown, has_zero, key_of, keys_of, remove_name,
 };
 use crate::nodes::{GraphNode, add_key, fresh, keep_marked, take_key};
 use flat_base::{CHILDREN_MAX, NAMED_MAX, Reason, TransformId};
@@ -26,7 +26,7 @@ use std::marker::Model;
 pub struct Graph {
     pub(crate) nodes: Slab<GraphNode>,
     // By rising id.
-    names: Vec<Named>,
+    names: Vec<NamedNode>,
     root: Option<usize>,
     made: u32,
 }
@@ -100,7 +100,7 @@ impl Graph {
     }
 
     /// All names, by rising id.
-    pub fn names(&self) -> &[Named]
+    pub fn names(&self) -> &[NamedNode]
         ensures { result.now ≡ self.now.names }
     {
         self.names.as_slice()
@@ -158,7 +158,7 @@ impl Graph {
             return Err(GraphFault::Memory);
         }
         let key = self.nodes.vacant_key();
-        if add_name(&mut self.names, Named { id: t.0, key }).is_err() {
+        if add_name(&mut self.names, NamedNode { id: t.0, key }).is_err() {
             return Err(GraphFault::Memory);
         }
         let serial = self.made + 1;

@@ -19,6 +19,6 @@ mod shapes;
 
 pub use graph::Graph;
 pub use laws::graph_laws;
-pub use names::{Named, add_name, key_of, put_name, remove_name};
+pub use names::{NamedNode, add_name, key_of, put_name, remove_name};
 pub use nodes::{GraphNode, KeyList};
 pub use shapes::is_bad_rect;

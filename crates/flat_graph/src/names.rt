@@ -11,13 +11,13 @@ use std::alloc::Global;
 
 /// An id, and the key of the node that it names.
 #[derive(Clone, Copy)]
-pub struct Named {
+pub struct NamedNode {
     pub id: u64,
     pub key: usize,
 }
 
 /// The place of an id among names by rising id: those before it have lower ids.
-fn place_of(names: &[Named], id: u64) -> usize
+fn place_of(names: &[NamedNode], id: u64) -> usize
     requires { IsRising names.now }
     ensures { IsPlace id names.now result }
 {
@@ -25,7 +25,7 @@ fn place_of(names: &[Named], id: u64) -> usize
 }
 
 /// The key of the name at a place, if it is the name of that id.
-fn key_at(names: &[Named], place: usize, id: u64) -> Option<usize>
+fn key_at(names: &[NamedNode], place: usize, id: u64) -> Option<usize>
     ensures { result ≡ key_if id (slice_get names.now place) }
 {
     let name = names.get(place)?;
@@ -33,7 +33,7 @@ fn key_at(names: &[Named], place: usize, id: u64) -> Option<usize>
 }
 
 /// The key that an id names.
-pub fn key_of(names: &[Named], id: u64) -> Option<usize>
+pub fn key_of(names: &[NamedNode], id: u64) -> Option<usize>
     requires { IsRising names.now }
     ensures { result ≡ key_named names.now id }
 {
@@ -48,7 +48,7 @@ pub fn has_zero(ids: &[TransformId]) -> bool
 }
 
 /// Whether one of the ids names nothing.
-pub fn has_unknown(names: &[Named], ids: &[TransformId]) -> bool
+pub fn has_unknown(names: &[NamedNode], ids: &[TransformId]) -> bool
     requires { IsRising names.now }
     ensures { result ≡ list_any (λ id. is_none (key_named names.now id.0)) ids.now }
 {
@@ -70,7 +70,7 @@ pub fn has_twice(ids: &[TransformId]) -> bool
 }
 
 /// The keys that ids name, in the order of the ids, without those that name nothing.
-pub fn keys_of(alloc: Global, names: &[Named], ids: &[TransformId]) -> Result<KeyList, NoMemory>
+pub fn keys_of(alloc: Global, names: &[NamedNode], ids: &[TransformId]) -> Result<KeyList, NoMemory>
     requires { IsRising names.now }
     ensures { IfOk result (λ keys. keys ≡ keys_named names.now ids.now) }
 {
@@ -82,7 +82,7 @@ pub fn keys_of(alloc: Global, names: &[Named], ids: &[TransformId]) -> Result<Ke
 }
 
 /// Puts a name among the others.
-pub fn add_name(names: &mut Vec<Named>, name: Named) -> Result<(), NoMemory>
+pub fn add_name(names: &mut Vec<NamedNode>, name: NamedNode) -> Result<(), NoMemory>
     requires rising { IsRising names.old.items }
     requires absent { key_named names.old.items name.id ≡ None }
     ensures ok { OnOk result (names.new.items ≡ names_with name names.old.items) }
@@ -94,7 +94,7 @@ pub fn add_name(names: &mut Vec<Named>, name: Named) -> Result<(), NoMemory>
 }
 
 /// Puts a name among the others, where there is room for it.
-pub fn put_name(names: &mut Vec<Named>, name: Named)
+pub fn put_name(names: &mut Vec<NamedNode>, name: NamedNode)
     requires rising { IsRising names.old.items }
     requires absent { key_named names.old.items name.id ≡ None }
     requires room { length names.old.items < vec_capacity names.old }
@@ -107,7 +107,7 @@ pub fn put_name(names: &mut Vec<Named>, name: Named)
 }
 
 /// Takes the name of an id away. The room stays.
-pub fn remove_name(names: &mut Vec<Named>, id: u64)
+pub fn remove_name(names: &mut Vec<NamedNode>, id: u64)
     requires rising { IsRising names.old.items }
     requires there { IsSome (key_named names.old.items id) }
     ensures items { names.new.items ≡ names_but id names.old.items }

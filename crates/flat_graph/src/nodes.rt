@@ -8,7 +8,7 @@ ghost use Rattle.flat_graph.specs.Reasons.{child_tests, IsFault};
 ghost use Rattle.flat_graph.specs.State.{held_but, marked_nodes, new_node, without_content};
 
 use flat_base::{CHILDREN_MAX, IntRect, Items, ONE, OPACITY_MAX, Orientation, Reason};
-use flat_scene::{GraphFault, Held, RegionList};
+use flat_scene::{GraphFault, HeldContent, RegionList};
 use slab::Slab;
 use std::alloc::Global;
 use std::mem;
@@ -29,7 +29,7 @@ pub struct GraphNode {
     pub opacity: u32,
     /// None where no hit call was ever made on it.
     pub hits: Option<RegionList>,
-    pub content: Option<Held>,
+    pub content: Option<HeldContent>,
     /// In the order in which they are drawn. Each leads to a node.
     pub children: KeyList,
 }
@@ -95,7 +95,7 @@ pub fn take_key(alloc: Global, keys: &mut KeyList, key: usize) -> bool
 }
 
 /// What a node holds, but for the content of that number.
-fn held_without(serial: u32, held: Option<Held>) -> Option<Held>
+fn held_without(serial: u32, held: Option<HeldContent>) -> Option<HeldContent>
     ensures { result ≡ held_but serial held }
 {
     match held {

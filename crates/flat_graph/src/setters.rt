@@ -7,7 +7,7 @@ use crate::graph::Graph;
 use crate::nodes::drop_held;
 use crate::shapes::{has_bad_area, has_bad_scale, is_bad_area};
 use flat_base::{HIT_REGIONS_MAX, IntRect, OPACITY_MAX, Orientation, Reason, TransformId};
-use flat_scene::{GraphFault, Held, HitRegion, RegionList};
+use flat_scene::{GraphFault, HeldContent, HitRegion, RegionList};
 
 impl Graph {
     ghost use Rattle.flat_scene.specs.Misuse.{first_reason};
@@ -152,7 +152,11 @@ impl Graph {
     /// by these numbers alone.
     ///
     /// `Bad` is ZeroId or UnknownTransform. It takes no memory.
-    pub fn set_content(&mut self, t: TransformId, held: Option<Held>) -> Result<(), GraphFault>
+    pub fn set_content(
+        &mut self,
+        t: TransformId,
+        held: Option<HeldContent>,
+    ) -> Result<(), GraphFault>
         ensures set { OnOk result (self.new
             ≡ change_named self.old t.0 (λ node. record node { content = held })) }
         ensures allowed { OnOk result (first_reason (name_tests self.old t.0) ≡ None) }

@@ -3,7 +3,7 @@ use Rattle.std.proofs.Common.{ℕ, ◌≡◌, refl, true, false, [], ◌∷◌, 
 use Rattle.flat_scene.specs.declared.calls.Interaction.TheVariants.{Default, SemanticallyInvisible}
 use Rattle.flat_scene.specs.declared.frames.Hit.{Hit}
 use Rattle.flat_scene.specs.declared.calls.HitRegion.{HitRegion}
-use Rattle.flat_topology.specs.declared.Placed.{Placed}
+use Rattle.flat_topology.specs.declared.PlacedNode.{PlacedNode}
 use Rattle.flat_hit.specs.Firsts.{is_hit, if_new}
 use Rattle.flat_hit.specs.Touchable.{region_places}
 
@@ -26,11 +26,11 @@ no_hit : if_new (hit 1 ∷ []) None ≡ []
 no_hit = refl
 
 -- the second and the fourth of five nodes have regions
-module _ (bare : Placed) (region : HitRegion) where
-  abbrev with_region : Placed
+module _ (bare : PlacedNode) (region : HitRegion) where
+  abbrev with_region : PlacedNode
   with_region = record bare { hits = region ∷ [] }
 
-  abbrev without_region : Placed
+  abbrev without_region : PlacedNode
   without_region = record bare { hits = [] }
 
   places : region_places (without_region ∷ with_region ∷ without_region ∷ with_region ∷ without_region ∷ []) ≡ 1 ∷ 3 ∷ []

@@ -6,11 +6,11 @@ use Rattle.std.proofs.lemmas.List.{take_more, length-take-le, reverse-append}
 use Rattle.std.proofs.lemmas.List.Elements.{filter_map-append}
 use Rattle.std.proofs.lemmas.Option.{get_or_from_slice_get}
 use Rattle.flat_scene.specs.declared.calls.HitRegion.{HitRegion}
-use Rattle.flat_topology.specs.declared.Placed.{Placed}
+use Rattle.flat_topology.specs.declared.PlacedNode.{PlacedNode}
 use Rattle.flat_topology.specs.Hits.{hit_on}
 use Rattle.flat_hit.specs.Touchable.{has_any, has_region, places_from, region_places}
 
-pub no-hit : (x y : ℤ) (at : Placed) → has_region at ≡ false → hit_on x y at ≡ None
+pub no-hit : (x y : ℤ) (at : PlacedNode) → has_region at ≡ false → hit_on x y at ≡ None
 no-hit x y at without = by_list at.hits refl without
   where
     by_list : (hits : List HitRegion) → at.hits ≡ hits → has_any hits ≡ false → hit_on x y at ≡ None
@@ -23,7 +23,7 @@ by-first : (b : Bool) (first : ℕ) (xs ys : List ℕ) → cond b (first ∷ (xs
 by-first true first xs ys = refl
 by-first false first xs ys = refl
 
-places-behind : (first : ℕ) (nodes : List Placed) (at : Placed)
+places-behind : (first : ℕ) (nodes : List PlacedNode) (at : PlacedNode)
     → places_from first (nodes ++ at ∷ []) ≡ places_from first nodes ++ cond (has_region at) ((first + length nodes) ∷ []) []
 places-behind first [] at = ap (λ n. cond (has_region at) (n ∷ []) []) (let same : first ≡ first + 0 = omega arith in same)
 places-behind first (next ∷ later) at =
@@ -32,12 +32,12 @@ places-behind first (next ∷ later) at =
     ∙ ap (λ n. places_from (suc first) later ++ cond (has_region at) (n ∷ []) []) there)
     ∙ by-first (has_region next) first (places_from (suc first) later) (cond (has_region at) ((first + suc (length later)) ∷ []) [])
 
-pub place-more : (nodes : List Placed) (place : ℕ) (at : Placed) (old new : List ℕ) → place < length nodes → slice_get nodes place ≡ Some at
+pub place-more : (nodes : List PlacedNode) (place : ℕ) (at : PlacedNode) (old new : List ℕ) → place < length nodes → slice_get nodes place ≡ Some at
     → old ≡ region_places (take place nodes)
     → new ≡ old ++ cond (has_region at) (place ∷ []) [] → new ≡ region_places (take (place + 1) nodes)
 place-more nodes place at old new within is so_far more =
     let whole : take (place + 1) nodes ≡ take place nodes ++ at ∷ [] =
-    take_more nodes place at within ∙ ap (λ (node : Placed). take place nodes ++ node ∷ []) (get_or_from_slice_get nodes place at at is) in
+    take_more nodes place at within ∙ ap (λ (node : PlacedNode). take place nodes ++ node ∷ []) (get_or_from_slice_get nodes place at at is) in
     let short = length-take-le place nodes (let low : place ≤ length nodes = omega (arith, within) in low) in
     let long : 0 + length (take place nodes) ≡ place = omega (arith, short) in
     more ∙ ap (λ (ps : List ℕ). ps ++ cond (has_region at) (place ∷ []) []) so_far
@@ -51,12 +51,12 @@ given f None = None
 given f (Some x) = f x
 
 -- what f gives of the node at a place
-abbrev pub given_at : {Y : Type 0} → (Placed → Option Y) → List Placed → ℕ → Option Y
+abbrev pub given_at : {Y : Type 0} → (PlacedNode → Option Y) → List PlacedNode → ℕ → Option Y
 given_at f nodes place = given f (slice_get nodes place)
 
 -- where f gives nothing of nodes without regions, the others are enough
-all-given : {Y : Type 0} (f : Placed → Option Y) → ((at : Placed) → has_region at ≡ false → f at ≡ None)
-    → (look : ℕ → Option Placed) (first : ℕ) (nodes : List Placed) → ((k : ℕ) → look (first + k) ≡ slice_get nodes k)
+all-given : {Y : Type 0} (f : PlacedNode → Option Y) → ((at : PlacedNode) → has_region at ≡ false → f at ≡ None)
+    → (look : ℕ → Option PlacedNode) (first : ℕ) (nodes : List PlacedNode) → ((k : ℕ) → look (first + k) ≡ slice_get nodes k)
     → filter_map (λ n. given f (look n)) (places_from first nodes) ≡ filter_map f nodes
 all-given f none look first [] there = refl
 all-given {Y} f none look first (at ∷ later) there =
@@ -82,13 +82,13 @@ turned {X} {Y} f (x ∷ xs) =
     by_option None is ys = rw is (append-nil (reverse ys))
     by_option (Some y) is ys = rw is (sym (reverse-append (y ∷ []) ys))
 
-pub places-enough : {Y : Type 0} (f : Placed → Option Y) → ((at : Placed) → has_region at ≡ false → f at ≡ None) → (nodes : List Placed)
+pub places-enough : {Y : Type 0} (f : PlacedNode → Option Y) → ((at : PlacedNode) → has_region at ≡ false → f at ≡ None) → (nodes : List PlacedNode)
     → filter_map (given_at f nodes) (reverse (region_places nodes)) ≡ filter_map f (reverse nodes)
 places-enough f none nodes = turned (given_at f nodes) (region_places nodes)
     ∙ ap reverse (all-given f none (slice_get nodes) 0 nodes (λ k. let same : 0 + k ≡ k = omega arith in ap (slice_get nodes) same)) ∙ sym (turned f nodes)
 
 -- each place has a node
-pub place-within : (first : ℕ) (nodes : List Placed) (i place : ℕ) → slice_get (places_from first nodes) i ≡ Some place → place < first + length nodes
+pub place-within : (first : ℕ) (nodes : List PlacedNode) (i place : ℕ) → slice_get (places_from first nodes) i ≡ Some place → place < first + length nodes
 place-within first [] i place got = absurd (cc)
 place-within first (at ∷ later) i place got = by_region (has_region at) i got (place-within (suc first) later)
   where

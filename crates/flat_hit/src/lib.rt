@@ -1,6 +1,6 @@
 //! The hit test: which sessions a point of the display hits (`hits_among` of
 //! flat_topology: specs/Hits). A node has a hit here; all nodes of a joined tree have
-//! theirs by [`Touchable`].
+//! theirs by [`HitIndex`].
 #![tactic(auto)]
 
 ghost use Rattle.std.specs.Prelude.{◌≡◌, ◌++◌, ◌*ℤ◌, find, OnOk};
@@ -9,16 +9,16 @@ ghost use Rattle.flat_geom.specs.Rectangles.{has_point};
 ghost use Rattle.flat_topology.specs.Hits.{region_rect, hit_on};
 ghost use Rattle.flat_hit.specs.Firsts.{is_hit, if_new};
 
-mod touchable;
+mod hit_index;
 
-pub use crate::touchable::Touchable;
+pub use crate::hit_index::HitIndex;
 use flat_base::{IntRect, NoMemory, ONE, Rect, SessionNo};
 use flat_geom::{contains, intersect, map_rect, units};
 use flat_scene::{Hit, HitList, HitRegion};
-use flat_topology::Placed;
+use flat_topology::PlacedNode;
 
 /// The part of the display that a region of a node covers.
-fn covered(at: &Placed, area: Option<IntRect>) -> Rect
+fn covered(at: &PlacedNode, area: Option<IntRect>) -> Rect
     ensures { result ≡ region_rect at.now area }
 {
     match area {
@@ -28,7 +28,7 @@ fn covered(at: &Placed, area: Option<IntRect>) -> Rect
 }
 
 /// The first region of a node that has a place.
-fn region_at(at: &Placed, x: i64, y: i64) -> Option<HitRegion>
+fn region_at(at: &PlacedNode, x: i64, y: i64) -> Option<HitRegion>
     ensures { result ≡ find (λ region. has_point (region_rect at.now region.area) x y) at.now.hits }
 {
     at.hits
@@ -39,7 +39,7 @@ fn region_at(at: &Placed, x: i64, y: i64) -> Option<HitRegion>
 }
 
 /// The hit of a place on a node. Outside of the node's clip no region has it.
-fn hit_at(at: &Placed, x: i64, y: i64) -> Option<Hit>
+fn hit_at(at: &PlacedNode, x: i64, y: i64) -> Option<Hit>
     ensures { result ≡ hit_on x y at.now }
 {
     if !contains(at.clip, x, y) {
@@ -59,7 +59,7 @@ fn is_listed(hits: &HitList, session: SessionNo) -> bool
 }
 
 /// Appends the hit of a place on a node, if its session has none yet.
-fn add(hits: &mut HitList, at: &Placed, x: i64, y: i64) -> Result<(), NoMemory>
+fn add(hits: &mut HitList, at: &PlacedNode, x: i64, y: i64) -> Result<(), NoMemory>
     ensures { OnOk result (hits.new ≡ hits.old ++ if_new hits.old (hit_on x y at.now)) }
 {
     if is_listed(hits, at.session) {

@@ -8,8 +8,8 @@ use Rattle.flat_scene.specs.declared.calls.ImageFlip.TheVariants.{Plain, LeftRig
 use Rattle.flat_scene.specs.declared.frames.DrawItem.{DrawItem}
 use Rattle.flat_scene.specs.declared.frames.Paint.{Paint}
 use Rattle.flat_scene.specs.declared.frames.Paint.TheVariants.{Fill, Image}
-use Rattle.flat_ink.specs.declared.ink.Mix.TheVariants.{Cover}
-use Rattle.flat_ink.specs.declared.ink.Shade.TheVariants.{Even, Across, Down}
+use Rattle.flat_ink.specs.declared.channel_ink.BlendRule.TheVariants.{Cover}
+use Rattle.flat_ink.specs.declared.channel_ink.ChannelValues.TheVariants.{Even, Across, Down}
 use Rattle.flat_ink.specs.Areas.{has_pixel}
 use Rattle.flat_ink.specs.Channels.{channel_painted, channel_after}
 use Rattle.flat_ink.specs.Colours.{texel_of, replaced, covered, laid, laid_colour}

@@ -14,8 +14,8 @@ ghost use Rattle.flat_ink.specs.Textures.{IsPlain, IsTextureOf};
 
 use crate::area::Area;
 use crate::axis::{Axis, is_by_units, part};
+use crate::channel_ink::{ChannelValues, TILE_SIDE, tone_of};
 use crate::colour::{blue, green, red, replace};
-use crate::ink::{Shade, TILE_SIDE, tone_of};
 use flat_base::{BufferNo, IntRect, OPACITY_MAX, Rect};
 use flat_drawable::full_rect;
 use flat_scene::{BlendMode, DrawItem, ImageFlip};
@@ -346,7 +346,7 @@ fn greens(texture: &Texture, from: usize, upto: usize) -> [u8; TILE_SIDE]
 }
 
 /// The red of a texture in an area.
-pub fn red_shade(texture: &Texture, cut: Area) -> Shade
+pub fn red_shade(texture: &Texture, cut: Area) -> ChannelValues
     requires sample { IsSample texture.now.sample }
     requires opacity { texture.now.opacity ≤ OPACITY_MAX }
     requires columns { cut.x1 ≤ cut.x0 + 64 }
@@ -358,14 +358,14 @@ pub fn red_shade(texture: &Texture, cut: Area) -> Shade
         ≡ texture_red texture.now (if texture.now.swap then py else px) }
 {
     if texture.swap {
-        Shade::Down(reds(texture, cut.y0, cut.y1))
+        ChannelValues::Down(reds(texture, cut.y0, cut.y1))
     } else {
-        Shade::Across(reds(texture, cut.x0, cut.x1))
+        ChannelValues::Across(reds(texture, cut.x0, cut.x1))
     }
 }
 
 /// The green of a texture in an area.
-pub fn green_shade(texture: &Texture, cut: Area) -> Shade
+pub fn green_shade(texture: &Texture, cut: Area) -> ChannelValues
     requires sample { IsSample texture.now.sample }
     requires opacity { texture.now.opacity ≤ OPACITY_MAX }
     requires columns { cut.x1 ≤ cut.x0 + 64 }
@@ -377,8 +377,8 @@ pub fn green_shade(texture: &Texture, cut: Area) -> Shade
         ≡ texture_green texture.now (if texture.now.swap then px else py) }
 {
     if texture.swap {
-        Shade::Across(greens(texture, cut.x0, cut.x1))
+        ChannelValues::Across(greens(texture, cut.x0, cut.x1))
     } else {
-        Shade::Down(greens(texture, cut.y0, cut.y1))
+        ChannelValues::Down(greens(texture, cut.y0, cut.y1))
     }
 }

@@ -15,7 +15,7 @@ mod whole;
 pub use counts::{counted, is_next_among};
 pub use memory::{MemSink, MemSource};
 pub use sink::Sink;
-pub use source::{Failed, Source};
+pub use source::{Source, StreamFailed};
 pub use steady::{SteadySink, SteadySource};
 pub use system::{StdSink, StdSource, TellingRead, TellingWrite};
 pub use whole::{ReadAll, WriteAll, read_all, write_all};

@@ -5,7 +5,7 @@ ghost use Rattle.flat_io.specs.Kept.{after_write};
 
 use crate::counts::{counted, is_next_among};
 use crate::sink::Sink;
-use crate::source::{Failed, Source};
+use crate::source::{Source, StreamFailed};
 use crate::steady::{SteadySink, SteadySource};
 use flat_base::NoMemory;
 use std::alloc::Global;
@@ -57,7 +57,7 @@ impl Source for MemSource {
     ghost reads = { λ s. s.calls };
 
     /// Fills the buffer as far as the bytes last, or fails and leaves the buffer.
-    fn read(&mut self, into: &mut [u8]) -> Result<usize, Failed>
+    fn read(&mut self, into: &mut [u8]) -> Result<usize, StreamFailed>
         ensures fails { is_err result ≡ is_next_among self.old.fail self.old.calls }
         ensures ok { IfOk result (λ count. (count ≡ min (length into.old) (length self.old.left))
             × (into.new ≡ take (length into.old) self.old.left ++ drop (length self.old.left)
@@ -75,7 +75,7 @@ impl Source for MemSource {
         self.calls = counted(self.calls);
         if fails {
             self.faults = counted(self.faults);
-            return Err(Failed);
+            return Err(StreamFailed);
         }
         self.inner.read(into)
     }
@@ -156,7 +156,7 @@ impl Sink for MemSink {
     ghost writes = { λ s. s.calls };
 
     /// Takes the piece whole, or nothing of it, or fails.
-    fn write(&mut self, piece: &[u8]) -> Result<usize, Failed>
+    fn write(&mut self, piece: &[u8]) -> Result<usize, StreamFailed>
         ensures fails { is_err result ≡ is_next_among self.old.fail self.old.calls }
         ensures err { IfErr result (λ _. self.new
             ≡ record self.old {
@@ -172,7 +172,7 @@ impl Sink for MemSink {
         self.calls = counted(self.calls);
         if fails {
             self.faults = counted(self.faults);
-            return Err(Failed);
+            return Err(StreamFailed);
         }
         if stalls {
             self.stalls = stalls_after(self.stalls, piece);

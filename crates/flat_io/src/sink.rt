@@ -3,7 +3,7 @@ ghost use Rattle.std.specs.Prelude.{IsTrue, IfOk, OnOk, OnErr};
 ghost use Rattle.flat_io.specs.Counts.{has_risen};
 ghost use Rattle.flat_io.specs.Told.{Appends};
 
-use crate::source::Failed;
+use crate::source::StreamFailed;
 
 /// A taker of bytes.
 pub trait Sink {
@@ -23,11 +23,11 @@ pub trait Sink {
     /// for a piece that isn't empty comes only where the count of stalls rose in
     /// this call.
     ///
-    /// `Failed` comes only where the count of faults rose in this call; then what
+    /// `StreamFailed` comes only where the count of faults rose in this call; then what
     /// is held is as before. A count that stands at its end counts as risen. A write that
     /// doesn't fail leaves the count of faults as it was, and one that takes bytes leaves
     /// that of stalls too.
-    fn write(&mut self, piece: &[u8]) -> Result<usize, Failed>
+    fn write(&mut self, piece: &[u8]) -> Result<usize, StreamFailed>
         ensures within { IfOk result (λ count. count ≤ length piece.now) }
         ensures taken { IfOk result (λ count. Appends (take count piece.now) (held self.old)
             (held self.new)) }

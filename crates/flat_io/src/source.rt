@@ -5,7 +5,7 @@ ghost use Rattle.flat_io.specs.Reads.{Takes};
 
 /// A read or a write failed. The count of faults of the source or the sink rose.
 #[derive(Clone, Copy, Debug, PartialEq, Eq)]
-pub struct Failed;
+pub struct StreamFailed;
 
 /// A giver of bytes.
 pub trait Source {
@@ -23,10 +23,10 @@ pub trait Source {
     /// comes at the end alone, where nothing is left. What stands in the buffer
     /// behind that number is not said.
     ///
-    /// `Failed` comes only where the count of faults rose in this call (a count
+    /// `StreamFailed` comes only where the count of faults rose in this call (a count
     /// that stands at its end counts as risen); then what is left is as before. A
     /// read that doesn't fail leaves that count as it was.
-    fn read(&mut self, into: &mut [u8]) -> Result<usize, Failed>
+    fn read(&mut self, into: &mut [u8]) -> Result<usize, StreamFailed>
         ensures within { IfOk result (λ count. count ≤ length into.old) }
         ensures taken { IfOk result (λ count. Takes count into.new (left self.old)
             (left self.new)) }

@@ -3,7 +3,7 @@ ghost use Rattle.std.specs.Prelude.{Some, Ok, IfOk, vec_capacity};
 ghost use Rattle.flat_io.specs.Kept.{with_piece, told_bytes};
 
 use crate::sink::Sink;
-use crate::source::{Failed, Source};
+use crate::source::{Source, StreamFailed};
 use flat_base::NoMemory;
 use std::alloc::Global;
 use std::marker::Model;
@@ -41,7 +41,7 @@ impl Source for SteadySource {
     ghost faults = { λ _. 0 };
 
     /// Fills the buffer as far as the bytes last.
-    fn read(&mut self, into: &mut [u8]) -> Result<usize, Failed>
+    fn read(&mut self, into: &mut [u8]) -> Result<usize, StreamFailed>
         ensures { (result ≡ Ok (min (length into.old) (length self.old)))
             × (into.new ≡ take (length into.old) self.old ++ drop (length self.old) into.old)
             × (self.new ≡ drop (length into.old) self.old) }
@@ -106,7 +106,7 @@ impl Sink for SteadySink {
 
     /// Takes the piece whole. One that doesn't fit in the room is dropped, as is
     /// all that comes after it, and from then on the sink tells nothing.
-    fn write(&mut self, piece: &[u8]) -> Result<usize, Failed>
+    fn write(&mut self, piece: &[u8]) -> Result<usize, StreamFailed>
         ensures { (result ≡ Ok (length piece.now)) × (self.new ≡ with_piece self.old piece.now) }
     {
         self.is_told = self.is_told && piece.len() <= self.bytes.capacity() - self.bytes.len();

@@ -2,7 +2,7 @@ ghost use Rattle.std.specs.Prelude.{◌≡◌, Bool, true, false, is_some, refl}
 
 use crate::counts::counted;
 use crate::sink::Sink;
-use crate::source::{Failed, Source};
+use crate::source::{Source, StreamFailed};
 use std::alloc::Allocator;
 use std::io::{Cursor, Print, Printer, Read, StdinLock, Write};
 
@@ -98,12 +98,12 @@ impl<R: TellingRead> Source for StdSource<R> {
     ghost faults = { λ s. s.failures };
 
     /// Whatever error the reader answers is a failure.
-    fn read(&mut self, into: &mut [u8]) -> Result<usize, Failed> {
+    fn read(&mut self, into: &mut [u8]) -> Result<usize, StreamFailed> {
         match self.inner.read(into) {
             Ok(count) => Ok(count),
             Err(_) => {
                 self.failures = counted(self.failures);
-                Err(Failed)
+                Err(StreamFailed)
             }
         }
     }
@@ -146,7 +146,7 @@ impl<W: TellingWrite> Sink for StdSink<W> {
     ghost stalls = { λ s. s.stalls };
 
     /// Whatever error the writer answers is a failure.
-    fn write(&mut self, piece: &[u8]) -> Result<usize, Failed> {
+    fn write(&mut self, piece: &[u8]) -> Result<usize, StreamFailed> {
         match self.inner.write(piece) {
             Ok(count) => {
                 if count == 0 && !piece.is_empty() {
@@ -156,7 +156,7 @@ impl<W: TellingWrite> Sink for StdSink<W> {
             }
             Err(_) => {
                 self.failures = counted(self.failures);
-                Err(Failed)
+                Err(StreamFailed)
             }
         }
     }

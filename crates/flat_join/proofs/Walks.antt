@@ -2,7 +2,7 @@
 use Rattle.std.proofs.Common.{ℕ, zero, suc, ◌≡◌, refl, true, false, cond, [], ◌∷◌, Option, Some, None, map, slice_index_or, arith}
 use Rattle.flat_geom.specs.Identity.{identity_matrix}
 use Rattle.flat_join.specs.declared.scope.Scope.{Scope}
-use Rattle.flat_join.specs.declared.walk.Stretch.{Stretch}
+use Rattle.flat_join.specs.declared.join_walk.NodeRange.{NodeRange}
 use Rattle.flat_topology.specs.Place.{display_rect, display_space, placed_nodes}
 use Rattle.flat_join.specs.Walking.{viewer_at, flat_of, space_of, tree_of, still_count, still_placed, still_connected, work, below_stretch, after_stretch}
 use Rattle.flat_join.specs.Walking.{pushed}
@@ -16,7 +16,7 @@ abbrev display_scope : Scope
 display_scope = record { matrix = identity_matrix; clip = display_rect shell_setup; opacity = 65536 }
 
 -- all that the shell shows: it is the first of three views, so two may be below it
-abbrev whole_shell : Stretch
+abbrev whole_shell : NodeRange
 whole_shell = record { session = session 1; views = 2; next = 0; end = 3; scope = display_scope }
 
 display_scoped : space_of display_scope ≡ display_space shell_setup

@@ -8,8 +8,8 @@ ghost use Rattle.flat_topology.specs.Join.{is_joined};
 ghost use Rattle.flat_join.specs.Distances.{AreDistances, IsFinding, NotesViews, leads_to};
 ghost use Rattle.flat_topology.specs.Shown.{is_shown_by};
 
-use crate::shown::Shown;
-use crate::walk::shows;
+use crate::join_walk::shows;
+use crate::shown_states::ShownStates;
 use flat_base::SessionNo;
 use flat_scene::{Content, Setup};
 use flat_snap::Snapshot;
@@ -17,7 +17,7 @@ use flat_topology::links_make_a_tree;
 
 /// Notes this distance of the session that shows the view of a pair.
 fn note_view(
-    shown: &Shown,
+    shown: &ShownStates,
     setup: &Setup,
     pair: usize,
     distance: usize,
@@ -42,7 +42,7 @@ fn note_view(
 /// Notes this distance of the session that hangs below a viewport; none does below
 /// another content.
 fn note_linked(
-    shown: &Shown,
+    shown: &ShownStates,
     setup: &Setup,
     content: Option<Content>,
     distance: usize,
@@ -60,7 +60,7 @@ fn note_linked(
 /// Notes this distance of the sessions that hang below the viewports of a session,
 /// whose state this is.
 fn note_viewports(
-    shown: &Shown,
+    shown: &ShownStates,
     setup: &Setup,
     state: &Snapshot,
     distance: usize,
@@ -79,7 +79,7 @@ fn note_viewports(
 
 /// Notes this distance of the sessions that hang below a session.
 fn note_below(
-    shown: &Shown,
+    shown: &ShownStates,
     setup: &Setup,
     session: SessionNo,
     distance: usize,
@@ -107,7 +107,7 @@ fn is_at(noted: Option<usize>, distance: usize) -> bool
 /// Notes the sessions that hang below the session at a place, if it is at this
 /// distance.
 fn note_place(
-    shown: &Shown,
+    shown: &ShownStates,
     setup: &Setup,
     i: u32,
     distance: usize,
@@ -127,7 +127,7 @@ fn note_place(
 }
 
 /// Notes the sessions that hang below those at this distance, which are known.
-fn note_round(shown: &Shown, setup: &Setup, distance: usize, distances: &mut [Option<usize>])
+fn note_round(shown: &ShownStates, setup: &Setup, distance: usize, distances: &mut [Option<usize>])
     requires made { length shown.now ≡ setup.now.sessions }
     requires far { distance < length shown.now }
     requires fit { FitsSetup setup.now shown.now }
@@ -140,7 +140,12 @@ fn note_round(shown: &Shown, setup: &Setup, distance: usize, distances: &mut [Op
 }
 
 /// Notes the session whose view is the display's, and none else.
-fn note_top(shown: &Shown, setup: &Setup, display: Option<usize>, distances: &mut [Option<usize>])
+fn note_top(
+    shown: &ShownStates,
+    setup: &Setup,
+    display: Option<usize>,
+    distances: &mut [Option<usize>],
+)
     requires display { display ≡ display_pair setup.now }
     requires all { length distances.old ≡ length shown.now }
     requires fit { FitsSetup setup.now shown.now }
@@ -154,7 +159,7 @@ fn note_top(shown: &Shown, setup: &Setup, display: Option<usize>, distances: &mu
     }
 }
 
-impl Shown {
+impl ShownStates {
     /// Finds the sessions that are connected to the display, from the display down:
     /// the viewports of each of them are looked at once. Of each session it notes
     /// through how many others it is connected; None where it isn't. It takes no

@@ -13,7 +13,7 @@ use flat_base::{IntRect, Items, NoMemory, ONE, OPACITY_MAX, Rect, SessionNo};
 use flat_geom::{Matrix, compose, intersect, local, map_rect, scaling, sized, units};
 use flat_scene::{Setup, ViewportProps};
 use flat_snap::FlatNode;
-use flat_topology::Placed;
+use flat_topology::PlacedNode;
 use std::alloc::Global;
 
 /// What a node hands on to the nodes below it.
@@ -95,11 +95,11 @@ impl Scope {
         alloc: Global,
         session: SessionNo,
         node: &FlatNode<'_>,
-    ) -> Result<Placed, NoMemory>
+    ) -> Result<PlacedNode, NoMemory>
         ensures { IfOk result (λ placed. placed
             ≡ placed_node session.0 (space_of self.now) (as_node (lent node.now) Empty)) }
     {
-        Ok(Placed {
+        Ok(PlacedNode {
             session,
             serial: node.serial,
             matrix: self.matrix,

@@ -5,7 +5,7 @@ use Rattle.std.specs.List.{zip}
 use Rattle.std.proofs.lemmas.Bool.{and_parts}
 use Rattle.std.proofs.lemmas.Bool.Decides.{nat_tests}
 use Rattle.std.proofs.lemmas.List.{append_cancel_left}
-use Rattle.flat_scene.specs.declared.frames.Lost.{Lost}
+use Rattle.flat_scene.specs.declared.frames.LostDisplay.{LostDisplay}
 use Rattle.flat_scene.specs.declared.journal.Entry.{Entry}
 use Rattle.flat_scene.specs.History.{◌▹◌, is_finish}
 use Rattle.flat_rules.specs.Ends.{to_begin, to_finished}
@@ -39,14 +39,15 @@ frames-one before entry = by_test (is_finish entry.kind)
     by_test true = refl
     by_test false = refl
 
-pub shown-agree : (script : Script) (lost lost' : List Lost) (before : List Entry) (b : Bool)
+pub shown-agree : (script : Script) (lost lost' : List LostDisplay) (before : List Entry) (b : Bool)
     → (b ≡ true → lost_at (suc (frames before)) lost ≡ lost_at (suc (frames before)) lost')
     → cond b (shown_lines script lost before) [] ≡ cond b (shown_lines script lost' before) []
-shown-agree script lost lost' before true same = ap (λ (ls : List Lost). frame_lines script (frame_at script.setup (suc (frames before)) (to_begin before))
+shown-agree script lost lost' before true same = ap (λ (ls : List LostDisplay). frame_lines script
+    (frame_at script.setup (suc (frames before)) (to_begin before))
     ++ map lost_line ls) (same refl)
 shown-agree script lost lost' before false same = refl
 
-pub history-agrees : (script : Script) (lost lost' : List Lost) (history : List Entry) → AgreeTo 0 (frames history) lost lost'
+pub history-agrees : (script : Script) (lost lost' : List LostDisplay) (history : List Entry) → AgreeTo 0 (frames history) lost lost'
     → history_lines script lost history ≡ history_lines script lost' history
 history-agrees script lost lost' [] agree = refl
 history-agrees script lost lost' (before ▹ entry) agree = by (is_finish entry.kind) refl (λ same. history-agrees script lost lost' before same)
@@ -70,21 +71,21 @@ history-agrees script lost lost' (before ▹ entry) agree = by (is_finish entry.
         let here = shown-agree script lost lost' before (is_finish entry.kind) (λ finish. absurd (true≢false (sym finish ∙ is))) in
         λ i. earlier i ++ (own ∷ here i ++ events)
 
-pub told-agrees : (script : Script) (lost lost' : List Lost) (history : List Entry) → AgreeTo 0 (frames history) lost lost'
+pub told-agrees : (script : Script) (lost lost' : List LostDisplay) (history : List Entry) → AgreeTo 0 (frames history) lost lost'
     → told script lost history ≡ told script lost' history
 told-agrees script lost lost' history agree = ap (λ (ls : List (List Word)). text_of (title_line script.version ∷ ls))
     (history-agrees script lost lost' history agree)
 
-pub lost-append : (n : ℕ) (xs ys : List Lost) → lost_at n (xs ++ ys) ≡ lost_at n xs ++ lost_at n ys
+pub lost-append : (n : ℕ) (xs ys : List LostDisplay) → lost_at n (xs ++ ys) ≡ lost_at n xs ++ lost_at n ys
 lost-append n [] ys = refl
 lost-append n (x ∷ xs) ys = by (x.frame.0 == n) (lost-append n xs ys)
   where
     by : (b : Bool) → lost_at n (xs ++ ys) ≡ lost_at n xs ++ lost_at n ys
         → cond b (x ∷ lost_at n (xs ++ ys)) (lost_at n (xs ++ ys)) ≡ cond b (x ∷ lost_at n xs) (lost_at n xs) ++ lost_at n ys
-    by true later = ap (λ (ls : List Lost). x ∷ ls) later
+    by true later = ap (λ (ls : List LostDisplay). x ∷ ls) later
     by false later = later
 
-none-at : (n to : ℕ) (more : List Lost) → n ≤ to → are_behind to more ≡ true → lost_at n more ≡ []
+none-at : (n to : ℕ) (more : List LostDisplay) → n ≤ to → are_behind to more ≡ true → lost_at n more ≡ []
 none-at n to [] upto behind = refl
 none-at n to (x ∷ more) upto behind =
     let parts = and_parts (nat_lt to x.frame.0) (are_behind to more) behind in
@@ -92,8 +93,9 @@ none-at n to (x ∷ more) upto behind =
     let other : (x.frame.0 == n) ≡ false = grind (arith, nat_tests) in
     rw other (none-at n to more upto parts.1)
 
-pub prefix-agrees : (to : ℕ) (lost more : List Lost) → are_behind to more ≡ true → AgreeTo 0 to (lost ++ more) lost
-prefix-agrees to lost more behind = λ n from upto. lost-append n lost more ∙ ap (λ (ls : List Lost). lost_at n lost ++ ls) (none-at n to more upto behind)
+pub prefix-agrees : (to : ℕ) (lost more : List LostDisplay) → are_behind to more ≡ true → AgreeTo 0 to (lost ++ more) lost
+prefix-agrees to lost more behind = λ n from upto. lost-append n lost more ∙ ap (λ (ls : List LostDisplay). lost_at n lost ++ ls)
+    (none-at n to more upto behind)
     ∙ append-nil (lost_at n lost)
 
 -- ---- a report from a history on
@@ -135,7 +137,7 @@ module _ {script : Script} (run : Run script) where
       ∙ ap (λ (t : List ℕ). told script run.lost before ++ t) (text-append next (seen_lines ++ last_lines) ∙ ap (λ (t : List ℕ). text_of next ++ t) ending-is)
 
 -- the parts of an entry's lines
-module _ (script : Script) (lost : List Lost) (before : List Entry) (entry : Entry) where
+module _ (script : Script) (lost : List LostDisplay) (before : List Entry) (entry : Entry) where
   abbrev pub own_line : List Word
   own_line = entry_line script (frames before) (hits_at script.setup (to_finished before)) entry
 
@@ -169,11 +171,11 @@ module _ (script : Script) (lost : List Lost) (before : List Entry) (entry : Ent
 
 -- ---- a text that is the report of a run
 
-module _ (script : Script) (text : List ℕ) (before : List Entry) (lost : List Lost) (run : Run script) (is : text ≡ report_of script run) where
+module _ (script : Script) (text : List ℕ) (before : List Entry) (lost : List LostDisplay) (run : Run script) (is : text ≡ report_of script run) where
   module _ (goes : GoesOnTo before lost (frames before) run) where
     pub same-told : told script run.lost before ≡ told script lost before
     same-told =
-        ap (λ (ls : List Lost). told script ls before) goes.losses
+        ap (λ (ls : List LostDisplay). told script ls before) goes.losses
         ∙ told-agrees script (lost ++ goes.more) lost before (prefix-agrees (frames before) lost goes.more goes.behind)
 
     pub text-here : text ≡ told script lost before ++ later_text run before goes.later

@@ -4,7 +4,7 @@ use Rattle.std.proofs.Common.{refl, sym, ◌∙◌, subst, append-nil}
 use Rattle.std.specs.List.{list_all}
 use Rattle.std.proofs.lemmas.List.{reverse-reverse}
 use Rattle.flat_base.proofs.lemmas.Tests.{and-left, and-true}
-use Rattle.flat_scene.specs.declared.frames.Lost.{Lost}
+use Rattle.flat_scene.specs.declared.frames.LostDisplay.{LostDisplay}
 use Rattle.flat_scene.specs.declared.journal.Entry.{Entry}
 use Rattle.flat_rules.specs.Legal.{frames}
 use Rattle.flat_places.specs.declared.script.Script.{Script}
@@ -12,7 +12,7 @@ use Rattle.flat_page.specs.Words.{text_of}
 use Rattle.flat_lines.specs.Ends.{title_line}
 use Rattle.flat_report.specs.Report.{is_loss}
 use Rattle.flat_report.proofs.lemmas.Tails.{onto-reverse}
-use Rattle.flat_judge.specs.declared.following.Along.{Along}
+use Rattle.flat_judge.specs.declared.following.ReplayProgress.{ReplayProgress}
 use Rattle.flat_judge.specs.Following.{AllGoOn, AreLosses, Begins, HasStopped, IsAlong, Passes, and_then, are_behind, told}
 use Rattle.flat_judge.proofs.Along.{later_text, run-text, then-onto}
 use Rattle.flat_judge.proofs.Fitting.{goes_before}
@@ -24,7 +24,7 @@ from-oldest history = sym (then-onto [] (reverse history) ∙ onto-reverse [] (r
     ∙ reverse-reverse history)
 
 -- displays are lost at frames from 1 on
-all-behind : (history : List Entry) (lost : List Lost) → is_loss history lost ≡ true → are_behind 0 lost ≡ true
+all-behind : (history : List Entry) (lost : List LostDisplay) → is_loss history lost ≡ true → are_behind 0 lost ≡ true
 all-behind history [] loss = refl
 all-behind history (x ∷ lost) loss =
     let number_fits = nat_lt 0 x.frame.0 && nat_le x.frame.0 (frames history) in
@@ -32,7 +32,7 @@ all-behind history (x ∷ lost) loss =
     and-true (and-left (nat_lt 0 x.frame.0) (nat_le x.frame.0 (frames history)) (and-left number_fits (list_all (goes_before x) lost) first))
     (all-behind history lost (loss-parts history x lost loss).1)
 
-module _ (script : Script) (text : List ℕ) (along : Along) (lost : along.lost ≡ []) where
+module _ (script : Script) (text : List ℕ) (along : ReplayProgress) (lost : along.lost ≡ []) where
   first-led : AllGoOn script text [] [] 0
   first-led read run report = record {
     later = reverse run.history;
@@ -47,9 +47,9 @@ module _ (script : Script) (text : List ℕ) (along : Along) (lost : along.lost 
       → IsAlong script text [] (record along { at = at })
   first-along at posted passes =
       let start : Begins text [] 0 = record { long = refl; is = refl } in
-      let B : List Lost → Type 0 = λ ls. Begins text (told script ls []) at in
-      let L : List Lost → Type 0 = λ ls. AllGoOn script text [] ls 0 in
-      let A : List Lost → Type 0 = λ ls. AreLosses 0 ls in
+      let B : List LostDisplay → Type 0 = λ ls. Begins text (told script ls []) at in
+      let L : List LostDisplay → Type 0 = λ ls. AllGoOn script text [] ls 0 in
+      let A : List LostDisplay → Type 0 = λ ls. AreLosses 0 ls in
       record {
         begins = subst B (sym lost) (passes.1 [] start);
         within = passes.0;
@@ -62,7 +62,7 @@ module _ (script : Script) (text : List ℕ) (along : Along) (lost : along.lost 
   pub first-parts : Passes text 0 (text_of (title_line script.version ∷ [])) None → HasStopped script text [] along
   first-parts parts =
       let start : Begins text [] 0 = record { long = refl; is = refl } in
-      let A : List Lost → Type 0 = λ ls. AreLosses 0 ls in
+      let A : List LostDisplay → Type 0 = λ ls. AreLosses 0 ls in
       record {
         only = λ read run report. absurd (parts [] (later_text run [] (reverse run.history)) start
             (report ∙ run-text run [] (reverse run.history) (from-oldest run.history)));

@@ -4,8 +4,8 @@ use Rattle.std.proofs.Common.{Some, None}
 use Rattle.flat_base.specs.declared.ids.Actor.{Actor}
 use Rattle.flat_base.specs.declared.ids.Actor.TheVariants.{Display, Session, Probe}
 use Rattle.flat_scene.specs.declared.journal.Entry.{Entry}
-use Rattle.flat_scene.specs.declared.script.Body.{Body}
-use Rattle.flat_scene.specs.declared.script.Body.TheVariants as body
+use Rattle.flat_scene.specs.declared.script.LineBody.{LineBody}
+use Rattle.flat_scene.specs.declared.script.LineBody.TheVariants as body
 use Rattle.flat_scene.specs.declared.script.DisplayLine.{DisplayLine}
 use Rattle.flat_scene.specs.declared.script.DisplayLine.TheVariants as display
 use Rattle.flat_scene.specs.declared.script.ScriptLine.{ScriptLine}
@@ -32,7 +32,7 @@ pub record IsDisplays (x : ScriptLine) (text : DisplayLine) : Type 0 where
   pub who : x.actor ≡ Display
   pub what : x.body ≡ body.Display text
 
-of_display : (setup : Setup) (who : Actor) (what : Body) (text : DisplayLine) → is_played setup who what ≡ true → display_text what ≡ Some text
+of_display : (setup : Setup) (who : Actor) (what : LineBody) (text : DisplayLine) → is_played setup who what ≡ true → display_text what ≡ Some text
     → (who ≡ Display) × (what ≡ body.Display text)
 of_display setup Display (body.Display said) text played is = let same : said ≡ text = cc in (refl, ap body.Display same)
 of_display setup (Session s) (body.Display said) text played is = absurd (let wrong : false ≡ true = played in cc)
@@ -48,7 +48,7 @@ module _ (script : Script) (place : ℕ) (x : ScriptLine) (at : At script place 
   pub display_passes : display_text x.body ≡ None → (history : List Entry) → DisplayStands script place history → DisplayStands script (place + 1) history
   display_passes none history stands = by x.body refl
     where
-      by : (what : Body) → x.body ≡ what → DisplayStands script (place + 1) history
+      by : (what : LineBody) → x.body ≡ what → DisplayStands script (place + 1) history
       by (body.Session text) is = display_session script place x at text is history history (QuietStep.same refl) stands
       by (body.Probe asked) is = display_probe script place x at asked is history stands
       by (body.Display text) is = absurd (let wrong : Some text ≡ None = sym (ap display_text is) ∙ none in cc)

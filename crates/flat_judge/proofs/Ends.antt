@@ -8,7 +8,7 @@ use Rattle.flat_base.proofs.lemmas.Tests.{and-left, and-right}
 use Rattle.flat_base.specs.declared.ids.Actor.{Actor}
 use Rattle.flat_base.specs.declared.ids.Actor.TheVariants.{Display, Session, Probe}
 use Rattle.flat_base.specs.declared.ids.SessionNo.{SessionNo}
-use Rattle.flat_scene.specs.declared.frames.Lost.{Lost}
+use Rattle.flat_scene.specs.declared.frames.LostDisplay.{LostDisplay}
 use Rattle.flat_scene.specs.declared.journal.Entry.{Entry}
 use Rattle.flat_scene.specs.declared.script.DisplayLine.{DisplayLine}
 use Rattle.flat_scene.specs.History.{◌▹◌, is_display, is_end, is_session, own}
@@ -20,7 +20,7 @@ use Rattle.flat_places.specs.declared.script.Script.{Script}
 use Rattle.flat_report.specs.Report.{is_loss}
 use Rattle.flat_report.proofs.lemmas.Named.{Acts, acts}
 use Rattle.flat_report.proofs.lemmas.Turns.{Stands, display-next, session-at}
-use Rattle.flat_judge.specs.declared.following.Along.{Along}
+use Rattle.flat_judge.specs.declared.following.ReplayProgress.{ReplayProgress}
 use Rattle.flat_judge.specs.Following.{Begins, GoesOnTo, IsAlong, IsOnly, IsPart, StoppedBefore, and_then, are_behind, next_actor, told}
 use Rattle.flat_judge.specs.GuidedRuns.{Grown}
 use Rattle.flat_judge.specs.Verdicts.{IsRead, Run, report_of}
@@ -30,26 +30,26 @@ use Rattle.flat_judge.proofs.Fitting.{goes_before}
 
 -- ---- no loss behind the last frame
 
-low-loss : (history : List Entry) (x : Lost) (lost : List Lost) → is_loss history (x ∷ lost) ≡ true → nat_le x.frame.0 (frames history) ≡ true
+low-loss : (history : List Entry) (x : LostDisplay) (lost : List LostDisplay) → is_loss history (x ∷ lost) ≡ true → nat_le x.frame.0 (frames history) ≡ true
 low-loss history x lost loss =
     let number_fits = nat_lt 0 x.frame.0 && nat_le x.frame.0 (frames history) in
     let first = and-left (number_fits && list_all (goes_before x) lost) (is_loss history lost) loss in
     and-right (nat_lt 0 x.frame.0) (nat_le x.frame.0 (frames history)) (and-left number_fits (list_all (goes_before x) lost) first)
 
-none-more : (history : List Entry) (more : List Lost) → is_loss history more ≡ true → are_behind (frames history) more ≡ true → more ≡ []
+none-more : (history : List Entry) (more : List LostDisplay) → is_loss history more ≡ true → are_behind (frames history) more ≡ true → more ≡ []
 none-more history [] loss behind = refl
 none-more history (x ∷ more) loss behind =
     let low = low-loss history x more loss in
     let high = and-left (nat_lt (frames history) x.frame.0) (are_behind (frames history) more) behind in
     absurd (let wrong : x.frame.0 < x.frame.0 = grind (arith, nat_tests) in omega (arith, wrong))
 
-pub loss-behind : (history : List Entry) (xs ys : List Lost) → is_loss history (xs ++ ys) ≡ true → is_loss history ys ≡ true
+pub loss-behind : (history : List Entry) (xs ys : List LostDisplay) → is_loss history (xs ++ ys) ≡ true → is_loss history ys ≡ true
 loss-behind history [] ys loss = loss
 loss-behind history (x ∷ xs) ys loss = loss-behind history xs ys (loss-parts history x (xs ++ ys) loss).1
 
 -- ---- a run that goes no further
 
-module _ (script : Script) (text : List ℕ) (history : List Entry) (along : Along) (is : IsAlong script text history along) where
+module _ (script : Script) (text : List ℕ) (history : List Entry) (along : ReplayProgress) (is : IsAlong script text history along) where
   -- where no run has a further entry, it is the only one
   only-this : ((read : IsRead script) (run : Run script) (report : text ≡ report_of script run) (goes : GoesOnTo history along.lost (frames history) run)
       (other : Entry) (more : List Entry) → goes.later ≡ other ∷ more → ⊥) → IsOnly script text history along.lost
@@ -62,12 +62,12 @@ module _ (script : Script) (text : List ℕ) (history : List Entry) (along : Alo
       by goes (other ∷ more) some never = absurd (never other more some)
       by goes [] end never =
           let whole : run.history ≡ history = goes.entries ∙ ap (and_then history) end in
-          let L : List Entry → List Lost → Type 0 = λ h ls. is_loss h ls ≡ true in
+          let L : List Entry → List LostDisplay → Type 0 = λ h ls. is_loss h ls ≡ true in
           let L1 : List Entry → Type 0 = λ h. L h run.lost in
-          let L2 : List Lost → Type 0 = L history in
+          let L2 : List LostDisplay → Type 0 = L history in
           let loss : is_loss history (along.lost ++ goes.more) ≡ true = subst L2 goes.losses (subst L1 whole run.is.loss) in (
             whole,
-            goes.losses ∙ ap (λ (ls : List Lost). along.lost ++ ls)
+            goes.losses ∙ ap (λ (ls : List LostDisplay). along.lost ++ ls)
                 (none-more history goes.more (loss-behind history along.lost goes.more loss) goes.behind) ∙ append-nil along.lost,
           )
 
@@ -244,7 +244,8 @@ whole-only script history whole ended legal interleaves grown = by grown.more re
         by_actor (Probe p) is acting all older none reads = let A : Actor → Type 0 = Acts script in subst A is acting
 
 -- the only run up to some entries is the only one that goes on from them to its end
-pub only-whole : (script : Script) (text : List ℕ) (history : List Entry) (along : Along) → StoppedBefore script text history along → Legal script.setup history
+pub only-whole : (script : Script) (text : List ℕ) (history : List Entry) (along : ReplayProgress) → StoppedBefore script text history along
+    → Legal script.setup history
     → Interleaves script.setup script.count script.lines history
     → IsOnly script text history along.lost
 only-whole script text history along stopped legal interleaves read run report =

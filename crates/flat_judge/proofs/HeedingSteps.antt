@@ -24,7 +24,7 @@ use Rattle.flat_report.proofs.lemmas.SeenTold.{probe-lines-are}
 use Rattle.flat_play.specs.Probing.{answer_of, with_answer}
 use Rattle.flat_play.proofs.lemmas.Slots.{got-same}
 use Rattle.flat_play.proofs.lemmas.Steps.{At}
-use Rattle.flat_judge.specs.declared.following.Along.{Along}
+use Rattle.flat_judge.specs.declared.following.ReplayProgress.{ReplayProgress}
 use Rattle.flat_judge.specs.declared.guided_run.GuidedRun.{GuidedRun}
 use Rattle.flat_judge.specs.Following.{IsPart, MakesNext, Stays}
 use Rattle.flat_judge.specs.GuidedRuns.{RunStands, asked_here}
@@ -274,7 +274,7 @@ frames-one history entry = by (is_finish entry.kind)
 
 module _ (script : Script) (text : List ℕ) (hints : List (List ℕ)) (last : ℕ) where
   -- no entry comes next
-  pub turn-none : (old new : GuidedRun) (along : Along) (made : Bool) → made ≡ false
+  pub turn-none : (old new : GuidedRun) (along : ReplayProgress) (made : Bool) → made ≡ false
       → MakesNext script text old.screen.board.history new.screen.board.history along made → new.answers.items ≡ old.answers.items
       → AllHeed script hints last (suc (frames old.screen.board.history)) old.answers.items → HeedsSo script text hints last new
   turn-none old new along false is (MakesNext.stops same only) answers heeds =
@@ -284,7 +284,8 @@ module _ (script : Script) (text : List ℕ) (hints : List (List ℕ)) (last : �
   turn-none old new along true is (MakesNext.makes entry grown part) answers heeds = absurd (true≢false is)
 
   -- the text parts from the run
-  pub turn-parted : (old after : List Entry) (was now : Along) (made b : Bool) (new : GuidedRun) (So : List Entry → Entry → Along → Type 0) (from : ℕ)
+  pub turn-parted : (old after : List Entry) (was now : ReplayProgress) (made b : Bool) (new : GuidedRun) (So : List Entry → Entry → ReplayProgress → Type 0)
+      (from : ℕ)
       → made ≡ true → b ≡ false → MakesNext script text old after was made
       → ((before : List Entry) (entry : Entry) → after ≡ (before ▹ entry) → IsPart script text before entry [] (frames before) was
       → Stays script text (frames (before ▹ entry)) from (So before entry) now b) → HeedsSo script text hints last new
@@ -296,7 +297,7 @@ module _ (script : Script) (text : List ℕ) (hints : List (List ℕ)) (last : �
   turn-parted old after was now false b new So from made is goes tells = absurd (true≢false (sym made))
 
   -- an entry whose lines the text has
-  pub turn-heeds : (old after : List Entry) (along : Along) (made : Bool) (answers : List (List ProbeAnswer)) → made ≡ true
+  pub turn-heeds : (old after : List Entry) (along : ReplayProgress) (made : Bool) (answers : List (List ProbeAnswer)) → made ≡ true
       → MakesNext script text old after along made → AllHeed script hints last (suc (frames old)) answers → AllHeed script hints last (frames after) answers
   turn-heeds old after along true answers made (MakesNext.makes entry grown part) heeds =
       let less = frames-one old entry in

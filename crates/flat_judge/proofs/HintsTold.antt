@@ -13,10 +13,10 @@ use Rattle.flat_base.specs.declared.ids.Actor.TheVariants.{Display, Session, Pro
 use Rattle.flat_scene.specs.declared.calls.Interaction.{Interaction}
 use Rattle.flat_scene.specs.declared.calls.Interaction.TheVariants.{Default, SemanticallyInvisible}
 use Rattle.flat_scene.specs.declared.frames.Hit.{Hit}
-use Rattle.flat_scene.specs.declared.frames.Lost.{Lost}
+use Rattle.flat_scene.specs.declared.frames.LostDisplay.{LostDisplay}
 use Rattle.flat_scene.specs.declared.journal.Entry.{Entry}
-use Rattle.flat_scene.specs.declared.script.Body.{Body}
-use Rattle.flat_scene.specs.declared.script.Body.TheVariants as body
+use Rattle.flat_scene.specs.declared.script.LineBody.{LineBody}
+use Rattle.flat_scene.specs.declared.script.LineBody.TheVariants as body
 use Rattle.flat_scene.specs.declared.script.ProbeLine.TheVariants as probe
 use Rattle.flat_scene.specs.declared.script.ScriptLine.{ScriptLine}
 use Rattle.flat_rules.specs.Legal.{frames}
@@ -88,7 +88,7 @@ module _ (script : Script) (named : IsNamed script) where
       fine-more (name_at script.sessions (hit.session.0 - 1)) (number (how hit.interaction) ∷ hit_words script hits)
       (name-fine script.sessions named.sessions (hit.session.0 - 1)) (number-fine (how hit.interaction) (hit_words script hits) (hits-fine hits))
 
-  words-fine : (history : List Entry) (f : ℕ) (text : Body) → list_all is_word (seen_words script history f text) ≡ true
+  words-fine : (history : List Entry) (f : ℕ) (text : LineBody) → list_all is_word (seen_words script history f text) ≡ true
   words-fine history f (body.Probe (probe.Hit x y)) =
       let hits = hit_words script (hits_at script.setup (begin_of f history) x y) in
       fine-more (signed_decimal x) (signed_decimal y ∷ codes "frame" ∷ number f ∷ hits) (signed-word x)
@@ -122,7 +122,7 @@ module _ (script : Script) (named : IsNamed script) where
       below : (f : ℕ) → f < 4294967296 → nat_lt f 4294967296 ≡ true
       below f few = grind (arith, nat_tests)
 
-  names-frame : (history : List Entry) (p : ℕ) (name digits : Word) (f : ℕ) (text : Body) → f < 2 ^ 32 → is_asking (Probe p) text ≡ true
+  names-frame : (history : List Entry) (p : ℕ) (name digits : Word) (f : ℕ) (text : LineBody) → f < 2 ^ 32 → is_asking (Probe p) text ≡ true
       → frame_told (name ∷ digits ∷ seen_words script history f text) ≡ f
   names-frame history p name digits f (body.Probe (probe.Hit x y)) few asks = low f few
   names-frame history p name digits f (body.Probe (probe.Await n)) few asks = low f few
@@ -203,7 +203,7 @@ module _ (script : Script) (named : IsNamed script) where
       front (x ∷ xs) = front xs
 
   -- the last lines of a report
-  lines-are : (history : List Entry) (lost : List Lost) (seen : List ℕ) → length seen ≡ length (probe_lines script)
+  lines-are : (history : List Entry) (lost : List LostDisplay) (seen : List ℕ) → length seen ≡ length (probe_lines script)
       → answer_lines script (report script history lost seen)
       ≡ map line_of (map (seen_line script history) (zip (probe_lines script) seen) ++ end_line (length history) (frames history) ∷ [])
   lines-are history lost seen many =
@@ -316,7 +316,8 @@ module _ (script : Script) (named : IsNamed script) where
   share seen n = select of_probe n (zip (probe_lines script) seen)
 
   -- the hints of a report are what each probe saw
-  pub hints-are : (history : List Entry) (lost : List Lost) (seen : List ℕ) (n : ℕ) → list_all (is_of_probe script.setup.probes) (probe_lines script) ≡ true
+  pub hints-are : (history : List Entry) (lost : List LostDisplay) (seen : List ℕ) (n : ℕ) → list_all (is_of_probe script.setup.probes) (probe_lines script)
+      ≡ true
       → is_seeing script history seen ≡ true → frames history < 2 ^ 32
       → hints_of script (report script history lost seen) n ≡ share seen n
   hints-are history lost seen n of seeing few =

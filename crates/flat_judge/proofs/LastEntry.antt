@@ -3,9 +3,9 @@ use Rattle.std.proofs.Common.{◌≡◌, ℕ, ℤ, suc, ◌+◌, ◌-◌, ◌≤
 use Rattle.std.proofs.Common.{Some, refl, sym, ap, ◌∙◌, arith, length-append}
 use Rattle.flat_scene.specs.declared.frames.Hit.{Hit}
 use Rattle.flat_scene.specs.declared.journal.Entry.{Entry}
-use Rattle.flat_scene.specs.declared.journal.Kind.{Kind}
-use Rattle.flat_scene.specs.declared.journal.Kind.TheVariants as kind
-use Rattle.flat_scene.specs.declared.journal.Post.{Post}
+use Rattle.flat_scene.specs.declared.journal.EntryKind.{EntryKind}
+use Rattle.flat_scene.specs.declared.journal.EntryKind.TheVariants as kind
+use Rattle.flat_scene.specs.declared.journal.PostedEvent.{PostedEvent}
 use Rattle.flat_scene.specs.declared.journal.Reply.{Reply}
 use Rattle.flat_scene.specs.declared.setup.Setup.{Setup}
 use Rattle.flat_scene.specs.History.{◌▹◌, is_finish}
@@ -39,7 +39,7 @@ pub before-other : (before : List Entry) (entry : Entry) → is_finish entry.kin
 before-other before entry other many is = is ∙ frames-one before entry ∙ ap (λ b. cond b (suc (frames before)) (frames before)) other
 
 -- only an entry that asks for a point says hits
-said : (script : Script) (n line : ℕ) (asked : Kind) (answer : Reply) (hits : ℤ → ℤ → List Hit) (some : List Hit)
+said : (script : Script) (n line : ℕ) (asked : EntryKind) (answer : Reply) (hits : ℤ → ℤ → List Hit) (some : List Hit)
     → ((x y : ℤ) → asked ≡ kind.Hit x y → some ≡ hits x y)
     → said_words script n (λ x y. some) line asked answer ≡ said_words script n hits line asked answer
 said script n line (kind.Hit x y) answer hits some same = ap (λ hs. number line ∷ point_words script x y n hs) (same x y refl)
@@ -73,26 +73,26 @@ text-last script before entry finish =
 -- ---- its events
 
 lines-are : (script : Script) (n : ℕ) (sent : List Sent)
-    → map (post_line script) (map (λ (one : Sent). let p : Post = record { entry = n; session = one.to; event = one.event } in p) sent)
+    → map (post_line script) (map (λ (one : Sent). let p : PostedEvent = record { entry = n; session = one.to; event = one.event } in p) sent)
     ≡ map (λ one. event_line script one.to one.event) sent
 lines-are script n [] = refl
 lines-are script n (one ∷ sent) = ap (λ t. event_line script one.to one.event ∷ t) (lines-are script n sent)
 
-pub events-are : (script : Script) (before : List Entry) (entry : Entry) (all : List Post) (many : ℕ) → all ≡ posts script.setup (before ▹ entry)
+pub events-are : (script : Script) (before : List Entry) (entry : Entry) (all : List PostedEvent) (many : ℕ) → all ≡ posts script.setup (before ▹ entry)
     → many ≡ length (posts script.setup before)
     → text_of (map (post_line script) (drop many all)) ≡ events_text script before entry
 events-are script before entry all many is count =
     (λ i. text_of (map (post_line script) (drop (count i) (is i))))
-    ∙ ap (λ (ps : List Post). text_of (map (post_line script) ps))
+    ∙ ap (λ (ps : List PostedEvent). text_of (map (post_line script) ps))
     (drop-append_seam (posts script.setup before) (map
-    (λ (one : Sent). let p : Post = record { entry = length before; session = one.to; event = one.event } in p) (posted script.setup before entry)))
+    (λ (one : Sent). let p : PostedEvent = record { entry = length before; session = one.to; event = one.event } in p) (posted script.setup before entry)))
     ∙ ap text_of (lines-are script (length before) (posted script.setup before entry))
 
-pub events-within : (setup : Setup) (before : List Entry) (entry : Entry) (all : List Post) (many : ℕ) → all ≡ posts setup (before ▹ entry)
+pub events-within : (setup : Setup) (before : List Entry) (entry : Entry) (all : List PostedEvent) (many : ℕ) → all ≡ posts setup (before ▹ entry)
     → many ≡ length (posts setup before) → many ≤ length all
 events-within setup before entry all many is count =
     let long : length all ≡ length (posts setup before) + length
-    (map (λ (one : Sent). let p : Post = record { entry = length before; session = one.to; event = one.event } in p) (posted setup before entry)) =
+    (map (λ (one : Sent). let p : PostedEvent = record { entry = length before; session = one.to; event = one.event } in p) (posted setup before entry)) =
     ap length is ∙ length-append (posts setup before) _ in
     omega (arith, long, count)
 

@@ -8,7 +8,7 @@ use Rattle.std.specs.List.{list_all}
 use Rattle.std.proofs.lemmas.Bool.{and_parts, eqb-true}
 use Rattle.std.proofs.lemmas.Bool.Decides.{nat_tests}
 use Rattle.flat_base.proofs.lemmas.Tests.{all-more, and-left, and-right, and-true}
-use Rattle.flat_scene.specs.declared.frames.Lost.{Lost}
+use Rattle.flat_scene.specs.declared.frames.LostDisplay.{LostDisplay}
 use Rattle.flat_scene.specs.declared.journal.Entry.{Entry}
 use Rattle.flat_rules.specs.Legal.{frames}
 use Rattle.flat_lines.specs.FrameLines.{lost_at, lost_line}
@@ -27,14 +27,14 @@ use Rattle.flat_judge.proofs.Fitting.{goes_before, loss-more}
 
 -- ---- losses stand in order
 
-pub loss-parts : (history : List Entry) (a : Lost) (later : List Lost) → is_loss history (a ∷ later) ≡ true
+pub loss-parts : (history : List Entry) (a : LostDisplay) (later : List LostDisplay) → is_loss history (a ∷ later) ≡ true
     → (list_all (goes_before a) later ≡ true) × (is_loss history later ≡ true)
 loss-parts history a later is =
     let number_fits = nat_lt 0 a.frame.0 && nat_le a.frame.0 (frames history) in
     let first = and-left (number_fits && list_all (goes_before a) later) (is_loss history later) is in
     (and-right number_fits (list_all (goes_before a) later) first, and-right (number_fits && list_all (goes_before a) later) (is_loss history later) is)
 
-later-behind : (n : ℕ) (a : Lost) (later : List Lost) → n < a.frame.0 → list_all (goes_before a) later ≡ true → are_behind n later ≡ true
+later-behind : (n : ℕ) (a : LostDisplay) (later : List LostDisplay) → n < a.frame.0 → list_all (goes_before a) later ≡ true → are_behind n later ≡ true
 later-behind n a [] less before = refl
 later-behind n a (b ∷ later) less before =
     let here : goes_before a b ≡ true = and-left (goes_before a b) (list_all (goes_before a) later) before in
@@ -47,18 +47,18 @@ later-behind n a (b ∷ later) less before =
     by false is order = let same : (a.frame.0 == b.frame.0) ≡ true =
         and-left (a.frame.0 == b.frame.0) (nat_lt a.display b.display) order in grind (arith, nat_tests)
 
-abbrev pub are_at : ℕ → List Lost → Bool
+abbrev pub are_at : ℕ → List LostDisplay → Bool
 are_at n lost = list_all (λ one. one.frame.0 == n) lost
 
 -- Losses behind a frame are those of the next one, and those of later ones.
-pub record Parted (frame : ℕ) (lost : List Lost) : Type 0 where
-  pub here : List Lost
-  pub later : List Lost
+pub record Parted (frame : ℕ) (lost : List LostDisplay) : Type 0 where
+  pub here : List LostDisplay
+  pub later : List LostDisplay
   pub is : lost ≡ here ++ later
   pub are_here : are_at (suc frame) here ≡ true
   pub are_later : are_behind (suc frame) later ≡ true
 
-pub part : (history : List Entry) (frame : ℕ) (lost : List Lost) → are_behind frame lost ≡ true → is_loss history lost ≡ true → Parted frame lost
+pub part : (history : List Entry) (frame : ℕ) (lost : List LostDisplay) → are_behind frame lost ≡ true → is_loss history lost ≡ true → Parted frame lost
 part history frame [] behind loss = record { here = []; later = []; is = refl; are_here = refl; are_later = refl }
 part history frame (x ∷ lost) behind loss =
     by (x.frame.0 == suc frame) refl (part history frame lost (and-right (nat_lt frame x.frame.0) (are_behind frame lost) behind)
@@ -75,7 +75,7 @@ part history frame (x ∷ lost) behind loss =
         record {
           here = x ∷ rest.here;
           later = rest.later;
-          is = ap (λ (ls : List Lost). x ∷ ls) rest.is;
+          is = ap (λ (ls : List LostDisplay). x ∷ ls) rest.is;
           are_here = and-true is rest.are_here;
           are_later = rest.are_later;
         }
@@ -85,7 +85,7 @@ part history frame (x ∷ lost) behind loss =
         let first_later : nat_lt (suc frame) x.frame.0 ≡ true = grind (arith, nat_tests) in
         record { here = []; later = x ∷ lost; is = refl; are_here = refl; are_later = and-true first_later (later-behind (suc frame) x lost more parts.0) }
 
-none-behind : (n : ℕ) (later : List Lost) → are_behind n later ≡ true → lost_at n later ≡ []
+none-behind : (n : ℕ) (later : List LostDisplay) → are_behind n later ≡ true → lost_at n later ≡ []
 none-behind n [] of_later = refl
 none-behind n (x ∷ later) of_later =
     let first = and-left (nat_lt n x.frame.0) (are_behind n later) of_later in
@@ -93,18 +93,19 @@ none-behind n (x ∷ later) of_later =
     rw other (none-behind n later (and-right (nat_lt n x.frame.0) (are_behind n later) of_later))
 
 -- those at the frame, among all
-pub at-here : (n : ℕ) (here later : List Lost) → are_at n here ≡ true → are_behind n later ≡ true → lost_at n (here ++ later) ≡ here
+pub at-here : (n : ℕ) (here later : List LostDisplay) → are_at n here ≡ true → are_behind n later ≡ true → lost_at n (here ++ later) ≡ here
 at-here n [] later of_here of_later = none-behind n later of_later
 at-here n (x ∷ here) later of_here of_later =
     let first = and-left (x.frame.0 == n) (are_at n here) of_here in
-    rw first (ap (λ (ls : List Lost). x ∷ ls) (at-here n here later (and-right (x.frame.0 == n) (are_at n here) of_here) of_later))
+    rw first (ap (λ (ls : List LostDisplay). x ∷ ls) (at-here n here later (and-right (x.frame.0 == n) (are_at n here) of_here) of_later))
 
-among : (a : Lost) (before : List Lost) (x : Lost) (after : List Lost) → list_all (goes_before a) (before ++ x ∷ after) ≡ true → goes_before a x ≡ true
+among : (a : LostDisplay) (before : List LostDisplay) (x : LostDisplay) (after : List LostDisplay) → list_all (goes_before a) (before ++ x ∷ after) ≡ true
+    → goes_before a x ≡ true
 among a [] x after all = and-left (goes_before a x) (list_all (goes_before a) after) all
 among a (b ∷ before) x after all = among a before x after (and-right (goes_before a b) (list_all (goes_before a) (before ++ x ∷ after)) all)
 
 -- a loss fits behind those before it
-pub fits-there : (history : List Entry) (before : List Lost) (x : Lost) (after : List Lost) → is_loss history (before ++ x ∷ after) ≡ true
+pub fits-there : (history : List Entry) (before : List LostDisplay) (x : LostDisplay) (after : List LostDisplay) → is_loss history (before ++ x ∷ after) ≡ true
     → fits_behind before x ≡ true
 fits-there history [] x after loss = refl
 fits-there history (a ∷ before) x after loss =
@@ -122,19 +123,20 @@ of-32-bits n is =
     let few : nat_lt n (2 ^ 32) ≡ true = and-right (nat_lt 0 n) (nat_lt n (2 ^ 32)) is in
     let less : n < 4294967296 = grind (arith, nat_tests) in omega (arith, less)
 
-small : (one : Lost) → is_small one ≡ true → one.display < 2 ^ 64
+small : (one : LostDisplay) → is_small one ≡ true → one.display < 2 ^ 64
 small one fits = let few = of-32-bits one.display fits in omega (arith, few)
 
 -- the line of a display that was lost tells which
-pub next-is : (one : Lost) (text rest : List ℕ) → is_display_number one.display ≡ true → text ≡ text_of (lost_line one ∷ []) ++ rest
+pub next-is : (one : LostDisplay) (text rest : List ℕ) → is_display_number one.display ≡ true → text ≡ text_of (lost_line one ∷ []) ++ rest
     → next_display text ≡ Some one.display
 next-is one text rest low is = ap next_display (is ∙ text-sheet (lost_line one ∷ []) rest)
     ∙ loss-next one rest (natural-decimal one.display (let less = small one low in omega (arith, less)))
 
-same-loss : (x y : Lost) → x.display ≡ y.display → x.frame.0 ≡ y.frame.0 → x ≡ y
+same-loss : (x y : LostDisplay) → x.display ≡ y.display → x.frame.0 ≡ y.frame.0 → x ≡ y
 same-loss x y display frame = λ i. record { display = display i; frame = record { 0 = frame i } }
 
-first-loss : (n : ℕ) (x y : Lost) (a b : List ℕ) → is_at n x ≡ true → is_at n y ≡ true → line_on (lost_line x) a ≡ line_on (lost_line y) b → (x ≡ y) × (a ≡ b)
+first-loss : (n : ℕ) (x y : LostDisplay) (a b : List ℕ) → is_at n x ≡ true → is_at n y ≡ true → line_on (lost_line x) a ≡ line_on (lost_line y) b → (x ≡ y)
+    × (a ≡ b)
 first-loss n x y a b at_x at_y is =
     let of_x = and_parts (x.frame.0 == n) (is_small x) at_x in
     let of_y = and_parts (y.frame.0 == n) (is_small y) at_y in
@@ -148,7 +150,7 @@ first-loss n x y a b at_x at_y is =
     ap (λ (m : ℕ). laid (codes "lost" ∷ codes "at" ∷ codes "frame" ∷ number m ∷ []) a) (sym frame) ∙ parts.1 in
     (same-loss x y display frame, laid-same (codes "lost" ∷ lost_words y) a b rest)
 
-pub same-losses : (frame : ℕ) (history : List Entry) (before new here later : List Lost) (x a : List ℕ) → list_all (is_at frame) new ≡ true
+pub same-losses : (frame : ℕ) (history : List Entry) (before new here later : List LostDisplay) (x a : List ℕ) → list_all (is_at frame) new ≡ true
     → list_all (is_at frame) here ≡ true
     → is_loss history (before ++ (here ++ later)) ≡ true → NoMoreLost frame (before ++ new) x → NoLoss a
     → sheet (map lost_line new) x ≡ sheet (map lost_line here) a → new ≡ here
@@ -157,7 +159,7 @@ same-losses frame history before [] (y ∷ here) later x a of_new of_here loss s
     let of_y : is_at frame y ≡ true = and-left (is_at frame y) (list_all (is_at frame) here) of_here in
     let small : is_small y ≡ true = and-right (y.frame.0 == frame) (is_small y) of_y in
     let at : y.frame.0 ≡ frame = eqb-true y.frame.0 frame (and-left (y.frame.0 == frame) (is_small y) of_y) in
-    let fits : fits_behind (before ++ []) y ≡ true = ap (λ (ls : List Lost). fits_behind ls y) (append-nil before)
+    let fits : fits_behind (before ++ []) y ≡ true = ap (λ (ls : List LostDisplay). fits_behind ls y) (append-nil before)
     ∙ fits-there history before y (here ++ later) loss in
     absurd (stops y (sheet (map lost_line here) a) at small fits (is ∙ sym (text-sheet (lost_line y ∷ []) (sheet (map lost_line here) a))))
 same-losses frame history before (n ∷ new) [] later x a of_new of_here loss stops none is = absurd (none n (sheet (map lost_line new) x) (sym is))
@@ -165,18 +167,18 @@ same-losses frame history before (n ∷ new) (y ∷ here) later x a of_new of_he
     let of_n : is_at frame n ≡ true = and-left (is_at frame n) (list_all (is_at frame) new) of_new in
     let of_y : is_at frame y ≡ true = and-left (is_at frame y) (list_all (is_at frame) here) of_here in
     let first = first-loss frame n y (sheet (map lost_line new) x) (sheet (map lost_line here) a) of_n of_y is in
-    let L : List Lost → Type 0 = λ ls. is_loss history ls ≡ true in
-    let N : List Lost → Type 0 = λ ls. NoMoreLost frame ls x in
+    let L : List LostDisplay → Type 0 = λ ls. is_loss history ls ≡ true in
+    let N : List LostDisplay → Type 0 = λ ls. NoMoreLost frame ls x in
     let loss' : is_loss history ((before ++ n ∷ []) ++ (here ++ later)) ≡ true =
-    subst L (ap (λ (z : Lost). before ++ z ∷ (here ++ later)) (sym first.0) ∙ sym (append_assoc before (n ∷ []) (here ++ later))) loss in
+    subst L (ap (λ (z : LostDisplay). before ++ z ∷ (here ++ later)) (sym first.0) ∙ sym (append_assoc before (n ∷ []) (here ++ later))) loss in
     let rest = same-losses frame history (before ++ n ∷ []) new here later x a (and-right (is_at frame n) (list_all (is_at frame) new) of_new)
     (and-right (is_at frame y) (list_all (is_at frame) here) of_here)
     loss' (subst N (sym (append_assoc before (n ∷ []) new)) stops) none first.1 in
-    ap (λ (z : Lost). z ∷ new) first.0 ∙ ap (λ (ls : List Lost). y ∷ ls) rest
+    ap (λ (z : LostDisplay). z ∷ new) first.0 ∙ ap (λ (ls : List LostDisplay). y ∷ ls) rest
 
 -- ---- reading them
 
-pub same-one : (one : Lost) (display frame : ℕ) → Some display ≡ Some one.display → one.frame.0 ≡ frame
+pub same-one : (one : LostDisplay) (display frame : ℕ) → Some display ≡ Some one.display → one.frame.0 ≡ frame
     → one ≡ record { display = display; frame = record { 0 = frame } }
 same-one one display frame told at = let same : display ≡ one.display = cc in λ i. record { display = sym same i; frame = record { 0 = at i } }
 
@@ -198,35 +200,36 @@ pass-on text at next bytes within passes =
     let both : length (take at text ++ bytes) ≡ length (take at text) + length bytes = length-append (take at text) bytes in
     omega (arith, long, was, both)
 
-pub pass-further : (text : List ℕ) (at next : ℕ) (one : Lost) → at ≤ length text → Passes text at (text_of (lost_line one ∷ [])) (Some next) → at < next
+pub pass-further : (text : List ℕ) (at next : ℕ) (one : LostDisplay) → at ≤ length text → Passes text at (text_of (lost_line one ∷ [])) (Some next) → at < next
 pass-further text at next one within passes =
     let on = pass-on text at next (text_of (lost_line one ∷ [])) within passes in
     let some : 0 < length (text_of (lost_line one ∷ [])) = omega arith in
     omega (arith, on, some)
 
 -- no line stands behind the end of a text
-pub stops-at-end : (frame : ℕ) (lost : List Lost) (text : List ℕ) → text ≡ [] → NoMoreLost frame lost text
+pub stops-at-end : (frame : ℕ) (lost : List LostDisplay) (text : List ℕ) → text ≡ [] → NoMoreLost frame lost text
 stops-at-end frame lost text end one rest at low fits is = let wrong : text_of (lost_line one ∷ []) ++ rest ≡ [] =
     sym is ∙ end in let long : length (text_of (lost_line one ∷ []) ++ rest) ≡ 0 = ap length wrong in absurd (omega (arith, long))
 
 -- one more may be lost
-losses-more : (frame : ℕ) (lost : List Lost) (one : Lost) → 0 < frame → one.frame.0 ≡ frame → is_display_number one.display ≡ true → fits_behind lost one ≡ true
+losses-more : (frame : ℕ) (lost : List LostDisplay) (one : LostDisplay) → 0 < frame → one.frame.0 ≡ frame → is_display_number one.display ≡ true
+    → fits_behind lost one ≡ true
     → AreLosses frame lost → AreLosses frame (lost ++ one ∷ [])
 losses-more frame lost one some at small fits losses = (
   (λ history many. loss-more history lost one (let above : nat_lt 0 one.frame.0 ≡ true = grind (arith, nat_tests) in above)
       (let low : nat_le one.frame.0 (frames history) ≡ true = grind (arith, nat_tests) in low) fits (losses.0 history many)),
-  all-more (λ (l : Lost). is_display_number l.display) lost one losses.1 small,
+  all-more (λ (l : LostDisplay). is_display_number l.display) lost one losses.1 small,
 )
 
 -- some displays that were read, and one more
-pub record Reading (frame : ℕ) (old new : List Lost) (text : List ℕ) (at next : ℕ) : Type 0 where
-  pub more : List Lost
+pub record Reading (frame : ℕ) (old new : List LostDisplay) (text : List ℕ) (at next : ℕ) : Type 0 where
+  pub more : List LostDisplay
   pub is : new ≡ old ++ more
   pub are_at : list_all (λ one. (one.frame.0 == frame) && is_display_number one.display) more ≡ true
   pub passes : Passes text at (text_of (map lost_line more)) (Some next)
   pub losses : 0 < frame → AreLosses frame old → AreLosses frame new
 
-pub reading-none : (frame : ℕ) (lost : List Lost) (text : List ℕ) (at : ℕ) → at ≤ length text → Reading frame lost lost text at at
+pub reading-none : (frame : ℕ) (lost : List LostDisplay) (text : List ℕ) (at : ℕ) → at ≤ length text → Reading frame lost lost text at at
 reading-none frame lost text at within = record {
   more = [];
   is = sym (append-nil lost);
@@ -235,12 +238,12 @@ reading-none frame lost text at within = record {
   losses = λ some losses. losses;
 }
 
-pub reading-more : (frame : ℕ) (old lost new : List Lost) (text : List ℕ) (at place next : ℕ) → Reading frame old lost text at place
+pub reading-more : (frame : ℕ) (old lost new : List LostDisplay) (text : List ℕ) (at place next : ℕ) → Reading frame old lost text at place
     → ReadsLoss frame lost new text place next → Reading frame old new text at next
 reading-more frame old lost new text at place next so one = record {
   more = so.more ++ one.one ∷ [];
-  is = one.is ∙ ap (λ (ls : List Lost). ls ++ one.one ∷ []) so.is ∙ append_assoc old so.more (one.one ∷ []);
-  are_at = all-more (λ (l : Lost). (l.frame.0 == frame) && is_display_number l.display) so.more one.one so.are_at one.is_at;
+  is = one.is ∙ ap (λ (ls : List LostDisplay). ls ++ one.one ∷ []) so.is ∙ append_assoc old so.more (one.one ∷ []);
+  are_at = all-more (λ (l : LostDisplay). (l.frame.0 == frame) && is_display_number l.display) so.more one.one so.are_at one.is_at;
   passes = (
     one.passes.0,
     λ before begins.
@@ -251,13 +254,14 @@ reading-more frame old lost new text at place next so one = record {
         (one.passes.1 (before ++ text_of (map lost_line so.more)) (so.passes.1 before begins))),
   );
   losses = λ some losses.
-      (let L : List Lost → Type 0 = AreLosses frame in
+      (let L : List LostDisplay → Type 0 = AreLosses frame in
       subst L (sym one.is) (losses-more frame lost one.one some
       (eqb-true one.one.frame.0 frame (and-left (one.one.frame.0 == frame) (is_display_number one.one.display) one.is_at))
       (and-right (one.one.frame.0 == frame) (is_display_number one.one.display) one.is_at) one.fits (so.losses some losses)));
 }
 
-pub reading-ends : (frame : ℕ) (old new : List Lost) (text : List ℕ) (at next : ℕ) → Reading frame old new text at next → NoMoreLost frame new (drop next text)
+pub reading-ends : (frame : ℕ) (old new : List LostDisplay) (text : List ℕ) (at next : ℕ) → Reading frame old new text at next
+    → NoMoreLost frame new (drop next text)
     → ReadsLosses frame old new text at next
 reading-ends frame old new text at next so stops = record {
   more = so.more;

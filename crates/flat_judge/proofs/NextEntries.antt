@@ -16,9 +16,9 @@ use Rattle.flat_playable.specs.Playable.{is_playable}
 use Rattle.flat_report.proofs.lemmas.Turns.{Stands}
 use Rattle.flat_play.proofs.lemmas.Begun.{follows-so-far}
 use Rattle.flat_play.proofs.lemmas.Places.{drop_all}
-use Rattle.flat_judge.specs.declared.following.Along.{Along}
+use Rattle.flat_judge.specs.declared.following.ReplayProgress.{ReplayProgress}
 use Rattle.flat_judge.specs.declared.guided_run.GuidedRun.{GuidedRun}
-use Rattle.flat_judge.specs.declared.seat.Seat.{Seat}
+use Rattle.flat_judge.specs.declared.session_cursor.SessionCursor.{SessionCursor}
 use Rattle.flat_judge.specs.Following.{IsAlong, MakesNext, next_actor}
 use Rattle.flat_judge.specs.GuidedRuns.{DisplayGoes, Goes, RunStands, SitsBy}
 use Rattle.flat_judge.proofs.Growth.{display-stays}
@@ -27,7 +27,7 @@ use Rattle.flat_judge.proofs.Ends.{display-done, makes-next, session-done, stops
 
 -- ---- a run stands by the rules
 
-sits-follows : (script : Script) → is_playable script ≡ true → (s : SessionNo) (history : List Entry) (seat : Seat) (ended : Bool)
+sits-follows : (script : Script) → is_playable script ≡ true → (s : SessionNo) (history : List Entry) (seat : SessionCursor) (ended : Bool)
     → SitsBy script s history seat ended → Follows script.setup script.count (session_lines s script.lines) (own s history)
 sits-follows script playable s history seat true sits = sits.follows
 sits-follows script playable s history seat false sits = follows-so-far script playable s seat.place (own s history) sits.stands.reads.follows
@@ -54,13 +54,13 @@ run-stands script playable guided stands legal = record {
         subst F same (sits-follows script playable (record { 0 = s.0 - 1 + 1 }) guided.screen.board.history seat seat.has_ended
         (stands.seats.each (s.0 - 1) (some guided.seats.items within) within))
       where
-        some : (seats : List Seat) → s.0 - 1 < length seats → Seat
+        some : (seats : List SessionCursor) → s.0 - 1 < length seats → SessionCursor
         some [] within = absurd (omega arith)
         some (seat ∷ later) within = seat
 
 -- ---- whose entry comes next
 
-module _ (script : Script) (text : List ℕ) (old new : Machine) (along : Along) (is : IsAlong script text old.history along) where
+module _ (script : Script) (text : List ℕ) (old new : Machine) (along : ReplayProgress) (is : IsAlong script text old.history along) where
   -- nobody's
   pub nobody-makes : new.history ≡ old.history → next_actor script (drop along.at text) ≡ None → MakesNext script text old.history new.history along false
   nobody-makes same nobody = MakesNext.stops same (stops-silent script text old.history along is nobody)
@@ -89,7 +89,7 @@ module _ (script : Script) (text : List ℕ) (old new : Machine) (along : Along)
       MakesNext.makes entry grown (makes-next script text old.history along is entry turn (subst S grown standing))
 
   pub session-ended : (s : SessionNo) → is_declared script.setup s ≡ true → next_actor script (drop along.at text) ≡ Some (Session s)
-      → new.history ≡ old.history → (seat : Seat) → SitsBy script s old.history seat true
+      → new.history ≡ old.history → (seat : SessionCursor) → SitsBy script s old.history seat true
       → MakesNext script text old.history new.history along false
   session-ended s declared turn same seat reads =
       MakesNext.stops same (stops-other script text old.history along is (Session s) turn
@@ -110,9 +110,10 @@ pub seat-number : (script : Script) (s : SessionNo) → is_declared script.setup
 seat-number script s declared = let least : 1 ≤ s.0 = grind (arith, nat_tests) in omega (arith, least)
 
 -- the seat of a session that has ended
-pub ended-makes : (script : Script) (text : List ℕ) (guided : GuidedRun) (along : Along) (is : IsAlong script text guided.screen.board.history along)
+pub ended-makes : (script : Script) (text : List ℕ) (guided : GuidedRun) (along : ReplayProgress) (is : IsAlong script text guided.screen.board.history along)
     (s : SessionNo) → RunStands script guided → is_declared script.setup s ≡ true
-    → next_actor script (drop along.at text) ≡ Some (Session s) → (seat : Seat) → seat ≡ get_or guided.seats.items (s.0 - 1) seat → seat.has_ended ≡ true
+    → next_actor script (drop along.at text) ≡ Some (Session s) → (seat : SessionCursor) → seat ≡ get_or guided.seats.items (s.0 - 1) seat
+    → seat.has_ended ≡ true
     → MakesNext script text guided.screen.board.history guided.screen.board.history along false
 ended-makes script text guided along is s stands declared turn seat found ended =
     let history = guided.screen.board.history in
@@ -123,7 +124,7 @@ ended-makes script text guided along is s stands declared turn seat found ended 
     (subst B ended (subst P (seat-number script s declared) sits))
 
 -- and of one that goes on
-pub session-enters : (script : Script) (text : List ℕ) (old new : GuidedRun) (along : Along) (is : IsAlong script text old.screen.board.history along)
+pub session-enters : (script : Script) (text : List ℕ) (old new : GuidedRun) (along : ReplayProgress) (is : IsAlong script text old.screen.board.history along)
     → is_playable script ≡ true → (s : SessionNo) → is_declared script.setup s ≡ true
     → next_actor script (drop along.at text) ≡ Some (Session s) → Goes (Session (record { 0 = s.0 - 1 + 1 })) old.screen.board new.screen.board true
     → RunStands script new → Legal new.screen.board.setup new.screen.board.history

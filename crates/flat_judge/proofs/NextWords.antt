@@ -11,10 +11,10 @@ use Rattle.flat_base.specs.declared.ids.Actor.{Actor}
 use Rattle.flat_base.specs.declared.ids.Actor.TheVariants.{Display, Session, Probe}
 use Rattle.flat_base.specs.declared.ids.SessionNo.{SessionNo}
 use Rattle.flat_scene.specs.declared.frames.Hit.{Hit}
-use Rattle.flat_scene.specs.declared.frames.Lost.{Lost}
+use Rattle.flat_scene.specs.declared.frames.LostDisplay.{LostDisplay}
 use Rattle.flat_scene.specs.declared.journal.Entry.{Entry}
-use Rattle.flat_scene.specs.declared.journal.Kind.{Kind}
-use Rattle.flat_scene.specs.declared.journal.Kind.TheVariants as kind
+use Rattle.flat_scene.specs.declared.journal.EntryKind.{EntryKind}
+use Rattle.flat_scene.specs.declared.journal.EntryKind.TheVariants as kind
 use Rattle.flat_scene.specs.declared.journal.Reply.{Reply}
 use Rattle.flat_scene.specs.declared.script.ScriptLine.{ScriptLine}
 use Rattle.flat_scene.specs.Setups.{is_declared}
@@ -73,7 +73,7 @@ number-no-end : (n : ℕ) → bytes_eq (number n) (codes "ends") ≡ false
 number-no-end n = differs (number n) (codes "ends") (λ same. let wrong : list_all is_digit (codes "ends") ≡ true = ap (list_all is_digit) (sym same)
     ∙ number-digits n in true≢false (sym wrong ∙ refl))
 
-says : (script : Script) (frames : ℕ) (hits : ℤ → ℤ → List Hit) (line : ℕ) (made : Kind) (answer : Reply)
+says : (script : Script) (frames : ℕ) (hits : ℤ → ℤ → List Hit) (line : ℕ) (made : EntryKind) (answer : Reply)
     → Says (said_words script frames hits line made answer)
 says script frames hits line (kind.End refused) answer = record { first = codes "end"; later = number refused ∷ []; is = refl; fine = refl; no_end = refl }
 says script frames hits line made answer = record {
@@ -171,7 +171,8 @@ module _ (script : Script) (named : IsNamed script) where
 -- ---- displays that were lost
 
 -- the line of a lost display tells its number, where that is read back
-pub loss-next : (one : Lost) (rest : List ℕ) → natural (number one.display) ≡ Some one.display → next_display (line_on (lost_line one) rest) ≡ Some one.display
+pub loss-next : (one : LostDisplay) (rest : List ℕ) → natural (number one.display) ≡ Some one.display
+    → next_display (line_on (lost_line one) rest) ≡ Some one.display
 loss-next one rest back =
     (λ i. display_by (first-word (codes "display") (number one.display ∷ codes "lost" ∷ lost_words one) rest refl i)
     (second-word (codes "display") (number one.display) (codes "lost" ∷ lost_words one) rest refl (number-word one.display) i))

@@ -7,14 +7,14 @@ use Rattle.std.specs.Str.{bytes_eq}
 use Rattle.std.proofs.lemmas.Slice.Eq.{bytes_eq-Decides}
 use Rattle.flat_base.specs.declared.ids.Actor.{Actor}
 use Rattle.flat_base.specs.declared.ids.Actor.TheVariants.{Display, Session, Probe}
-use Rattle.flat_scene.specs.declared.script.Body.{Body}
-use Rattle.flat_scene.specs.declared.script.Body.TheVariants as body
+use Rattle.flat_scene.specs.declared.script.LineBody.{LineBody}
+use Rattle.flat_scene.specs.declared.script.LineBody.TheVariants as body
 use Rattle.flat_places.specs.declared.kinds.FaultKind.TheVariants.{BadHead, Limit, TooLong, UnknownActor, UnknownCall}
 use Rattle.flat_places.specs.declared.script.Script.{Script}
 use Rattle.flat_places.specs.Forms.{Reading, Word, at_word, mapped, unless_kind, whole}
 use Rattle.flat_places.specs.Known.{knows}
 use Rattle.flat_places.specs.Names.{actor_named}
-use Rattle.flat_forms.specs.declared.lines.Part.TheVariants as part
+use Rattle.flat_forms.specs.declared.lines.TextPart.TheVariants as part
 use Rattle.flat_forms.specs.Body.{actor_line, body_line, counted_line, display_line, ratio_line, with_line}
 use Rattle.flat_forms.specs.Head.{empty}
 use Rattle.flat_forms.specs.Lines.{Sofar, words_read}
@@ -41,7 +41,7 @@ no_call s Display digit = ap (mapped body.Display) (no_display s digit)
 no_call s (Session a) digit = refl
 no_call s (Probe p) digit = refl
 
-refused : (s : Script) (n : ℕ) (who : Actor) (b : Bool) (r : Reading Body) (next : Script) → r ≡ Err UnknownCall
+refused : (s : Script) (n : ℕ) (who : Actor) (b : Bool) (r : Reading LineBody) (next : Script) → r ≡ Err UnknownCall
     → unless_kind Limit b (mapped (with_line s n who) r) ≡ Ok next → ⊥
 refused s n who true r next none is = let wrong : unless_kind Limit true (mapped (with_line s n who) (Err UnknownCall)) ≡ Ok next =
     ap (λ q. unless_kind Limit true (mapped (with_line s n who) q)) (sym none) ∙ is in cc

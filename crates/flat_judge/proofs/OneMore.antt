@@ -5,7 +5,7 @@ use Rattle.std.specs.List.{list_all}
 use Rattle.std.proofs.lemmas.Bool.Decides.{nat_tests}
 use Rattle.std.proofs.lemmas.List.{append_cancel_left}
 use Rattle.flat_base.proofs.lemmas.Tests.{and-left, and-right, and-true}
-use Rattle.flat_scene.specs.declared.frames.Lost.{Lost}
+use Rattle.flat_scene.specs.declared.frames.LostDisplay.{LostDisplay}
 use Rattle.flat_scene.specs.declared.journal.Entry.{Entry}
 use Rattle.flat_scene.specs.History.{◌▹◌, is_finish}
 use Rattle.flat_rules.specs.Ends.{to_begin, to_finished}
@@ -27,7 +27,7 @@ use Rattle.flat_report.proofs.lemmas.SeenTold.{probe-lines-are, seen-no-loss}
 use Rattle.flat_report.proofs.lemmas.Sheets.{line_on, sheet, text-sheet}
 use Rattle.flat_report.proofs.lemmas.Tails.{onto, tail, text-append}
 use Rattle.flat_report.proofs.lemmas.Turns.{Stands, stands, stood}
-use Rattle.flat_judge.specs.declared.following.Along.{Along}
+use Rattle.flat_judge.specs.declared.following.ReplayProgress.{ReplayProgress}
 use Rattle.flat_judge.specs.Following.{AllGoOn, AreLosses, Begins, GoesOnTo, IsAlong, IsLineTold, IsPart, IsShownTold, NoMoreLost, Passes, ReadsLosses}
 use Rattle.flat_judge.specs.Following.{are_behind, events_text, own_text, shown_text, told}
 use Rattle.flat_judge.specs.Verdicts.{NoRun, Run, report_of}
@@ -40,14 +40,14 @@ use Rattle.flat_report.specs.Runs.{is_display_number}
 
 -- ---- losses, and frames that pass
 
-pub behind-less : (n m : ℕ) (more : List Lost) → n ≤ m → are_behind m more ≡ true → are_behind n more ≡ true
+pub behind-less : (n m : ℕ) (more : List LostDisplay) → n ≤ m → are_behind m more ≡ true → are_behind n more ≡ true
 behind-less n m [] upto behind = refl
 behind-less n m (x ∷ more) upto behind =
     let first = and-left (nat_lt m x.frame.0) (are_behind m more) behind in
     let less : nat_lt n x.frame.0 ≡ true = grind (arith, nat_tests) in
     and-true less (behind-less n m more upto (and-right (nat_lt m x.frame.0) (are_behind m more) behind))
 
-pub losses-later : (n m : ℕ) (lost : List Lost) → n ≤ m → AreLosses n lost → AreLosses m lost
+pub losses-later : (n m : ℕ) (lost : List LostDisplay) → n ≤ m → AreLosses n lost → AreLosses m lost
 losses-later n m lost upto losses = ((λ history many. losses.0 history (omega (arith, upto, many))), losses.1)
 
 pub frames-upto : (before : List Entry) (entry : Entry) → frames before ≤ frames (before ▹ entry)
@@ -65,7 +65,7 @@ module _ (script : Script) (named : IsNamed script) where
   events-no-loss (sent ∷ sents) text none = event-no-loss script named sent.to sent.event
       (sheet (map (λ sent. event_line script sent.to sent.event) sents) text)
 
-  tail-no-loss : (lost : List Lost) (before later : List Entry) (rest : List ℕ) → Stands script.setup script.count script.lines (onto before later)
+  tail-no-loss : (lost : List LostDisplay) (before later : List Entry) (rest : List ℕ) → Stands script.setup script.count script.lines (onto before later)
       → NoLoss rest → NoLoss (sheet (tail (entry_lines script lost) before later) rest)
   tail-no-loss lost before [] rest standing none = none
   tail-no-loss lost before (entry ∷ later) rest standing none =
@@ -80,7 +80,7 @@ module _ (script : Script) (text : List ℕ) (before : List Entry) (entry : Entr
   abbrev pub rest_text : (run : Run script) → List Entry → List ℕ
   rest_text run later = text_of (tail (entry_lines script run.lost) (before ▹ entry) later) ++ ending run
 
-  abbrev earlier : (lost : List Lost) (frame : ℕ) (run : Run script) → frames before ≤ frame → GoesOnTo (before ▹ entry) lost frame run
+  abbrev earlier : (lost : List LostDisplay) (frame : ℕ) (run : Run script) → frames before ≤ frame → GoesOnTo (before ▹ entry) lost frame run
       → GoesOnTo before lost (frames before) run
   earlier lost frame run upto goes = record {
     later = entry ∷ goes.later;
@@ -91,7 +91,7 @@ module _ (script : Script) (text : List ℕ) (before : List Entry) (entry : Entr
   }
 
   -- its text
-  pub run-parts : (lost : List Lost) (frame : ℕ) (run : Run script) → text ≡ report_of script run → frames before ≤ frame
+  pub run-parts : (lost : List LostDisplay) (frame : ℕ) (run : Run script) → text ≡ report_of script run → frames before ≤ frame
       → (goes : GoesOnTo (before ▹ entry) lost frame run)
       → text ≡ told script lost before ++ (own_text script before entry
       ++ (text_of (shown_here script run.lost before entry) ++ (events_text script before entry ++ rest_text run goes.later)))
@@ -100,17 +100,17 @@ module _ (script : Script) (text : List ℕ) (before : List Entry) (entry : Entr
       ∙ ap (λ (t : List ℕ). told script lost before ++ t) (tail-parts script run.lost before entry goes.later (ending run))
 
   -- where the losses up to this entry are known, what it shows is known
-  shown-known : (lost : List Lost) (run : Run script) → GoesOnTo (before ▹ entry) lost (frames (before ▹ entry)) run
+  shown-known : (lost : List LostDisplay) (run : Run script) → GoesOnTo (before ▹ entry) lost (frames (before ▹ entry)) run
       → text_of (shown_here script run.lost before entry) ≡ shown_text script lost before entry
   shown-known lost run goes =
-      ap text_of (ap (λ (ls : List Lost). shown_here script ls before entry) goes.losses
+      ap text_of (ap (λ (ls : List LostDisplay). shown_here script ls before entry) goes.losses
       ∙ shown-agree script (lost ++ goes.more) lost before (is_finish entry.kind) (λ finish.
       (let more : frames (before ▹ entry) ≡ suc (frames before) = frames-one before entry ∙ ap (λ b. cond b (suc (frames before)) (frames before)) finish in
       prefix-agrees (frames (before ▹ entry)) lost goes.more goes.behind (suc (frames before)) (omega arith) (omega (arith, more)))))
 
   -- ---- bytes that pass
 
-  pub part-more : (part bytes : List ℕ) (frame next : ℕ) (along : Along) → IsPart script text before entry part frame along
+  pub part-more : (part bytes : List ℕ) (frame next : ℕ) (along : ReplayProgress) → IsPart script text before entry part frame along
       → Passes text along.at bytes (Some next) → IsPart script text before entry (part ++ bytes) frame (record along { at = next })
   part-more part bytes frame next along is passes =
       let B : List ℕ → Type 0 = λ b. Begins text b next in
@@ -123,11 +123,12 @@ module _ (script : Script) (text : List ℕ) (before : List Entry) (entry : Entr
       }
 
   -- the entry's own line
-  pub line-passes : (along : Along) (next : ℕ) → IsPart script text before entry [] (frames before) along
+  pub line-passes : (along : ReplayProgress) (next : ℕ) → IsPart script text before entry [] (frames before) along
       → Passes text along.at (own_text script before entry) (Some next) → IsLineTold script text before entry (record along { at = next })
   line-passes along next is passes = part-more [] (own_text script before entry) (frames before) next along is passes
 
-  pub line-parts : (along : Along) → IsPart script text before entry [] (frames before) along → Passes text along.at (own_text script before entry) None
+  pub line-parts : (along : ReplayProgress) → IsPart script text before entry [] (frames before) along
+      → Passes text along.at (own_text script before entry) None
       → NoRun script text
   line-parts along is parts read run report =
       let goes = is.led read run report in
@@ -137,7 +138,8 @@ module _ (script : Script) (text : List ℕ) (before : List Entry) (entry : Entr
       (subst B (append-nil (told script along.lost before)) is.begins) all
 
   -- an entry that finishes no frame shows nothing
-  pub shown-none : (along : Along) → is_finish entry.kind ≡ false → IsLineTold script text before entry along → IsShownTold script text before entry along
+  pub shown-none : (along : ReplayProgress) → is_finish entry.kind ≡ false → IsLineTold script text before entry along
+      → IsShownTold script text before entry along
   shown-none along other is =
       let same : frames (before ▹ entry) ≡ frames before = frames-one before entry ∙ ap (λ b. cond b (suc (frames before)) (frames before)) other in
       let none : shown_text script along.lost before entry ≡ [] = ap (λ b. text_of (cond b (shown_lines script along.lost before) [])) other in
@@ -148,7 +150,7 @@ module _ (script : Script) (text : List ℕ) (before : List Entry) (entry : Entr
 
   -- ---- the events
 
-  pub events-pass : (along : Along) (next many : ℕ) → IsShownTold script text before entry along
+  pub events-pass : (along : ReplayProgress) (next many : ℕ) → IsShownTold script text before entry along
       → Passes text along.at (events_text script before entry) (Some next) → many ≡ length (posts script.setup (before ▹ entry))
       → IsAlong script text (before ▹ entry) (record along { at = next; posted = many })
   events-pass along next many is passes posted_are =
@@ -167,7 +169,7 @@ module _ (script : Script) (text : List ℕ) (before : List Entry) (entry : Entr
         posted = posted_are;
       }
 
-  pub events-part : (along : Along) → IsShownTold script text before entry along → Passes text along.at (events_text script before entry) None
+  pub events-part : (along : ReplayProgress) → IsShownTold script text before entry along → Passes text along.at (events_text script before entry) None
       → NoRun script text
   events-part along is parts read run report =
       let goes = is.led read run report in
@@ -182,12 +184,12 @@ module _ (script : Script) (text : List ℕ) (before : List Entry) (entry : Entr
       ∙ sym (append_assoc t (own ++ shown) (events_text script before entry ++ rest)))
 
 -- losses behind others
-loss-behind : (history : List Entry) (xs ys : List Lost) → is_loss history (xs ++ ys) ≡ true → is_loss history ys ≡ true
+loss-behind : (history : List Entry) (xs ys : List LostDisplay) → is_loss history (xs ++ ys) ≡ true → is_loss history ys ≡ true
 loss-behind history [] ys loss = loss
 loss-behind history (x ∷ xs) ys loss = loss-behind history xs ys (loss-parts history x (xs ++ ys) loss).1
 
 -- no display is lost at a frame that isn't finished
-none-later : (history : List Entry) (n : ℕ) (lost : List Lost) → frames history < n → is_loss history lost ≡ true → lost_at n lost ≡ []
+none-later : (history : List Entry) (n : ℕ) (lost : List LostDisplay) → frames history < n → is_loss history lost ≡ true → lost_at n lost ≡ []
 none-later history n [] less loss = refl
 none-later history n (x ∷ lost) less loss =
     let number_fits = nat_lt 0 x.frame.0 && nat_le x.frame.0 (frames history) in
@@ -197,27 +199,28 @@ none-later history n (x ∷ lost) less loss =
     let other : (x.frame.0 == n) ≡ false = grind (arith, nat_tests) in
     rw other (none-later history n lost less (loss-parts history x lost loss).1)
 
-small-behind : (xs ys : List Lost) → list_all (λ (one : Lost). is_display_number one.display) (xs ++ ys) ≡ true
-    → list_all (λ (one : Lost). is_display_number one.display) ys ≡ true
+small-behind : (xs ys : List LostDisplay) → list_all (λ (one : LostDisplay). is_display_number one.display) (xs ++ ys) ≡ true
+    → list_all (λ (one : LostDisplay). is_display_number one.display) ys ≡ true
 small-behind [] ys all = all
-small-behind (x ∷ xs) ys all = small-behind xs ys (and-right (is_display_number x.display) (list_all (λ (one : Lost). is_display_number one.display) (xs ++ ys))
+small-behind (x ∷ xs) ys all = small-behind xs ys (and-right (is_display_number x.display)
+    (list_all (λ (one : LostDisplay). is_display_number one.display) (xs ++ ys))
     all)
 
-at-small : (n : ℕ) (xs ys : List Lost) → are_at n xs ≡ true → list_all (λ (one : Lost). is_display_number one.display) (xs ++ ys) ≡ true
+at-small : (n : ℕ) (xs ys : List LostDisplay) → are_at n xs ≡ true → list_all (λ (one : LostDisplay). is_display_number one.display) (xs ++ ys) ≡ true
     → list_all (is_at n) xs ≡ true
 at-small n [] ys at all = refl
 at-small n (x ∷ xs) ys at all =
-    let rest = λ (zs : List Lost). list_all (λ (one : Lost). is_display_number one.display) zs in
+    let rest = λ (zs : List LostDisplay). list_all (λ (one : LostDisplay). is_display_number one.display) zs in
     and-true (and-true (and-left (x.frame.0 == n) (are_at n xs) at) (and-left (is_display_number x.display) (rest (xs ++ ys)) all))
     (at-small n xs ys (and-right (x.frame.0 == n) (are_at n xs) at) (and-right (is_display_number x.display) (rest (xs ++ ys)) all))
 
-are-there : (n : ℕ) (xs : List Lost) → list_all (is_at n) xs ≡ true → are_at n xs ≡ true
+are-there : (n : ℕ) (xs : List LostDisplay) → list_all (is_at n) xs ≡ true → are_at n xs ≡ true
 are-there n [] at = refl
 are-there n (x ∷ xs) at =
     and-true (and-left (x.frame.0 == n) (is_small x) (and-left (is_at n x) (list_all (is_at n) xs) at))
     (are-there n xs (and-right (is_at n x) (list_all (is_at n) xs) at))
 
-at-behind : (n m : ℕ) (xs : List Lost) → n < m → are_at m xs ≡ true → are_behind n xs ≡ true
+at-behind : (n m : ℕ) (xs : List LostDisplay) → n < m → are_at m xs ≡ true → are_behind n xs ≡ true
 at-behind n m [] less at = refl
 at-behind n m (x ∷ xs) less at =
     let here = and-left (x.frame.0 == m) (are_at m xs) at in
@@ -226,7 +229,7 @@ at-behind n m (x ∷ xs) less at =
 
 -- ---- a frame, and the displays that were lost at it
 
-module _ (script : Script) (text : List ℕ) (before : List Entry) (entry : Entry) (finish : is_finish entry.kind ≡ true) (along : Along)
+module _ (script : Script) (text : List ℕ) (before : List Entry) (entry : Entry) (finish : is_finish entry.kind ≡ true) (along : ReplayProgress)
     (is : IsLineTold script text before entry along) where
   counted : frames (before ▹ entry) ≡ suc (frames before)
   counted = frames-one before entry ∙ ap (λ b. cond b (suc (frames before)) (frames before)) finish
@@ -234,10 +237,10 @@ module _ (script : Script) (text : List ℕ) (before : List Entry) (entry : Entr
   abbrev fb : List ℕ
   fb = frame_text script (frame_at script.setup (suc (frames before)) (to_begin before))
 
-  abbrev lost_text : List Lost → List ℕ
+  abbrev lost_text : List LostDisplay → List ℕ
   lost_text lost = text_of (map lost_line lost)
 
-  shown-split : (lost : List Lost) → text_of (shown_here script lost before entry) ≡ fb ++ lost_text (lost_at (suc (frames before)) lost)
+  shown-split : (lost : List LostDisplay) → text_of (shown_here script lost before entry) ≡ fb ++ lost_text (lost_at (suc (frames before)) lost)
   shown-split lost =
       ap (λ b. text_of (cond b (shown_lines script lost before) [])) finish
       ∙ text-append (frame_lines script (frame_at script.setup (suc (frames before)) (to_begin before))) (map lost_line (lost_at (suc (frames before)) lost))
@@ -263,14 +266,15 @@ module _ (script : Script) (text : List ℕ) (before : List Entry) (entry : Entr
       parts (told script along.lost before ++ own_text script before entry) (lost_text (lost_at (suc (frames before)) run.lost) ++ behind_events run goes.later)
       is.begins (split-run run report goes)
 
-  module _ (at next : ℕ) (new : List Lost) (passes : Passes text along.at fb (Some at)) (reads : ReadsLosses (suc (frames before)) along.lost new text at next)
+  module _ (at next : ℕ) (new : List LostDisplay) (passes : Passes text along.at fb (Some at))
+      (reads : ReadsLosses (suc (frames before)) along.lost new text at next)
     where
       more-there : are_at (suc (frames before)) reads.more ≡ true
       more-there = are-there (suc (frames before)) reads.more reads.are_at
 
       new-agrees : told script new before ≡ told script along.lost before
       new-agrees =
-          ap (λ (ls : List Lost). told script ls before) reads.is
+          ap (λ (ls : List LostDisplay). told script ls before) reads.is
           ∙ told-agrees script (along.lost ++ reads.more) along.lost before
           (prefix-agrees (frames before) along.lost reads.more (at-behind (frames before) (suc (frames before)) reads.more (omega arith) more-there))
 
@@ -280,7 +284,7 @@ module _ (script : Script) (text : List ℕ) (before : List Entry) (entry : Entr
       new-here : lost_at (suc (frames before)) new ≡ reads.more
       new-here =
           ap (lost_at (suc (frames before))) reads.is ∙ lost-append (suc (frames before)) along.lost reads.more
-          ∙ ap (λ (ls : List Lost). ls ++ lost_at (suc (frames before)) reads.more) none-before
+          ∙ ap (λ (ls : List LostDisplay). ls ++ lost_at (suc (frames before)) reads.more) none-before
           ∙ ap (lost_at (suc (frames before))) (sym (append-nil reads.more)) ∙ at-here (suc (frames before)) reads.more [] more-there refl
 
       begins-all : Begins text (((told script along.lost before ++ own_text script before entry) ++ fb) ++ lost_text reads.more) next
@@ -300,16 +304,17 @@ module _ (script : Script) (text : List ℕ) (before : List Entry) (entry : Entr
       led read run report =
           let goes = is.led read run report in
           let kept : Kept (2 ^ 32) script = read-kept read.0 script read.1 in
-          let L : List Lost → Type 0 = λ ls. is_loss run.history ls ≡ true in
-          let N : List Lost → Type 0 = λ ls. list_all (λ (one : Lost). is_display_number one.display) ls ≡ true in
-          let M : List Lost → Type 0 = λ ls. NoMoreLost (suc (frames before)) ls (drop next text) in
+          let L : List LostDisplay → Type 0 = λ ls. is_loss run.history ls ≡ true in
+          let N : List LostDisplay → Type 0 = λ ls. list_all (λ (one : LostDisplay). is_display_number one.display) ls ≡ true in
+          let M : List LostDisplay → Type 0 = λ ls. NoMoreLost (suc (frames before)) ls (drop next text) in
           let loss : is_loss run.history (along.lost ++ goes.more) ≡ true = subst L goes.losses run.is.loss in
-          let numbered : list_all (λ (one : Lost). is_display_number one.display) (along.lost ++ goes.more) ≡ true = subst N goes.losses run.is.numbered in
+          let numbered : list_all (λ (one : LostDisplay). is_display_number one.display) (along.lost ++ goes.more)
+          ≡ true = subst N goes.losses run.is.numbered in
           let two = part run.history (frames before) goes.more goes.behind (loss-behind run.history along.lost goes.more loss) in
           let here_at : lost_at (suc (frames before)) run.lost ≡ two.here =
-          ap (lost_at (suc (frames before))) (goes.losses ∙ ap (λ (ls : List Lost). along.lost ++ ls) two.is)
+          ap (lost_at (suc (frames before))) (goes.losses ∙ ap (λ (ls : List LostDisplay). along.lost ++ ls) two.is)
           ∙ lost-append (suc (frames before)) along.lost (two.here ++ two.later)
-          ∙ ap (λ (ls : List Lost). ls ++ lost_at (suc (frames before)) (two.here ++ two.later)) none-before
+          ∙ ap (λ (ls : List LostDisplay). ls ++ lost_at (suc (frames before)) (two.here ++ two.later)) none-before
           ∙ at-here (suc (frames before)) two.here two.later two.are_here two.are_later in
           let small : list_all (is_at (suc (frames before))) two.here ≡ true =
           at-small (suc (frames before)) two.here two.later two.are_here (subst N two.is (small-behind along.lost goes.more numbered)) in
@@ -319,7 +324,7 @@ module _ (script : Script) (text : List ℕ) (before : List Entry) (entry : Entr
           let texts : (first ++ fb) ++ (lost_text reads.more ++ x) ≡ (first ++ fb) ++ (lost_text two.here ++ X) =
           sym (append_assoc (first ++ fb) (lost_text reads.more) x) ∙ sym begins-all.is ∙ split-run run report goes
           ∙ sym (append_assoc first fb (lost_text (lost_at (suc (frames before)) run.lost) ++ X))
-          ∙ ap (λ (ls : List Lost). (first ++ fb) ++ (lost_text ls ++ X)) here_at in
+          ∙ ap (λ (ls : List LostDisplay). (first ++ fb) ++ (lost_text ls ++ X)) here_at in
           let told_same : lost_text reads.more ++ x ≡ lost_text two.here ++ X =
           append_cancel_left (first ++ fb) (lost_text reads.more ++ x) (lost_text two.here ++ X) texts in
           let sheets : sheet (map lost_line reads.more) x ≡ sheet (map lost_line two.here) X =
@@ -338,14 +343,14 @@ module _ (script : Script) (text : List ℕ) (before : List Entry) (entry : Entr
           (tail-no-loss script kept.named run.lost (before ▹ entry) goes.later (ending run) whole quiet))) in
           let same : reads.more ≡ two.here =
           same-losses (suc (frames before)) run.history along.lost reads.more two.here two.later x X reads.are_at small
-          (subst L (ap (λ (ls : List Lost). along.lost ++ ls) two.is) loss) (subst M reads.is reads.stops) none sheets in
+          (subst L (ap (λ (ls : List LostDisplay). along.lost ++ ls) two.is) loss) (subst M reads.is reads.stops) none sheets in
           let B : ℕ → Type 0 = λ n. are_behind n two.later ≡ true in
           record {
             later = goes.later;
             entries = goes.entries;
             more = two.later;
-            losses = goes.losses ∙ ap (λ (ls : List Lost). along.lost ++ ls) two.is ∙ sym (append_assoc along.lost two.here two.later)
-                ∙ ap (λ (ls : List Lost). (along.lost ++ ls) ++ two.later) (sym same) ∙ ap (λ (ls : List Lost). ls ++ two.later) (sym reads.is);
+            losses = goes.losses ∙ ap (λ (ls : List LostDisplay). along.lost ++ ls) two.is ∙ sym (append_assoc along.lost two.here two.later)
+                ∙ ap (λ (ls : List LostDisplay). (along.lost ++ ls) ++ two.later) (sym same) ∙ ap (λ (ls : List LostDisplay). ls ++ two.later) (sym reads.is);
             behind = subst B (sym counted) two.are_later;
           }
 

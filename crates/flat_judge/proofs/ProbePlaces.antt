@@ -8,8 +8,8 @@ use Rattle.std.proofs.lemmas.Option.{slice_get-get_or}
 use Rattle.flat_base.specs.declared.ids.Actor.{Actor}
 use Rattle.flat_base.specs.declared.ids.Actor.TheVariants.{Display, Session, Probe}
 use Rattle.flat_scene.specs.declared.journal.Entry.{Entry}
-use Rattle.flat_scene.specs.declared.script.Body.{Body}
-use Rattle.flat_scene.specs.declared.script.Body.TheVariants as body
+use Rattle.flat_scene.specs.declared.script.LineBody.{LineBody}
+use Rattle.flat_scene.specs.declared.script.LineBody.TheVariants as body
 use Rattle.flat_scene.specs.declared.script.ProbeLine.{ProbeLine}
 use Rattle.flat_scene.specs.declared.script.ScriptLine.{ScriptLine}
 use Rattle.flat_scene.specs.declared.setup.Setup.{Setup}
@@ -119,7 +119,7 @@ set-here xs n x y below got = let both : Some y ≡ Some x = sym got ∙ got-sam
 -- ---- the lines of a probe
 
 -- a line that asks nothing of a probe isn't the probe's
-pub not-here : (setup : Setup) (probe : ℕ) (who : Actor) (text : Body) → is_played setup who text ≡ true → asked_here probe who text ≡ None
+pub not-here : (setup : Setup) (probe : ℕ) (who : Actor) (text : LineBody) → is_played setup who text ≡ true → asked_here probe who text ≡ None
     → is_probe probe who ≡ false
 not-here setup probe Display text played none = refl
 not-here setup probe (Session s) text played none = refl
@@ -132,11 +132,11 @@ not-here setup probe (Probe p) (body.Probe asked) played none = by (p == probe) 
     by false none = refl
 
 -- and one that does is
-pub record IsHere (probe : ℕ) (who : Actor) (text : Body) (asked : ProbeLine) : Type 0 where
+pub record IsHere (probe : ℕ) (who : Actor) (text : LineBody) (asked : ProbeLine) : Type 0 where
   pub who_is : who ≡ Probe probe
   pub text_is : text ≡ body.Probe asked
 
-pub is-here : (probe : ℕ) (who : Actor) (text : Body) (asked : ProbeLine) → asked_here probe who text ≡ Some asked → IsHere probe who text asked
+pub is-here : (probe : ℕ) (who : Actor) (text : LineBody) (asked : ProbeLine) → asked_here probe who text ≡ Some asked → IsHere probe who text asked
 is-here probe Display text asked is = absurd (let wrong : None ≡ Some asked = is in cc)
 is-here probe (Session s) text asked is = absurd (let wrong : None ≡ Some asked = is in cc)
 is-here probe (Probe p) (body.Session said) asked is = absurd (let wrong : None ≡ Some asked = is in cc)

@@ -7,7 +7,7 @@ use Rattle.std.proofs.lemmas.Option.{slice_get-get_or}
 use Rattle.flat_base.specs.declared.ids.Actor.TheVariants.{Display, Session}
 use Rattle.flat_base.specs.declared.ids.SessionNo.{SessionNo}
 use Rattle.flat_scene.specs.declared.journal.Entry.{Entry}
-use Rattle.flat_scene.specs.declared.journal.Kind.{Kind}
+use Rattle.flat_scene.specs.declared.journal.EntryKind.{EntryKind}
 use Rattle.flat_scene.specs.declared.journal.Reply.{Reply}
 use Rattle.flat_scene.specs.declared.script.DisplayLine.{DisplayLine}
 use Rattle.flat_scene.specs.declared.script.ProbeLine.{ProbeLine}
@@ -20,7 +20,7 @@ use Rattle.flat_rules.specs.Legal.{begin_time, is_frame_open, reply_to}
 use Rattle.flat_places.specs.declared.script.Script.{Script}
 use Rattle.flat_playable.specs.Playable.{frames_close, is_playable}
 use Rattle.flat_report.specs.declared.probes.ProbeAnswer.{ProbeAnswer}
-use Rattle.flat_judge.specs.declared.screen.Screen.{Screen}
+use Rattle.flat_judge.specs.declared.replay_screen.ReplayScreen.{ReplayScreen}
 use Rattle.flat_play.specs.declared.frame.LastFrame.{LastFrame}
 use Rattle.flat_play.specs.Last.{StaysLast}
 use Rattle.flat_play.specs.Probing.{answer_of, with_answer}
@@ -31,7 +31,7 @@ use Rattle.flat_play.proofs.lemmas.Slots.{got-other, got-same}
 use Rattle.flat_play.proofs.lemmas.Steps.{At}
 use Rattle.flat_play.proofs.lemmas.Unread.{later_all}
 use Rattle.flat_judge.specs.declared.guided_run.GuidedRun.{GuidedRun}
-use Rattle.flat_judge.specs.declared.seat.Seat.{Seat}
+use Rattle.flat_judge.specs.declared.session_cursor.SessionCursor.{SessionCursor}
 use Rattle.flat_judge.specs.GuidedRuns.{AreBehind, ProbeGoesOn, Goes, GoesOn, HasEntered, HaveEnded, IsAt, RunStands, SeatsStand, ScreenStands, Sits, SitsBy}
 use Rattle.flat_judge.specs.GuidedRuns.{ProbesStandAt, asked_here, is_aside}
 use Rattle.flat_judge.proofs.DisplayLines.{IsDisplays, display_goes, display_passes, goes_spent, passes_spent}
@@ -68,13 +68,13 @@ run_first script playable guided show none seats place places answers =
 -- ---- an entry of a session
 
 -- the seat at a place
-pub seat_sits : (script : Script) (guided : GuidedRun) (k : ℕ) (seat : Seat) → RunStands script guided → k < length guided.seats.items
+pub seat_sits : (script : Script) (guided : GuidedRun) (k : ℕ) (seat : SessionCursor) → RunStands script guided → k < length guided.seats.items
     → seat ≡ get_or guided.seats.items k seat → Sits script (record { 0 = k + 1 }) guided.screen.board.history seat
 seat_sits script guided k seat stands below is =
-    let P : Seat → Type 0 = λ p. Sits script (record { 0 = k + 1 }) guided.screen.board.history p in
+    let P : SessionCursor → Type 0 = λ p. Sits script (record { 0 = k + 1 }) guided.screen.board.history p in
     subst P (sym is) (stands.seats.each k seat below)
 
-pub seat_open : (script : Script) (s : SessionNo) (history : List Entry) (seat : Seat) → seat.has_ended ≡ false → Sits script s history seat
+pub seat_open : (script : Script) (s : SessionNo) (history : List Entry) (seat : SessionCursor) → seat.has_ended ≡ false → Sits script s history seat
     → IsAt script s history seat
 seat_open script s history seat unended sits = subst (SitsBy script s history seat) unended sits
 
@@ -92,7 +92,8 @@ display_beside_entry script place old e other aside stands =
           ∙ ap (λ t. frames_close (is_frame_open old) t (drop place script.lines)) time ∙ stands.closing;
     }
 
-pub session_goes : (script : Script) (guided next : GuidedRun) (k : ℕ) (seat : Seat) (board : Machine) → k < length guided.seats.items → RunStands script guided
+pub session_goes : (script : Script) (guided next : GuidedRun) (k : ℕ) (seat : SessionCursor) (board : Machine) → k < length guided.seats.items
+    → RunStands script guided
     → Goes (Session (record { 0 = k + 1 })) guided.screen.board board true
     → Sits script (record { 0 = k + 1 }) board.history seat → next.screen ≡ record guided.screen { board = board }
     → next.seats.items ≡ set guided.seats.items k seat → next.place ≡ guided.place → next.places ≡ guided.places → next.answers.items ≡ guided.answers.items
@@ -102,9 +103,9 @@ session_goes script guided next k seat board below stands (Goes.enters number ca
     let h : List Entry = guided.screen.board.history in
     let e : Entry = entry_of (Session (record { 0 = k + 1 })) number carries kind reply in
     let grown : board.history ≡ (h ▹ e) = ap (λ (m : Machine). m.history) is in
-    let history : next.screen.board.history ≡ (h ▹ e) = ap (λ (p : Screen). p.board.history) screen_is ∙ grown in
-    let H : Screen → Type 0 = ScreenStands script in
-    let S : List Seat → Type 0 = SeatsStand script board.history in
+    let history : next.screen.board.history ≡ (h ▹ e) = ap (λ (p : ReplayScreen). p.board.history) screen_is ∙ grown in
+    let H : ReplayScreen → Type 0 = ScreenStands script in
+    let S : List SessionCursor → Type 0 = SeatsStand script board.history in
     let S1 : Machine → Type 0 = λ m. SeatsStand script m.history next.seats.items in
     let D : ℕ → Type 0 = λ n. DisplayStands script n (h ▹ e) in
     let D1 : List Entry → Type 0 = DisplayStands script next.place in
@@ -123,7 +124,7 @@ session_goes script guided next k seat board below stands (Goes.enters number ca
     record {
       screen = subst H (sym screen_is) (screen_aside script guided.screen board (Session (record { 0 = k + 1 })) number carries kind reply aside is
           stands.screen);
-      seats = subst S1 (sym (ap (λ (p : Screen). p.board) screen_is))
+      seats = subst S1 (sym (ap (λ (p : ReplayScreen). p.board) screen_is))
           (subst S (sym seats_are) (seats_set script k guided.screen.board board guided.seats.items seat below goes sits stands.seats));
       within = omega (arith, place_is, within);
       display = subst D1 (sym history) (subst D (sym place_is) (display_beside_entry script guided.place h e refl aside stands.display));
@@ -133,7 +134,8 @@ session_goes script guided next k seat board below stands (Goes.enters number ca
     }
 
 -- the seat that was set went on
-pub goes_on : (seats : List Seat) (k : ℕ) (was is : Seat) → k < length seats → was ≡ get_or seats k was → (is.has_ended ≡ false → was.place < is.place)
+pub goes_on : (seats : List SessionCursor) (k : ℕ) (was is : SessionCursor) → k < length seats → was ≡ get_or seats k was
+    → (is.has_ended ≡ false → was.place < is.place)
     → GoesOn k seats (slice_set seats k is)
 goes_on seats k was is below found later = record {
   others = λ j other. got-other seats k j is other;
@@ -142,9 +144,9 @@ goes_on seats k was is below found later = record {
       let second : Some b ≡ Some is = sym then ∙ got-same seats k is below in
       let a_is : a ≡ was = cc in
       let b_is : b ≡ is = cc in
-      let less : was.place < is.place = later (ap (λ (p : Seat). p.has_ended) (sym b_is) ∙ not_ended) in
-      let from : a.place ≡ was.place = ap (λ (p : Seat). p.place) a_is in
-      let to : b.place ≡ is.place = ap (λ (p : Seat). p.place) b_is in
+      let less : was.place < is.place = later (ap (λ (p : SessionCursor). p.has_ended) (sym b_is) ∙ not_ended) in
+      let from : a.place ≡ was.place = ap (λ (p : SessionCursor). p.place) a_is in
+      let to : b.place ≡ is.place = ap (λ (p : SessionCursor). p.place) b_is in
       omega (arith, less, from, to);
 }
 
@@ -157,7 +159,7 @@ module _ (script : Script) (guided next : GuidedRun) (x : ScriptLine) (at : At s
       → next.answers ≡ guided.answers → RunStands script next
   line_passes none screen_is seats_are places_are answers_are =
       let h : List Entry = guided.screen.board.history in
-      let P : Screen → Type 0 = ScreenStands script in
+      let P : ReplayScreen → Type 0 = ScreenStands script in
       let S : GuidedRun → Type 0 = λ r. SeatsStand script r.screen.board.history r.seats.items in
       let D : ℕ → Type 0 = λ n. DisplayStands script n h in
       let then : GuidedRun = record guided { place = guided.place + 1 } in
@@ -180,7 +182,7 @@ module _ (script : Script) (guided next : GuidedRun) (x : ScriptLine) (at : At s
       → RunStands script next
   line_enters text is show entered_is seats_are places_are answers_are =
       let h : List Entry = guided.screen.board.history in
-      let kind : Kind = entry_of_display text in
+      let kind : EntryKind = entry_of_display text in
       let reply : Reply = reply_to guided.screen.board.setup h Display [] kind in
       let e : Entry = entry_of Display x.number [] kind reply in
       let grown : next.screen.board.history ≡ (h ▹ e) = ap (λ (m : Machine). m.history) entered_is in
@@ -219,7 +221,7 @@ module _ (script : Script) (guided : GuidedRun) (probe place : ℕ) (below : pro
       let same : next ≡ then = λ i. record { screen = screen_is i; seats = seats_are i; place = place_is i; places = places_are i; answers = answers_are i } in
       subst (RunStands script) (sym same) stands_then
 
-  abbrev with_last : LastFrame → Screen
+  abbrev with_last : LastFrame → ReplayScreen
   with_last last = record guided.screen { store = record guided.screen.store { last = last } }
 
   -- or one that is, which the last frame answers
@@ -285,7 +287,7 @@ behind_more script probe is_last old new last go behind = λ n place below got. 
         behind n place less (sym (go.others n apart) ∙ got)
 
 -- two items that stand at one place are one
-pub same_seat : (seats : List Seat) (k : ℕ) (a b : Seat) → k < length seats → a ≡ get_or seats k a → b ≡ get_or seats k b → a ≡ b
+pub same_seat : (seats : List SessionCursor) (k : ℕ) (a b : SessionCursor) → k < length seats → a ≡ get_or seats k a → b ≡ get_or seats k b → a ≡ b
 same_seat seats k a b below first second =
     let both : Some (get_or seats k a) ≡ Some (get_or seats k b) = sym (slice_get-get_or seats k a below) ∙ slice_get-get_or seats k b below in
     let same : get_or seats k a ≡ get_or seats k b = cc in
@@ -293,25 +295,25 @@ same_seat seats k a b below first second =
 
 -- ---- sessions that have ended
 
-pub seat_found : (seats : List Seat) (k : ℕ) (a b : Seat) → k < length seats → a ≡ get_or seats k a → slice_get seats k ≡ Some b → a ≡ b
+pub seat_found : (seats : List SessionCursor) (k : ℕ) (a b : SessionCursor) → k < length seats → a ≡ get_or seats k a → slice_get seats k ≡ Some b → a ≡ b
 seat_found seats k a b below first at =
     let both : Some (get_or seats k a) ≡ Some b = sym (slice_get-get_or seats k a below) ∙ at in
     let same : get_or seats k a ≡ b = cc in
     first ∙ same
 
-pub ended_more : (k : ℕ) (seats : List Seat) → HaveEnded k seats → ((seat : Seat) → slice_get seats k ≡ Some seat → seat.has_ended ≡ true)
+pub ended_more : (k : ℕ) (seats : List SessionCursor) → HaveEnded k seats → ((seat : SessionCursor) → slice_get seats k ≡ Some seat → seat.has_ended ≡ true)
     → HaveEnded (k + 1) seats
 ended_more k seats before here = λ j seat below at. by j seat below at (j == k) refl
   where
-    by : (j : ℕ) (seat : Seat) → j < k + 1 → slice_get seats j ≡ Some seat → (b : Bool) → (j == k) ≡ b → seat.has_ended ≡ true
+    by : (j : ℕ) (seat : SessionCursor) → j < k + 1 → slice_get seats j ≡ Some seat → (b : Bool) → (j == k) ≡ b → seat.has_ended ≡ true
     by j seat below at true is = here seat (ap (slice_get seats) (sym (eqb-true j k is)) ∙ at)
     by j seat below at false is = before j seat (let less : j < k = grind (arith, nat_tests) in less) at
 
-pub still_ended : (k : ℕ) (old new : List Seat) → GoesOn k old new → HaveEnded k old → HaveEnded k new
+pub still_ended : (k : ℕ) (old new : List SessionCursor) → GoesOn k old new → HaveEnded k old → HaveEnded k new
 still_ended k old new on before = λ j seat below at. before j seat below (sym (on.others j (λ same. omega (arith, below, same))) ∙ at)
 
 pub must_end : (script : Script) (guided : GuidedRun) (k count : ℕ) → k < length guided.seats.items → RunStands script guided → length script.lines + 1 ≤ count
-    → ((seat : Seat) → slice_get guided.seats.items k ≡ Some seat → seat.has_ended ≡ false → count ≤ seat.place) → (seat : Seat)
+    → ((seat : SessionCursor) → slice_get guided.seats.items k ≡ Some seat → seat.has_ended ≡ false → count ≤ seat.place) → (seat : SessionCursor)
     → slice_get guided.seats.items k ≡ Some seat → seat.has_ended ≡ true
 must_end script guided k count below stands over late seat at = by seat.has_ended refl
   where

@@ -6,8 +6,8 @@ use Rattle.flat_base.specs.declared.ids.Actor.TheVariants.{Display}
 use Rattle.flat_scene.specs.declared.calls.Call.{Call}
 use Rattle.flat_scene.specs.declared.frames.Hit as point
 use Rattle.flat_scene.specs.declared.journal.Entry.{Entry}
-use Rattle.flat_scene.specs.declared.journal.Kind.{Kind}
-use Rattle.flat_scene.specs.declared.journal.Kind.TheVariants.{Begin, Finish, Hit}
+use Rattle.flat_scene.specs.declared.journal.EntryKind.{EntryKind}
+use Rattle.flat_scene.specs.declared.journal.EntryKind.TheVariants.{Begin, Finish, Hit}
 use Rattle.flat_scene.specs.declared.journal.Reply.{Reply}
 use Rattle.flat_scene.specs.declared.journal.Reply.TheVariants.{Done}
 use Rattle.flat_scene.specs.declared.script.DisplayLine.{DisplayLine}
@@ -24,7 +24,7 @@ use Rattle.flat_places.specs.declared.script.Script.{Script}
 use Rattle.flat_report.specs.Handed.{answer_to}
 use Rattle.flat_report.specs.Report.{hits_at}
 use Rattle.flat_play.specs.declared.frame.LastFrame.{LastFrame}
-use Rattle.flat_play.specs.declared.kept.Keeping.TheVariants as keeping
+use Rattle.flat_play.specs.declared.kept_frames.FramesToKeep.TheVariants as keeping
 use Rattle.flat_play.specs.declared.store.FrameStore.{FrameStore}
 use Rattle.flat_play.specs.Keeping.{keeping_of}
 use Rattle.flat_play.specs.Last.{StaysLast}
@@ -32,20 +32,20 @@ use Rattle.flat_play.specs.Playing.{shares_of}
 use Rattle.flat_play.specs.Storing.{AnswersLine, FinishesNext, FramesStand, StoreStands}
 use Rattle.flat_play.proofs.lemmas.Storing.{frames_begin, frames_beside, frames_done, frames_line, frames_none, frames_stay, stays_stored}
 use Rattle.flat_base.proofs.lemmas.Tests.{and-left}
-use Rattle.flat_judge.specs.declared.screen.Screen.{Screen}
+use Rattle.flat_judge.specs.declared.replay_screen.ReplayScreen.{ReplayScreen}
 use Rattle.flat_judge.specs.GuidedRuns.{ScreenStands, is_aside}
 
 -- ---- kinds of entries that leave frames and points alone
 
-pub aside_begin : (kind : Kind) → is_aside kind ≡ true → is_begin kind ≡ false
+pub aside_begin : (kind : EntryKind) → is_aside kind ≡ true → is_begin kind ≡ false
 aside_begin (Begin time) aside = absurd (cc)
 aside_begin _ aside = refl
 
-pub aside_finish : (kind : Kind) → is_aside kind ≡ true → is_finish kind ≡ false
+pub aside_finish : (kind : EntryKind) → is_aside kind ≡ true → is_finish kind ≡ false
 aside_finish Finish aside = absurd (cc)
 aside_finish _ aside = refl
 
-aside_answers : (entry : Entry) (n : ℕ) (hits : ℤ → ℤ → List point.Hit) (kind : Kind) → is_aside kind ≡ true → answer_to entry n hits kind ≡ []
+aside_answers : (entry : Entry) (n : ℕ) (hits : ℤ → ℤ → List point.Hit) (kind : EntryKind) → is_aside kind ≡ true → answer_to entry n hits kind ≡ []
 aside_answers entry n hits (Hit x y) aside = absurd (cc)
 aside_answers entry n hits _ aside = refl
 
@@ -59,7 +59,7 @@ may_shut history time times = shut (is_frame_open history) (and-left (not (is_fr
 
 -- ---- before any entry
 
-pub screen_first : (script : Script) (screen : Screen) → screen.board ≡ record { setup = script.setup; shares = shares_of script; history = [] }
+pub screen_first : (script : Script) (screen : ReplayScreen) → screen.board ≡ record { setup = script.setup; shares = shares_of script; history = [] }
     → IsStart script.setup [] screen.start → StoreStands script [] screen.store → keeping_of screen.store.kept ≡ keeping.Texts → ScreenStands script screen
 screen_first script screen board starts stored texts = record {
   setup = ap (λ (m : Machine). m.setup) board;
@@ -71,7 +71,7 @@ screen_first script screen board starts stored texts = record {
 
 -- ---- what is joined of the last frame
 
-pub screen_stays : (script : Script) (screen : Screen) (last : LastFrame) → StaysLast script.setup screen.store.last last → ScreenStands script screen
+pub screen_stays : (script : Script) (screen : ReplayScreen) (last : LastFrame) → StaysLast script.setup screen.store.last last → ScreenStands script screen
     → ScreenStands script (record screen { store = record screen.store { last = last } })
 screen_stays script screen last stays stands = record {
   setup = stands.setup;
@@ -84,7 +84,7 @@ screen_stays script screen last stays stands = record {
 -- ---- an entry
 
 -- by what becomes of the frames
-screen_entered : (script : Script) (old : Screen) (who : Actor) (number : ℕ) (carries : List Call) (kind : Kind) (reply : Reply) (board : Machine)
+screen_entered : (script : Script) (old : ReplayScreen) (who : Actor) (number : ℕ) (carries : List Call) (kind : EntryKind) (reply : Reply) (board : Machine)
     (start : FrameStart) (store : FrameStore) → board ≡ entered old.board who number carries kind reply
     → FramesStand script (old.board.history ▹ entry_of who number carries kind reply) start store → keeping_of store.kept ≡ keeping_of old.store.kept
     → ScreenStands script old → ScreenStands script (record { board = board; start = start; store = store })
@@ -96,7 +96,8 @@ screen_entered script old who number carries kind reply board start store is now
 }
 
 -- one that leaves frames and points alone
-pub screen_aside : (script : Script) (screen : Screen) (board : Machine) (who : Actor) (number : ℕ) (carries : List Call) (kind : Kind) (reply : Reply)
+pub screen_aside : (script : Script) (screen : ReplayScreen) (board : Machine) (who : Actor) (number : ℕ) (carries : List Call) (kind : EntryKind)
+    (reply : Reply)
     → is_aside kind ≡ true → board ≡ entered screen.board who number carries kind reply
     → ScreenStands script screen → ScreenStands script (record screen { board = board })
 screen_aside script screen board who number carries kind reply aside is stands =
@@ -106,7 +107,7 @@ screen_aside script screen board who number carries kind reply aside is stands =
     (frames_beside script h screen.start screen.store e (aside_begin kind aside) (aside_finish kind aside)
     (aside_answers e (frames h) (hits_at script.setup (to_finished h)) kind aside) stands.frames) refl stands
 
-module _ (script : Script) (old : Screen) (number : ℕ) (board : Machine) (stands : ScreenStands script old) where
+module _ (script : Script) (old : ReplayScreen) (number : ℕ) (board : Machine) (stands : ScreenStands script old) where
   -- a frame begins
   pub screen_begin : (time : ℕ) (start : FrameStart) → is_frame_open old.board.history ≡ false → board ≡ entered old.board Display number [] (Begin time) Done
       → StartsFrame board.setup board.history old.start start → ScreenStands script (record old { board = board; start = start })

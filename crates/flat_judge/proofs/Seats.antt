@@ -13,13 +13,13 @@ use Rattle.flat_base.specs.declared.ids.Actor.TheVariants.{Display, Session, Pro
 use Rattle.flat_base.specs.declared.ids.SessionNo.{SessionNo}
 use Rattle.flat_scene.specs.declared.calls.Call.{Call}
 use Rattle.flat_scene.specs.declared.journal.Entry.{Entry}
-use Rattle.flat_scene.specs.declared.journal.Kind.{Kind}
-use Rattle.flat_scene.specs.declared.journal.Kind.TheVariants.{Begin, Finish, End, Hit}
+use Rattle.flat_scene.specs.declared.journal.EntryKind.{EntryKind}
+use Rattle.flat_scene.specs.declared.journal.EntryKind.TheVariants.{Begin, Finish, End, Hit}
 use Rattle.flat_scene.specs.declared.journal.Reply.{Reply}
 use Rattle.flat_scene.specs.declared.journal.Reply.TheVariants.{Done}
-use Rattle.flat_scene.specs.declared.script.Body.{Body}
-use Rattle.flat_scene.specs.declared.script.Body.TheVariants as body
-use Rattle.flat_scene.specs.declared.script.Line.{Line}
+use Rattle.flat_scene.specs.declared.script.LineBody.{LineBody}
+use Rattle.flat_scene.specs.declared.script.LineBody.TheVariants as body
+use Rattle.flat_scene.specs.declared.script.SessionLine.{SessionLine}
 use Rattle.flat_scene.specs.declared.script.ScriptLine.{ScriptLine}
 use Rattle.flat_scene.specs.declared.setup.Setup.{Setup}
 use Rattle.flat_scene.specs.History.{◌▹◌, own, is_session}
@@ -29,7 +29,7 @@ use Rattle.flat_scene.specs.Setups.{is_declared}
 use Rattle.flat_core.specs.Machines.{Machine, HasShare, entered, entry_of, made}
 use Rattle.flat_places.specs.declared.script.Script.{Script}
 use Rattle.flat_playable.specs.Playable.{is_playable, is_played}
-use Rattle.flat_session.specs.declared.reader.Reader.{Reader}
+use Rattle.flat_session.specs.declared.session_reader.SessionReader.{SessionReader}
 use Rattle.flat_session.specs.Readings.{EndsAreRead, HasRead, NoneIsRead, OneMoreIsRead, Rise}
 use Rattle.flat_session.specs.Reads.{IsNew, Reads, Stands}
 use Rattle.flat_play.specs.Playing.{ReaderStands, lines_by, session_text, shares_of}
@@ -39,7 +39,7 @@ use Rattle.flat_base.proofs.lemmas.Tests.{all-at}
 use Rattle.flat_play.proofs.lemmas.PlaySteps.{below_declared, has_room}
 use Rattle.flat_play.proofs.lemmas.Readers.{new_stands, on_board, reader_grows, reader_more, session_rise}
 use Rattle.flat_play.proofs.lemmas.Steps.{At, Step, reader_other}
-use Rattle.flat_judge.specs.declared.seat.Seat.{Seat}
+use Rattle.flat_judge.specs.declared.session_cursor.SessionCursor.{SessionCursor}
 use Rattle.flat_judge.specs.GuidedRuns.{Goes, IsAt, Sits, SitsBy, SeatsStand, is_aside, own_text}
 
 -- ---- room
@@ -52,7 +52,7 @@ pub made_one : (seat : ℕ) (h : List Entry) (e : Entry) → made seat (h ▹ e)
 made_one seat h e = grind (arith, common_steps)
 
 -- a session that hasn't ended may make one entry more
-pub share : (script : Script) (s : SessionNo) (m : Machine) (seat : Seat) → m.shares ≡ shares_of script → is_declared script.setup s ≡ true
+pub share : (script : Script) (s : SessionNo) (m : Machine) (seat : SessionCursor) → m.shares ≡ shares_of script → is_declared script.setup s ≡ true
     → IsAt script s m.history seat → HasShare m (Session s)
 share script s m seat shares declared at =
     let within = below_declared script.setup s declared in
@@ -62,11 +62,11 @@ share script s m seat shares declared at =
 -- ---- a line
 
 -- the line of another actor
-pub passed : (script : Script) (s : SessionNo) (history : List Entry) (seat next : Seat) (x : ScriptLine) → At script seat.place x
+pub passed : (script : Script) (s : SessionNo) (history : List Entry) (seat next : SessionCursor) (x : ScriptLine) → At script seat.place x
     → is_session s x.actor ≡ false → seat.place < length script.lines
     → next ≡ record seat { place = seat.place + 1 } → IsAt script s history seat → IsAt script s history next
 passed script s history seat next x at other below is sits =
-    let P : Seat → Type 0 = IsAt script s history in
+    let P : SessionCursor → Type 0 = IsAt script s history in
     let left = lines_left script seat.place x at s.0 in
     let spent = sits.spent in
     subst P (sym is) (record {
@@ -75,7 +75,7 @@ passed script s history seat next x at other below is sits =
       spent = omega (arith, left, spent);
     })
 
-quiet_aside : (kind : Kind) → is_quiet kind ≡ true → is_aside kind ≡ true
+quiet_aside : (kind : EntryKind) → is_quiet kind ≡ true → is_aside kind ≡ true
 quiet_aside (Begin time) quiet = absurd (cc)
 quiet_aside Finish quiet = absurd (cc)
 quiet_aside (Hit x y) quiet = absurd (cc)
@@ -113,7 +113,7 @@ goes_by s number old new made_it is (Grows.grows carries kind reply calm grown) 
     subst G (sym one) (Goes.enters number carries kind reply (quiet_aside kind calm) grown)
 
 -- the session's own line
-module _ (script : Script) (s : SessionNo) (number : ℕ) (text : Line) (reply : Reply) (old new : Machine) (seat : Seat) (after : Reader)
+module _ (script : Script) (s : SessionNo) (number : ℕ) (text : SessionLine) (reply : Reply) (old new : Machine) (seat : SessionCursor) (after : SessionReader)
     (setup : old.setup ≡ script.setup) (here : Here script s seat.place number text)
     (sits : IsAt script s old.history seat) (reads : Reads number text reply old new seat.reader after seat.reader.closed) where
   pub read_grows : Grows old new (Session s) number
@@ -121,11 +121,11 @@ module _ (script : Script) (s : SessionNo) (number : ℕ) (text : Line) (reply :
 
   pub read_on : OneMoreIsRead → Stands new.setup (own seat.reader.session new.history) after
       → At script seat.place (record { number = number; actor = Session s; body = body.Session text }) → seat.place < length script.lines
-      → (next : Seat) → next.place ≡ seat.place + 1 → next.reader ≡ after → IsAt script s new.history next
+      → (next : SessionCursor) → next.place ≡ seat.place + 1 → next.reader ≡ after → IsAt script s new.history next
   read_on one_more stands_then at below next place reader =
       let then = reader_more script s seat.place number text here reply old new seat.reader after setup sits.stands reads one_more stands_then in
-      let P : ℕ → Reader → Type 0 = λ n r. ReaderStands script s n new.history r in
-      let P1 : Reader → Type 0 = P (seat.place + 1) in
+      let P : ℕ → SessionReader → Type 0 = λ n r. ReaderStands script s n new.history r in
+      let P1 : SessionReader → Type 0 = P (seat.place + 1) in
       let P2 : ℕ → Type 0 = λ n. P n next.reader in
       let left = lines_left script seat.place (record { number = number; actor = Session s; body = body.Session text }) at s.0 in
       let one = same_seat s.0 in
@@ -141,7 +141,7 @@ module _ (script : Script) (s : SessionNo) (number : ℕ) (text : Line) (reply :
 
 -- ---- the End
 
-module _ (ends_are_read : EndsAreRead) (script : Script) (playable : is_playable script ≡ true) (s : SessionNo) (m : Machine) (seat : Seat)
+module _ (ends_are_read : EndsAreRead) (script : Script) (playable : is_playable script ≡ true) (s : SessionNo) (m : Machine) (seat : SessionCursor)
     (setup : m.setup ≡ script.setup) (place : seat.place ≡ length script.lines) (sits : IsAt script s m.history seat) where
   at_end : ReaderStands script s (length script.lines) m.history seat.reader
   at_end = let P : ℕ → Type 0 = λ n. ReaderStands script s n m.history seat.reader in subst P place sits.stands
@@ -156,16 +156,16 @@ module _ (ends_are_read : EndsAreRead) (script : Script) (playable : is_playable
   pub end_read : (new : Machine) → new ≡ entered m (Session seat.reader.session) (script.count + 1) seat.reader.pending (End seat.reader.refused) Done
       → IsReading script.setup script.count (session_lines s script.lines) (own s new.history)
   end_read new is =
-      let given : List (ℕ × Line) = session_lines s (take (length script.lines) script.lines) in
+      let given : List (ℕ × SessionLine) = session_lines s (take (length script.lines) script.lines) in
       let all : given ≡ session_lines s script.lines = ap (session_lines s) (take_all (length script.lines) script.lines (omega arith)) in
-      let R : List (ℕ × Line) → Type 0 = Rise 0 in
+      let R : List (ℕ × SessionLine) → Type 0 = Rise 0 in
       let rise : Rise 0 given = subst R (sym all) (session_rise s 0 script.lines (rises script playable)) in
       let has : HasRead m.setup given (own seat.reader.session m.history) seat.reader =
       on_board script.setup s m seat.reader setup at_end.session (λ setup es r. HasRead setup given es r) at_end.reads in
       let then : Machine = entered m (Session seat.reader.session) (script.count + 1) seat.reader.pending (End seat.reader.refused) Done in
-      let I : Setup → List (ℕ × Line) → SessionNo → Type 0 = λ setup lines n. IsReading setup script.count lines (own n then.history) in
+      let I : Setup → List (ℕ × SessionLine) → SessionNo → Type 0 = λ setup lines n. IsReading setup script.count lines (own n then.history) in
       let I1 : Setup → Type 0 = λ setup. I setup given seat.reader.session in
-      let I2 : List (ℕ × Line) → Type 0 = λ lines. I script.setup lines seat.reader.session in
+      let I2 : List (ℕ × SessionLine) → Type 0 = λ lines. I script.setup lines seat.reader.session in
       let I3 : SessionNo → Type 0 = I script.setup (session_lines s script.lines) in
       let I4 : Machine → Type 0 = λ n. IsReading script.setup script.count (session_lines s script.lines) (own s n.history) in
       subst I4 (sym is) (subst I3 at_end.session (subst I2 all (subst I1 setup (ends_are_read given script.count m seat.reader end_stands has rise))))
@@ -179,7 +179,7 @@ module _ (ends_are_read : EndsAreRead) (script : Script) (playable : is_playable
 -- ---- all sessions
 
 -- what a session sits by is its own entries
-kept : (script : Script) (s : SessionNo) (old new : List Entry) (seat : Seat) (ended : Bool) → own s new ≡ own s old → made s.0 new ≡ made s.0 old
+kept : (script : Script) (s : SessionNo) (old new : List Entry) (seat : SessionCursor) (ended : Bool) → own s new ≡ own s old → made s.0 new ≡ made s.0 old
     → SitsBy script s old seat ended → SitsBy script s new seat ended
 kept script s old new seat true same many sits = let P : List Entry → Type 0 =
     IsReading script.setup script.count (session_lines s script.lines) in subst P (sym same) sits
@@ -203,7 +203,8 @@ module _ (script : Script) (t : SessionNo) (old new : Machine) (who : Actor) (ot
   none_made : ◌≡◌ {A = ℕ} (cond (seat_number who == t.0) 1 0) 0
   none_made = ap (λ b. cond b 1 0) other
 
-  pub sits_beside : (number : ℕ) (carries : List Call) (kind : Kind) (reply : Reply) → new ≡ entered old who number carries kind reply → (seat : Seat)
+  pub sits_beside : (number : ℕ) (carries : List Call) (kind : EntryKind) (reply : Reply) → new ≡ entered old who number carries kind reply
+      → (seat : SessionCursor)
       → Sits script t old.history seat → Sits script t new.history seat
   sits_beside number carries kind reply is seat sits =
       let e : Entry = entry_of who number carries kind reply in
@@ -214,7 +215,7 @@ module _ (script : Script) (t : SessionNo) (old new : Machine) (who : Actor) (ot
       (ap (λ (m : Machine). made t.0 m.history) is ∙ many) sits
 
 -- an entry of the display
-pub seats_display : (script : Script) (old new : Machine) (number : ℕ) (carries : List Call) (kind : Kind) (reply : Reply) (seats : List Seat)
+pub seats_display : (script : Script) (old new : Machine) (number : ℕ) (carries : List Call) (kind : EntryKind) (reply : Reply) (seats : List SessionCursor)
     → new ≡ entered old Display number carries kind reply → SeatsStand script old.history seats → SeatsStand script new.history seats
 seats_display script old new number carries kind reply seats is stand = record {
   count = stand.count;
@@ -226,7 +227,7 @@ seats_display script old new number carries kind reply seats is stand = record {
     apart k = grind (arith, nat_tests)
 
 -- an entry of a session, whose seat is set
-pub seats_set : (script : Script) (k : ℕ) (old new : Machine) (seats : List Seat) (seat : Seat) → k < length seats
+pub seats_set : (script : Script) (k : ℕ) (old new : Machine) (seats : List SessionCursor) (seat : SessionCursor) → k < length seats
     → Goes (Session (record { 0 = k + 1 })) old new true → Sits script (record { 0 = k + 1 }) new.history seat
     → SeatsStand script old.history seats → SeatsStand script new.history (set seats k seat)
 seats_set script k old new seats seat within (Goes.enters number carries kind reply aside is) sits stand = record {
@@ -237,12 +238,12 @@ seats_set script k old new seats seat within (Goes.enters number carries kind re
     same_number : (j : ℕ) → (k + 1 == j + 1) ≡ true → j ≡ k
     same_number j hits = grind (arith, nat_tests)
 
-    by_place : (j : ℕ) (d : Seat) → j < length seats → (b : Bool) → (k + 1 == j + 1) ≡ b
+    by_place : (j : ℕ) (d : SessionCursor) → j < length seats → (b : Bool) → (k + 1 == j + 1) ≡ b
         → Sits script (record { 0 = j + 1 }) new.history (get_or (set seats k seat) j d)
     by_place j d inside true hits =
         let here = same_number j hits in
         let P : ℕ → Type 0 = λ n. Sits script (record { 0 = n + 1 }) new.history (get_or (set seats k seat) n d) in
-        let Q : Seat → Type 0 = λ p. Sits script (record { 0 = k + 1 }) new.history p in
+        let Q : SessionCursor → Type 0 = λ p. Sits script (record { 0 = k + 1 }) new.history p in
         let found : get_or (set seats k seat) k d ≡ seat = rw get_or-set_same refl in
         subst P (sym here) (subst Q (sym found) sits)
     by_place j d inside false no_one =
@@ -253,7 +254,7 @@ seats_set script k old new seats seat within (Goes.enters number carries kind re
 
 -- ---- before any line
 
-pub new_sits : NoneIsRead → (script : Script) (s : SessionNo) (reader : Reader) → IsNew script.setup s reader
+pub new_sits : NoneIsRead → (script : Script) (s : SessionNo) (reader : SessionReader) → IsNew script.setup s reader
     → Sits script s [] (record { reader = reader; place = 0; has_ended = false })
 new_sits none script s reader new = record {
   within = omega arith;
@@ -262,33 +263,34 @@ new_sits none script s reader new = record {
 }
 
 -- So many sessions sit that have read no line.
-pub record SeatsTo (script : Script) (n : ℕ) (seats : List Seat) : Type 0 where
+pub record SeatsTo (script : Script) (n : ℕ) (seats : List SessionCursor) : Type 0 where
   pub count : length seats ≡ n
-  pub each : (k : ℕ) (d : Seat) → k < length seats → Sits script (record { 0 = k + 1 }) [] (get_or seats k d)
+  pub each : (k : ℕ) (d : SessionCursor) → k < length seats → Sits script (record { 0 = k + 1 }) [] (get_or seats k d)
 
-pub seats_more : (script : Script) (n : ℕ) (seats : List Seat) (seat : Seat) → SeatsTo script n seats → Sits script (record { 0 = n + 1 }) [] seat
+pub seats_more : (script : Script) (n : ℕ) (seats : List SessionCursor) (seat : SessionCursor) → SeatsTo script n seats
+    → Sits script (record { 0 = n + 1 }) [] seat
     → SeatsTo script (n + 1) (seats ++ seat ∷ [])
 seats_more script n seats seat are new = record {
   count = length-append seats (seat ∷ []) ∙ ap (λ m. m + 1) are.count;
   each = λ k d within. by k d within (nat_lt k (length seats)) refl;
 }
   where
-    by : (k : ℕ) (d : Seat) → k < length (seats ++ seat ∷ []) → (b : Bool) → nat_lt k (length seats) ≡ b
+    by : (k : ℕ) (d : SessionCursor) → k < length (seats ++ seat ∷ []) → (b : Bool) → nat_lt k (length seats) ≡ b
         → Sits script (record { 0 = k + 1 }) [] (get_or (seats ++ seat ∷ []) k d)
     by k d within true is =
         let less : k < length seats = grind (arith, nat_tests) in
-        let P : Seat → Type 0 = Sits script (record { 0 = k + 1 }) [] in
+        let P : SessionCursor → Type 0 = Sits script (record { 0 = k + 1 }) [] in
         subst P (sym (get_or_append_left seats (seat ∷ []) d k less)) (are.each k d less)
     by k d within false is =
         let upto : length seats ≤ k = grind (arith, nat_tests) in
         let many = are.count in
         let last : length seats ≡ k = omega (arith, upto, within, length-append seats (seat ∷ [])) in
-        let P : Seat → Type 0 = Sits script (record { 0 = length seats + 1 }) [] in
+        let P : SessionCursor → Type 0 = Sits script (record { 0 = length seats + 1 }) [] in
         let N : ℕ → Type 0 = λ m. Sits script (record { 0 = m + 1 }) [] (get_or (seats ++ seat ∷ []) m d) in
         let M : ℕ → Type 0 = λ m. Sits script (record { 0 = m + 1 }) [] seat in
         subst N last (subst P (sym (get_or-append_seam seats seat [] d)) (subst M (sym many) new))
 
-pub seats_all : (script : Script) (n : ℕ) (seats : List Seat) → n ≡ script.setup.sessions → SeatsTo script n seats → SeatsStand script [] seats
+pub seats_all : (script : Script) (n : ℕ) (seats : List SessionCursor) → n ≡ script.setup.sessions → SeatsTo script n seats → SeatsStand script [] seats
 seats_all script n seats is are = record { count = are.count ∙ is; each = are.each }
 
 -- ---- whose line it is
@@ -296,17 +298,17 @@ seats_all script n seats is are = record { count = are.count ∙ is; each = are.
 none-some : {A : Type 0} (x : A) → None ≡ Some x → ⊥
 none-some x is = cc
 
-said_is : (what : Body) (text : Line) → session_text what ≡ Some text → what ≡ body.Session text
+said_is : (what : LineBody) (text : SessionLine) → session_text what ≡ Some text → what ≡ body.Session text
 said_is (body.Session said) text is = let same : said ≡ text = cc in ap body.Session same
 said_is (body.Display said) text is = absurd (none-some text is)
 said_is (body.Probe asked) text is = absurd (none-some text is)
 
 -- What is known of a line that is one of a session.
-pub record IsOwn (s : SessionNo) (who : Actor) (what : Body) (text : Line) : Type 0 where
+pub record IsOwn (s : SessionNo) (who : Actor) (what : LineBody) (text : SessionLine) : Type 0 where
   pub who_is : who ≡ Session s
   pub what_is : what ≡ body.Session text
 
-pub own_is : (s : SessionNo) (who : Actor) (what : Body) (text : Line) → own_text s who what ≡ Some text → IsOwn s who what text
+pub own_is : (s : SessionNo) (who : Actor) (what : LineBody) (text : SessionLine) → own_text s who what ≡ Some text → IsOwn s who what text
 own_is s Display what text is = absurd (none-some text is)
 own_is s (Probe p) what text is = absurd (none-some text is)
 own_is s (Session t) what text is = by (t.0 == s.0) refl is
@@ -316,19 +318,20 @@ own_is s (Session t) what text is = by (t.0 == s.0) refl is
         record { who_is = ap (λ (n : ℕ). Session (record { 0 = n })) number; what_is = said_is what text said }
     by false same said = absurd (none-some text said)
 
-pub other_is : (setup : Setup) (s : SessionNo) (who : Actor) (what : Body) → own_text s who what ≡ None → is_played setup who what ≡ true
+pub other_is : (setup : Setup) (s : SessionNo) (who : Actor) (what : LineBody) → own_text s who what ≡ None → is_played setup who what ≡ true
     → is_session s who ≡ false
 other_is setup s Display what is played = refl
 other_is setup s (Probe p) what is played = refl
 other_is setup s (Session t) what is played = by (t.0 == s.0) refl is what refl
   where
-    by : (b : Bool) → (t.0 == s.0) ≡ b → cond b (session_text what) None ≡ None → (said : Body) → what ≡ said → (t.0 == s.0) ≡ false
+    by : (b : Bool) → (t.0 == s.0) ≡ b → cond b (session_text what) None ≡ None → (said : LineBody) → what ≡ said → (t.0 == s.0) ≡ false
     by false same none said is = same
     by true same none (body.Session text) is = absurd (none-some text (sym none ∙ ap session_text is))
     by true same none (body.Display text) is = absurd (let wrong : false ≡ true = ap (is_played setup (Session t)) (sym is) ∙ played in cc)
     by true same none (body.Probe asked) is = absurd (let wrong : false ≡ true = ap (is_played setup (Session t)) (sym is) ∙ played in cc)
 
-pub own_at : (script : Script) (place : ℕ) (x : ScriptLine) (s : SessionNo) (text : Line) → slice_get script.lines place ≡ Some x → IsOwn s x.actor x.body text
+pub own_at : (script : Script) (place : ℕ) (x : ScriptLine) (s : SessionNo) (text : SessionLine) → slice_get script.lines place ≡ Some x
+    → IsOwn s x.actor x.body text
     → slice_get script.lines place ≡ Some (record { number = x.number; actor = Session s; body = body.Session text })
 own_at script place x s text at own = at ∙ (λ i. Some (record { number = x.number; actor = own.who_is i; body = own.what_is i }))
 

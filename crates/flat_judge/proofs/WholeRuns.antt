@@ -6,11 +6,11 @@ use Rattle.std.proofs.lemmas.Option.{slice_get-get_or}
 use Rattle.std.proofs.lemmas.Grind.{common_steps}
 use Rattle.flat_base.specs.declared.ids.Actor.{Actor}
 use Rattle.flat_base.specs.declared.ids.Actor.TheVariants.{Display, Session, Probe}
-use Rattle.flat_scene.specs.declared.frames.Lost.{Lost}
+use Rattle.flat_scene.specs.declared.frames.LostDisplay.{LostDisplay}
 use Rattle.flat_scene.specs.declared.journal.Entry.{Entry}
-use Rattle.flat_scene.specs.declared.journal.Post.{Post}
-use Rattle.flat_scene.specs.declared.script.Body.{Body}
-use Rattle.flat_scene.specs.declared.script.Body.TheVariants as body
+use Rattle.flat_scene.specs.declared.journal.PostedEvent.{PostedEvent}
+use Rattle.flat_scene.specs.declared.script.LineBody.{LineBody}
+use Rattle.flat_scene.specs.declared.script.LineBody.TheVariants as body
 use Rattle.flat_scene.specs.declared.script.ScriptLine.{ScriptLine}
 use Rattle.flat_scene.specs.declared.setup.Setup.{Setup}
 use Rattle.flat_scene.specs.History.{own}
@@ -28,13 +28,13 @@ use Rattle.flat_report.specs.Laws.{FramesAreSeen, HandedIsReport}
 use Rattle.flat_report.specs.Probes.{ProbesAnswered, frames_seen, is_asking}
 use Rattle.flat_report.specs.Report.{finished, is_loss, report}
 use Rattle.flat_report.specs.Runs.{is_display_number}
-use Rattle.flat_play.specs.declared.kept.Kept.{Kept}
-use Rattle.flat_play.specs.declared.kept.Kept.TheVariants as kept
+use Rattle.flat_play.specs.declared.kept_frames.KeptFrames.{KeptFrames}
+use Rattle.flat_play.specs.declared.kept_frames.KeptFrames.TheVariants as kept
 use Rattle.flat_play.specs.Keeping.{Keeps}
 use Rattle.flat_play.proofs.lemmas.Places.{all_to, drop_all, played_all, within}
 use Rattle.flat_base.proofs.lemmas.Tests.{and-left, and-right}
 use Rattle.flat_judge.specs.declared.guided_run.GuidedRun.{GuidedRun}
-use Rattle.flat_judge.specs.declared.seat.Seat.{Seat}
+use Rattle.flat_judge.specs.declared.session_cursor.SessionCursor.{SessionCursor}
 use Rattle.flat_judge.specs.GuidedRuns.{IsWhole, Sits, SitsBy}
 use Rattle.flat_judge.specs.Verdicts.{Run}
 use Rattle.flat_judge.proofs.ProbePlaces.{probes-whole}
@@ -53,7 +53,7 @@ pub item_is : {A : Type 0} (xs : List A) (i : ℕ) (x : A) → slice_get xs i �
 item_is xs i x at = let same : Some (get_or xs i x) ≡ Some x = sym (slice_get-get_or xs i x (within xs i x at)) ∙ at in cc
 
 -- each line of a probe asks, where each line is played
-line_asks : (setup : Setup) (actor : Actor) (text : Body) → is_played setup actor text ≡ true → is_asking actor text ≡ true
+line_asks : (setup : Setup) (actor : Actor) (text : LineBody) → is_played setup actor text ≡ true → is_asking actor text ≡ true
 line_asks setup (Probe p) (body.Probe asked) played = refl
 line_asks setup (Probe p) (body.Session said) played = absurd (let wrong : false ≡ true = played in cc)
 line_asks setup (Probe p) (body.Display said) played = absurd (let wrong : false ≡ true = played in cc)
@@ -79,9 +79,9 @@ module _ (script : Script) (playable : is_playable script ≡ true) (guided : Gu
       let seats = whole.stands.seats in
       let many = seats.count in
       let there = item-at guided.seats.items k (omega (arith, below, many)) in
-      let seat : Seat = there.item in
+      let seat : SessionCursor = there.item in
       let sits = seats.each k seat (omega (arith, below, many)) in
-      let S : Seat → Type 0 = λ p. Sits script (record { 0 = k + 1 }) history p in
+      let S : SessionCursor → Type 0 = λ p. Sits script (record { 0 = k + 1 }) history p in
       subst (SitsBy script (record { 0 = k + 1 }) history seat) (whole.ended k seat below there.at) (subst S (item_is guided.seats.items k seat there.at) sits)
 
   pub interleaves : Interleaves script.setup script.count script.lines history
@@ -100,8 +100,8 @@ module _ (script : Script) (playable : is_playable script ≡ true) (guided : Gu
       (λ n one got. let below = within guided.answers.items n one got in let a = probes.count in let b = probes.as_many in omega (arith, below, a, b))
 
   -- the run, with losses that fit it
-  abbrev pub run : FramesAreSeen → Legal guided.screen.board.setup history → (lost : List Lost) → is_loss history lost ≡ true
-      → list_all (λ (one : Lost). is_display_number one.display) lost ≡ true → Run script
+  abbrev pub run : FramesAreSeen → Legal guided.screen.board.setup history → (lost : List LostDisplay) → is_loss history lost ≡ true
+      → list_all (λ (one : LostDisplay). is_display_number one.display) lost ≡ true → Run script
   run seen legal lost loss numbered = record {
     history = history;
     lost = lost;
@@ -117,13 +117,13 @@ module _ (script : Script) (playable : is_playable script ≡ true) (guided : Gu
 
   -- what it hands to the report is written as its report
   pub handed : HandedIsReport → (texts : FrameTexts) → kept.Texts texts ≡ guided.screen.store.kept
-      → (lost : List Lost) (entries : List Entry) (sent : List Post) (probes : List (List ProbeAnswer)) → probes ≡ guided.answers.items
+      → (lost : List LostDisplay) (entries : List Entry) (sent : List PostedEvent) (probes : List (List ProbeAnswer)) → probes ≡ guided.answers.items
       → history_of entries ≡ history
       → sent ≡ posts guided.screen.board.setup history → handed_report script entries sent texts.texts.items lost guided.screen.store.answers probes
       ≡ report script history lost (frames_seen guided.answers.items)
   handed law texts texts_are lost entries sent probes probes_are entries_are sent_are =
       let show = whole.stands.screen in
-      let K : Kept → Type 0 = λ k. Keeps script k (finished script.setup history) in
+      let K : KeptFrames → Type 0 = λ k. Keeps script k (finished script.setup history) in
       let A : List Entry → Type 0 = λ h. ProbesAnswered script h guided.answers.items in
       let written : AreTexts script (finished script.setup history) texts = subst K (sym texts_are) show.frames.stored.keeps in
       ap (λ (ps : List (List ProbeAnswer)). handed_report script entries sent texts.texts.items lost guided.screen.store.answers ps) probes_are

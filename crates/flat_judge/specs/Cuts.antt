@@ -5,8 +5,8 @@ use Rattle.std.specs.Str.{bytes_eq}
 use Rattle.flat_text.specs.Pieces.{is_feed, lines_of}
 use Rattle.flat_places.specs.declared.script.Script.{Script}
 use Rattle.flat_script.specs.Grammar.{IsScript, IsFault}
-use Rattle.flat_judge.specs.declared.cutting.Judged.{Judged}
-use Rattle.flat_judge.specs.declared.cutting.Judged.TheVariants.{Said, Refused}
+use Rattle.flat_judge.specs.declared.cutting.JudgedText.{JudgedText}
+use Rattle.flat_judge.specs.declared.cutting.JudgedText.TheVariants.{Said, Refused}
 use Rattle.flat_judge.specs.Verdicts.{IsVerdict}
 
 -- a line that begins a report
@@ -23,11 +23,11 @@ pub record IsCut (text first rest : List ℕ) : Type 0 where
   pub titled : (rest ≡ []) ⊎ (is_title (before_first is_feed rest) ≡ true)
 
 -- What is said of a text that is cut so: its first part is a script, of which the rest is judged; or it has this fault.
-abbrev pub SaysSo : List ℕ → List ℕ → Judged → Type 0
+abbrev pub SaysSo : List ℕ → List ℕ → JudgedText → Type 0
 SaysSo first rest (Said verdict) = (script : Script) × IsScript first script × IsVerdict script rest verdict
 SaysSo first rest (Refused fault) = IsFault first fault
 
-pub record IsSaid (text : List ℕ) (judged : Judged) : Type 0 where
+pub record IsSaid (text : List ℕ) (judged : JudgedText) : Type 0 where
   pub first : List ℕ
   pub rest : List ℕ
   pub cut : IsCut text first rest

@@ -5,7 +5,7 @@ use Rattle.std.specs.List.{list_all}
 use Rattle.std.specs.Str.{bytes_eq}
 use Rattle.flat_base.specs.declared.ids.Actor.{Actor}
 use Rattle.flat_base.specs.declared.ids.Actor.TheVariants.{Display, Session}
-use Rattle.flat_scene.specs.declared.frames.Lost.{Lost}
+use Rattle.flat_scene.specs.declared.frames.LostDisplay.{LostDisplay}
 use Rattle.flat_scene.specs.declared.journal.Entry.{Entry}
 use Rattle.flat_scene.specs.History.{◌▹◌, is_finish}
 use Rattle.flat_rules.specs.Legal.{frames}
@@ -21,14 +21,14 @@ use Rattle.flat_lines.specs.EntryLines.{entry_line, event_line}
 use Rattle.flat_lines.specs.FrameLines.{lost_line}
 use Rattle.flat_report.specs.Report.{history_lines, hits_at, is_loss, is_lost_before, shown_lines}
 use Rattle.flat_report.specs.Runs.{is_display_number}
-use Rattle.flat_judge.specs.declared.following.Along.{Along}
+use Rattle.flat_judge.specs.declared.following.ReplayProgress.{ReplayProgress}
 use Rattle.flat_judge.specs.GuidedRuns.{Grown}
 use Rattle.flat_judge.specs.Verdicts.{IsRead, NoRun, Run, report_of}
 
 -- ---- the text of the entries so far
 
 -- the first line of a report, and the lines of these entries
-abbrev pub told : Script → List Lost → List Entry → List ℕ
+abbrev pub told : Script → List LostDisplay → List Entry → List ℕ
 told script lost history = text_of (title_line script.version ∷ history_lines script lost history)
 
 -- A text begins with these bytes, and goes on at this place.
@@ -78,22 +78,23 @@ abbrev pub next_display : List ℕ → Option ℕ
 next_display text = display_by (first_word text) (first_word (behind_word text))
 
 -- a display may be lost behind these
-abbrev pub fits_behind : List Lost → Lost → Bool
+abbrev pub fits_behind : List LostDisplay → LostDisplay → Bool
 fits_behind lost next = list_all (λ one. is_lost_before one next && not (next.display == one.display)) lost
 
 -- The next line doesn't say of a display that it was lost at a frame behind these.
-abbrev pub NoMoreLost : ℕ → List Lost → List ℕ → Type 0
-NoMoreLost frame lost text = (one : Lost) (rest : List ℕ) → one.frame.0 ≡ frame → is_display_number one.display ≡ true
+abbrev pub NoMoreLost : ℕ → List LostDisplay → List ℕ → Type 0
+NoMoreLost frame lost text = (one : LostDisplay) (rest : List ℕ) → one.frame.0 ≡ frame
+    → is_display_number one.display ≡ true
     → fits_behind lost one ≡ true → text ≡ text_of (lost_line one ∷ []) ++ rest → ⊥
 
 -- The losses may be those of each run that has as many frames, or more.
-abbrev pub AreLosses : ℕ → List Lost → Type 0
+abbrev pub AreLosses : ℕ → List LostDisplay → Type 0
 AreLosses frame lost = ((history : List Entry) → frame ≤ frames history → is_loss history lost ≡ true)
     × (list_all (λ one. is_display_number one.display) lost ≡ true)
 
 -- One display more is lost at a frame behind others, as a text says from a place on.
-pub record ReadsLoss (frame : ℕ) (old new : List Lost) (text : List ℕ) (at next : ℕ) : Type 0 where
-  pub one : Lost
+pub record ReadsLoss (frame : ℕ) (old new : List LostDisplay) (text : List ℕ) (at next : ℕ) : Type 0 where
+  pub one : LostDisplay
   pub is : new ≡ old ++ one ∷ []
   pub is_at : ((one.frame.0 == frame) && is_display_number one.display) ≡ true
   pub fits : fits_behind old one ≡ true
@@ -101,8 +102,8 @@ pub record ReadsLoss (frame : ℕ) (old new : List Lost) (text : List ℕ) (at n
   pub further : at < next
 
 -- Some displays more are lost at a frame, as a text says from a place on, and it says of no further one.
-pub record ReadsLosses (frame : ℕ) (old new : List Lost) (text : List ℕ) (at next : ℕ) : Type 0 where
-  pub more : List Lost
+pub record ReadsLosses (frame : ℕ) (old new : List LostDisplay) (text : List ℕ) (at next : ℕ) : Type 0 where
+  pub more : List LostDisplay
   pub is : new ≡ old ++ more
   pub are_at : list_all (λ one. (one.frame.0 == frame) && is_display_number one.display) more ≡ true
   pub passes : Passes text at (text_of (map lost_line more)) (Some next)
@@ -117,25 +118,25 @@ and_then before [] = before
 and_then before (entry ∷ later) = and_then (before ▹ entry) later
 
 -- displays are lost behind the frame of a number
-abbrev pub are_behind : ℕ → List Lost → Bool
+abbrev pub are_behind : ℕ → List LostDisplay → Bool
 are_behind frame lost = list_all (λ one. nat_lt frame one.frame.0) lost
 
 -- A run goes on so: it has these entries and losses, up to a frame, and later ones.
-pub record GoesOnTo (history : List Entry) (lost : List Lost) (frame : ℕ) {script : Script}
+pub record GoesOnTo (history : List Entry) (lost : List LostDisplay) (frame : ℕ) {script : Script}
     (run : Run script) : Type 0 where
   pub later : List Entry
   pub entries : run.history ≡ and_then history later
-  pub more : List Lost
+  pub more : List LostDisplay
   pub losses : run.lost ≡ lost ++ more
   pub behind : are_behind frame more ≡ true
 
 -- Each run with this report goes on so.
-abbrev pub AllGoOn : Script → List ℕ → List Entry → List Lost → ℕ → Type 0
+abbrev pub AllGoOn : Script → List ℕ → List Entry → List LostDisplay → ℕ → Type 0
 AllGoOn script text history lost frame =
     IsRead script → (run : Run script) → text ≡ report_of script run → GoesOnTo history lost frame run
 
 -- Each run with this report has just these entries and losses.
-abbrev pub IsOnly : Script → List ℕ → List Entry → List Lost → Type 0
+abbrev pub IsOnly : Script → List ℕ → List Entry → List LostDisplay → Type 0
 IsOnly script text history lost =
     IsRead script → (run : Run script) → text ≡ report_of script run → (run.history ≡ history) × (run.lost ≡ lost)
 
@@ -143,7 +144,7 @@ IsOnly script text history lost =
 
 -- The text begins with that of the entries so far, and goes on at this place. So does each run that has it as its
 -- report.
-pub record IsAlong (script : Script) (text : List ℕ) (history : List Entry) (along : Along) : Type 0 where
+pub record IsAlong (script : Script) (text : List ℕ) (history : List Entry) (along : ReplayProgress) : Type 0 where
   pub begins : Begins text (told script along.lost history) along.at
   pub within : along.at ≤ length text
   pub led : AllGoOn script text history along.lost (frames history)
@@ -155,7 +156,7 @@ abbrev pub own_text : Script → List Entry → Entry → List ℕ
 own_text script before entry =
     text_of (entry_line script (frames before) (hits_at script.setup (to_finished before)) entry ∷ [])
 
-abbrev pub shown_text : Script → List Lost → List Entry → Entry → List ℕ
+abbrev pub shown_text : Script → List LostDisplay → List Entry → Entry → List ℕ
 shown_text script lost before entry = text_of (cond (is_finish entry.kind) (shown_lines script lost before) [])
 
 abbrev pub events_text : Script → List Entry → Entry → List ℕ
@@ -164,7 +165,7 @@ events_text script before entry =
 
 -- So it is with the entries before the last one, and with a part of what that one adds, up to a frame's losses.
 pub record IsPart (script : Script) (text : List ℕ) (before : List Entry) (entry : Entry) (part : List ℕ) (frame : ℕ)
-    (along : Along) : Type 0 where
+    (along : ReplayProgress) : Type 0 where
   pub begins : Begins text (told script along.lost before ++ part) along.at
   pub within : along.at ≤ length text
   pub led : AllGoOn script text (before ▹ entry) along.lost frame
@@ -172,36 +173,38 @@ pub record IsPart (script : Script) (text : List ℕ) (before : List Entry) (ent
   pub posted : along.posted ≡ length (posts script.setup before)
 
 -- the last entry's own line is told
-abbrev pub IsLineTold : Script → List ℕ → List Entry → Entry → Along → Type 0
+abbrev pub IsLineTold : Script → List ℕ → List Entry → Entry → ReplayProgress → Type 0
 IsLineTold script text before entry along =
     IsPart script text before entry (own_text script before entry) (frames before) along
 
 -- and the frame that it finishes
-abbrev pub IsShownTold : Script → List ℕ → List Entry → Entry → Along → Type 0
+abbrev pub IsShownTold : Script → List ℕ → List Entry → Entry → ReplayProgress → Type 0
 IsShownTold script text before entry along =
     IsPart script text before entry (own_text script before entry ++ shown_text script along.lost before entry)
     (frames (before ▹ entry)) along
 
 -- So it is, from this place of the text on; or the text has parted from the run's report, and is no run's. In
 -- any case the losses may be those of so many frames.
-pub data Stays (script : Script) (text : List ℕ) (frame from : ℕ) (So : Along → Type 0)
-    (along : Along) : Bool → Type 0 where
+pub data Stays (script : Script) (text : List ℕ) (frame from : ℕ) (So : ReplayProgress → Type 0)
+    (along : ReplayProgress) : Bool → Type 0 where
   stays : So along → from ≤ along.at → Stays script text frame from So along true
   parts : NoRun script text → AreLosses frame along.lost → Stays script text frame from So along false
 
 -- The run's next entry is that of whom the text says; or no run with this report goes on.
-pub data MakesNext (script : Script) (text : List ℕ) (old new : List Entry) (along : Along) : Bool → Type 0 where
+pub data MakesNext (script : Script) (text : List ℕ) (old new : List Entry) (along : ReplayProgress) : Bool
+    → Type 0 where
   makes : (entry : Entry) → new ≡ (old ▹ entry) → IsPart script text old entry [] (frames old) along
       → MakesNext script text old new along true
   stops : new ≡ old → IsOnly script text old along.lost → MakesNext script text old new along false
 
 -- No run with this report goes on behind these entries, or has other losses; and these may be those of so many frames.
-pub record HasStopped (script : Script) (text : List ℕ) (history : List Entry) (along : Along) : Type 0 where
+pub record HasStopped (script : Script) (text : List ℕ) (history : List Entry) (along : ReplayProgress) : Type 0 where
   pub only : IsOnly script text history along.lost
   pub losses : AreLosses (frames history) along.lost
 
 -- So it was at some of these entries, before the others were made.
-pub record StoppedBefore (script : Script) (text : List ℕ) (history : List Entry) (along : Along) : Type 0 where
-  pub stop : List Entry
-  pub stopped : HasStopped script text stop along
-  pub grown : Grown stop history
+pub record StoppedBefore (script : Script) (text : List ℕ) (history : List Entry) (along : ReplayProgress) : Type 0
+  where
+    pub stop : List Entry
+    pub stopped : HasStopped script text stop along
+    pub grown : Grown stop history

@@ -6,12 +6,12 @@ use Rattle.flat_base.specs.declared.ids.Actor.TheVariants.{Display, Probe}
 use Rattle.flat_base.specs.declared.ids.SessionNo.{SessionNo}
 use Rattle.flat_scene.specs.declared.calls.Call.{Call}
 use Rattle.flat_scene.specs.declared.journal.Entry.{Entry}
-use Rattle.flat_scene.specs.declared.journal.Kind.{Kind}
-use Rattle.flat_scene.specs.declared.journal.Kind.TheVariants.{Begin, Finish, Hit}
+use Rattle.flat_scene.specs.declared.journal.EntryKind.{EntryKind}
+use Rattle.flat_scene.specs.declared.journal.EntryKind.TheVariants.{Begin, Finish, Hit}
 use Rattle.flat_scene.specs.declared.journal.Reply.{Reply}
-use Rattle.flat_scene.specs.declared.script.Body.{Body}
-use Rattle.flat_scene.specs.declared.script.Body.TheVariants as body
-use Rattle.flat_scene.specs.declared.script.Line.{Line}
+use Rattle.flat_scene.specs.declared.script.LineBody.{LineBody}
+use Rattle.flat_scene.specs.declared.script.LineBody.TheVariants as body
+use Rattle.flat_scene.specs.declared.script.SessionLine.{SessionLine}
 use Rattle.flat_scene.specs.declared.script.ProbeLine.{ProbeLine}
 use Rattle.flat_scene.specs.History.{own, is_session}
 use Rattle.flat_scene.specs.Interleave.{IsReading, session_lines}
@@ -21,26 +21,26 @@ use Rattle.flat_places.specs.declared.script.Script.{Script}
 use Rattle.flat_report.specs.declared.probes.ProbeAnswer.{ProbeAnswer}
 use Rattle.flat_report.specs.Probes.{AreAnsweredBy, hits_in_frame}
 use Rattle.flat_report.specs.Report.{probe_lines_of}
-use Rattle.flat_play.specs.declared.kept.Keeping.TheVariants as keeping
-use Rattle.flat_judge.specs.declared.screen.Screen.{Screen}
+use Rattle.flat_play.specs.declared.kept_frames.FramesToKeep.TheVariants as keeping
+use Rattle.flat_judge.specs.declared.replay_screen.ReplayScreen.{ReplayScreen}
 use Rattle.flat_play.specs.Keeping.{keeping_of}
 use Rattle.flat_play.specs.Playing.{DisplayStands, ReaderStands, lines_by}
 use Rattle.flat_play.specs.Playing.{session_text, shares_of}
 use Rattle.flat_play.specs.Storing.{FramesStand}
 use Rattle.flat_judge.specs.declared.guided_run.GuidedRun.{GuidedRun}
-use Rattle.flat_judge.specs.declared.seat.Seat.{Seat}
+use Rattle.flat_judge.specs.declared.session_cursor.SessionCursor.{SessionCursor}
 
 -- ---- what is shown
 
 -- What a run shows and keeps hangs on its history alone, and not on how far each actor has read.
-pub record ScreenStands (script : Script) (screen : Screen) : Type 0 where
+pub record ScreenStands (script : Script) (screen : ReplayScreen) : Type 0 where
   pub setup : screen.board.setup ≡ script.setup
   pub shares : screen.board.shares ≡ shares_of script
   pub frames : FramesStand script screen.board.history screen.start screen.store
   pub texts : keeping_of screen.store.kept ≡ keeping.Texts
 
 -- an entry that leaves frames and points alone
-abbrev pub is_aside : Kind → Bool
+abbrev pub is_aside : EntryKind → Bool
 is_aside (Begin time) = false
 is_aside Finish = false
 is_aside (Hit x y) = false
@@ -49,18 +49,18 @@ is_aside _ = true
 -- A board stays, or has one entry more of an actor, which leaves frames and points alone.
 pub data Goes (who : Actor) (old new : Machine) : Bool → Type 0 where
   stays : new ≡ old → Goes who old new false
-  enters : (number : ℕ) (carries : List Call) (kind : Kind) (reply : Reply) → is_aside kind ≡ true
+  enters : (number : ℕ) (carries : List Call) (kind : EntryKind) (reply : Reply) → is_aside kind ≡ true
       → new ≡ entered old who number carries kind reply → Goes who old new true
 
 -- A board has one entry more of the display, which carries nothing and has the reply of the rules.
-abbrev pub HasEntered : ℕ → Kind → Machine → Machine → Type 0
+abbrev pub HasEntered : ℕ → EntryKind → Machine → Machine → Type 0
 HasEntered number kind old new =
     new ≡ entered old Display number [] kind (reply_to old.setup old.history Display [] kind)
 
 -- A board stays, or has one entry more of the display.
 pub data DisplayGoes (old new : Machine) : Bool → Type 0 where
   stays : new ≡ old → DisplayGoes old new false
-  enters : (number : ℕ) (kind : Kind) → HasEntered number kind old new → DisplayGoes old new true
+  enters : (number : ℕ) (kind : EntryKind) → HasEntered number kind old new → DisplayGoes old new true
 
 -- A history has these entries before others.
 pub record Grown (old new : List Entry) : Type 0 where
@@ -70,27 +70,27 @@ pub record Grown (old new : List Entry) : Type 0 where
 -- ---- a session
 
 -- the line of a session that a line of an actor is
-abbrev pub own_text : SessionNo → Actor → Body → Option Line
+abbrev pub own_text : SessionNo → Actor → LineBody → Option SessionLine
 own_text s actor text = cond (is_session s actor) (session_text text) None
 
 -- A session that hasn't ended has read its lines up to its place, and has room for those that are left.
-pub record IsAt (script : Script) (s : SessionNo) (history : List Entry) (seat : Seat) : Type 0 where
+pub record IsAt (script : Script) (s : SessionNo) (history : List Entry) (seat : SessionCursor) : Type 0 where
   pub within : seat.place ≤ length script.lines
   pub stands : ReaderStands script s seat.place history seat.reader
   pub spent : made s.0 history + lines_by s.0 (drop seat.place script.lines) ≤ lines_by s.0 script.lines
 
 -- a session that has ended has read all its lines
-abbrev pub SitsBy : Script → SessionNo → List Entry → Seat → Bool → Type 0
+abbrev pub SitsBy : Script → SessionNo → List Entry → SessionCursor → Bool → Type 0
 SitsBy script s history seat true = IsReading script.setup script.count (session_lines s script.lines) (own s history)
 SitsBy script s history seat false = IsAt script s history seat
 
-abbrev pub Sits : Script → SessionNo → List Entry → Seat → Type 0
+abbrev pub Sits : Script → SessionNo → List Entry → SessionCursor → Type 0
 Sits script s history seat = SitsBy script s history seat seat.has_ended
 
 -- All sessions sit.
-pub record SeatsStand (script : Script) (history : List Entry) (seats : List Seat) : Type 0 where
+pub record SeatsStand (script : Script) (history : List Entry) (seats : List SessionCursor) : Type 0 where
   pub count : length seats ≡ script.setup.sessions
-  pub each : (k : ℕ) (d : Seat) → k < length seats
+  pub each : (k : ℕ) (d : SessionCursor) → k < length seats
       → Sits script (record { 0 = k + 1 }) history (slice_index_or seats k d)
 
 -- ---- the whole
@@ -115,13 +115,13 @@ pub record RunStands (script : Script) (guided : GuidedRun) : Type 0 where
   pub probes : ProbesStandAt script guided.screen.board.history guided.places guided.answers.items
 
 -- the sessions before one have ended
-abbrev pub HaveEnded : ℕ → List Seat → Type 0
-HaveEnded n seats = (k : ℕ) (seat : Seat) → k < n → slice_get seats k ≡ Some seat → seat.has_ended ≡ true
+abbrev pub HaveEnded : ℕ → List SessionCursor → Type 0
+HaveEnded n seats = (k : ℕ) (seat : SessionCursor) → k < n → slice_get seats k ≡ Some seat → seat.has_ended ≡ true
 
 -- all seats but one are as they were, and that one went on: it has ended, or its place is a later one
-pub record GoesOn (k : ℕ) (old new : List Seat) : Type 0 where
+pub record GoesOn (k : ℕ) (old new : List SessionCursor) : Type 0 where
   pub others : (j : ℕ) → j ≢ k → slice_get new j ≡ slice_get old j
-  pub on : (was is : Seat) → slice_get old k ≡ Some was → slice_get new k ≡ Some is → is.has_ended ≡ false
+  pub on : (was is : SessionCursor) → slice_get old k ≡ Some was → slice_get new k ≡ Some is → is.has_ended ≡ false
       → was.place < is.place
 
 -- A run has come to its end: each session has ended, and the display and the probes stand behind all lines.
@@ -134,7 +134,7 @@ pub record IsWhole (script : Script) (guided : GuidedRun) : Type 0 where
 -- ---- probes
 
 -- what a line asks of a probe, if it is one of the probe's
-abbrev pub asked_here : ℕ → Actor → Body → Option ProbeLine
+abbrev pub asked_here : ℕ → Actor → LineBody → Option ProbeLine
 asked_here probe (Probe p) (body.Probe asked) = cond (p == probe) (Some asked) None
 asked_here probe _ _ = None
 

@@ -1,21 +1,21 @@
 -- What a judge says of a text: that it is the report of a run of the script, or the line in which it is wrong.
 use Rattle.std.specs.Prelude.{◌≡◌, ℕ, List, length, Option, Some}
-use Rattle.flat_scene.specs.declared.frames.Lost.{Lost}
+use Rattle.flat_scene.specs.declared.frames.LostDisplay.{LostDisplay}
 use Rattle.flat_scene.specs.declared.journal.Entry.{Entry}
 use Rattle.flat_rules.specs.Legal.{frames}
 use Rattle.flat_places.specs.declared.script.Script.{Script}
 use Rattle.flat_script.specs.Grammar.{IsScript}
 use Rattle.flat_report.specs.Runs.{IsRun}
 use Rattle.flat_report.specs.Report.{report}
-use Rattle.flat_judge.specs.declared.judging.Verdict.{Verdict}
-use Rattle.flat_judge.specs.declared.judging.Verdict.TheVariants.{Legal, Wrong}
+use Rattle.flat_judge.specs.declared.judging.ReportVerdict.{ReportVerdict}
+use Rattle.flat_judge.specs.declared.judging.ReportVerdict.TheVariants.{Legal, Wrong}
 use Rattle.flat_judge.specs.Parting.{line_of, parts_from}
 
 -- A run of a script: a legal history that interleaves its actors, the displays that were lost, and the frames
 -- that its probes saw.
 pub record Run (script : Script) : Type 0 where
   pub history : List Entry
-  pub lost : List Lost
+  pub lost : List LostDisplay
   pub seen : List ℕ
   pub is : IsRun script history lost seen
 
@@ -50,6 +50,6 @@ pub record IsWrong (script : Script) (text : List ℕ) (line : ℕ) (want : Opti
   pub parts : PartsAt script text line want
 
 -- What is said of a text is so: what is legal is the report of a run, and what is wrong is that of none.
-abbrev pub IsVerdict : Script → List ℕ → Verdict → Type 0
+abbrev pub IsVerdict : Script → List ℕ → ReportVerdict → Type 0
 IsVerdict script text (Legal entries finished) = IsLegal script text entries finished
 IsVerdict script text (Wrong line want) = IsWrong script text line want

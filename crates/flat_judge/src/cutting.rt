@@ -3,7 +3,7 @@ ghost use Rattle.std.specs.Prelude.{◌≡◌, ◌≤◌, length, take, drop, If
 ghost use Rattle.flat_judge.specs.Cuts.{IsCut, IsSaid, is_title};
 ghost use Rattle.flat_judge.specs.Titles.{ScriptsHaveNoTitle};
 
-use crate::judging::{Verdict, judge};
+use crate::judging::{ReportVerdict, judge};
 use flat_base::NoMemory;
 use flat_places::is_word;
 use flat_playable::scripts_are_playable;
@@ -13,9 +13,9 @@ use std::alloc::Global;
 
 /// What is said of a text.
 #[derive(Drop)]
-pub enum Judged {
+pub enum JudgedText {
     /// It is a script, and this is said of the report behind it.
-    Said(Verdict),
+    Said(ReportVerdict),
     /// What stands before the report is no script.
     Refused(ScriptFault),
 }
@@ -49,7 +49,7 @@ fn report_place(text: &[u8]) -> usize
 
 /// Judges a text that is a script with a report behind it. Where no line begins a report,
 /// the report has no bytes.
-pub fn judge_text(alloc: Global, text: &[u8]) -> Result<Judged, NoMemory>
+pub fn judge_text(alloc: Global, text: &[u8]) -> Result<JudgedText, NoMemory>
     ensures { IfOk result (IsSaid text.now) }
 {
     scripts_are_playable();
@@ -58,9 +58,9 @@ pub fn judge_text(alloc: Global, text: &[u8]) -> Result<Judged, NoMemory>
         Ok(script) => {
             let verdict = judge(alloc, &script, &text[at..]);
             drop(script);
-            Ok(Judged::Said(verdict?))
+            Ok(JudgedText::Said(verdict?))
         }
-        Err(ScriptError::Fault(fault)) => Ok(Judged::Refused(fault)),
+        Err(ScriptError::Fault(fault)) => Ok(JudgedText::Refused(fault)),
         Err(ScriptError::Memory) => Err(NoMemory),
     }
 }

@@ -11,7 +11,7 @@ use flat_base::NoMemory;
 use flat_lines::{push_entry, push_losses, push_posts, push_title};
 use flat_page::Page;
 use flat_places::Script;
-use flat_scene::{Entry, Hit, Lost, Post};
+use flat_scene::{Entry, Hit, LostDisplay, PostedEvent};
 use std::alloc::Global;
 
 /// The first line of a report, of a script of that version.
@@ -41,7 +41,7 @@ pub(crate) fn line_text(
 }
 
 /// The line of a display that was lost.
-pub(crate) fn loss_text(alloc: Global, one: Lost) -> Result<Vec<u8>, NoMemory>
+pub(crate) fn loss_text(alloc: Global, one: LostDisplay) -> Result<Vec<u8>, NoMemory>
     ensures { IfOk result (λ text. text.items ≡ text_of (lost_line one ∷ [])) }
 {
     let mut page = Page::new(alloc);
@@ -53,7 +53,7 @@ pub(crate) fn loss_text(alloc: Global, one: Lost) -> Result<Vec<u8>, NoMemory>
 pub(crate) fn posts_text(
     alloc: Global,
     script: &Script,
-    posts: &[Post],
+    posts: &[PostedEvent],
 ) -> Result<Vec<u8>, NoMemory>
     ensures { IfOk result (λ text. text.items ≡ text_of (map (post_line script.now) posts.now)) }
 {

@@ -16,37 +16,37 @@ ghost use Rattle.flat_judge.specs.Heeding.{AllHeed, HeedsSo, SeesAsTold};
 ghost use Rattle.flat_judge.specs.Hints.{AreHints};
 
 use crate::entry_texts::title_text;
-use crate::guide::Guide;
 use crate::guided_run::GuidedRun;
 use crate::losses::read_losses;
 use crate::passing::pass;
+use crate::probe_guide::ProbeGuide;
 use crate::reading::next_actor;
-use crate::screen::Screen;
+use crate::replay_screen::ReplayScreen;
 use crate::telling::{pass_events, pass_frame, pass_line};
 use flat_base::{Actor, Items, NoMemory, SessionNo};
 use flat_places::Script;
-use flat_scene::{Entry, Kind, Lost};
+use flat_scene::{Entry, EntryKind, LostDisplay};
 use std::alloc::Global;
 
 /// How far a run has followed a text.
 #[derive(Drop)]
-pub struct Along {
+pub struct ReplayProgress {
     /// The displays that were lost so far, as the text says.
-    pub lost: Items<Lost>,
+    pub lost: Items<LostDisplay>,
     /// How many bytes of the text the entries so far have.
     pub at: usize,
     /// How many events were posted so far.
     pub posted: usize,
 }
 
-impl Along {
+impl ReplayProgress {
     /// Passes the last entry's own line, and says whether the text has it.
     fn tell_line(
         &mut self,
         alloc: Global,
         script: &Script,
         text: &[u8],
-        screen: &Screen,
+        screen: &ReplayScreen,
         entry: &Entry,
     ) -> Result<bool, NoMemory>
         requires shows { ScreenStands script.now screen.now }
@@ -73,7 +73,7 @@ impl Along {
         alloc: Global,
         script: &Script,
         text: &[u8],
-        screen: &Screen,
+        screen: &ReplayScreen,
     ) -> Result<bool, NoMemory>
         requires shows { ScreenStands script.now screen.now }
         requires within { self.old.at ≤ length text.now }
@@ -100,7 +100,7 @@ impl Along {
         alloc: Global,
         script: &Script,
         text: &[u8],
-        screen: &Screen,
+        screen: &ReplayScreen,
         entry: &Entry,
     ) -> Result<bool, NoMemory>
         requires shows { ScreenStands script.now screen.now }
@@ -112,7 +112,7 @@ impl Along {
             (IsShownTold script.now text.now before entry.now) self.new) }
     {
         match entry.kind {
-            Kind::Finish => self.tell_frame(alloc, script, text, screen),
+            EntryKind::Finish => self.tell_frame(alloc, script, text, screen),
             _ => Ok(true),
         }
     }
@@ -123,7 +123,7 @@ impl Along {
         alloc: Global,
         script: &Script,
         text: &[u8],
-        screen: &Screen,
+        screen: &ReplayScreen,
     ) -> Result<bool, NoMemory>
         requires shows { ScreenStands script.now screen.now }
         requires within { self.old.at ≤ length text.now }
@@ -145,12 +145,12 @@ impl Along {
 
 /// A run that follows a text.
 #[derive(Drop)]
-pub struct Followed {
+pub struct FollowedRun {
     pub run: GuidedRun,
-    pub along: Along,
+    pub along: ReplayProgress,
 }
 
-impl Followed {
+impl FollowedRun {
     /// Makes the next entry of a session, if it hasn't ended, and says so.
     fn session_entry(
         &mut self,
@@ -162,7 +162,8 @@ impl Followed {
         requires playable { is_playable script.now ≡ true }
         requires stands { RunStands script.now self.old.run }
         requires declared { is_declared script.now.setup s ≡ true }
-        requires along { IsAlong script.now text.now self.old.run.screen.board.history self.old.along }
+        requires along { IsAlong script.now text.now self.old.run.screen.board.history
+            self.old.along }
         requires turn { next_actor script.now (drop self.old.along.at text.now) ≡ Some (Session s) }
         ensures stands { OnOk result (RunStands script.now self.new.run) }
         ensures makes { IfOk result (MakesNext script.now text.now self.old.run.screen.board.history
@@ -175,6 +176,7 @@ impl Followed {
             return Ok(false);
         }
         self.run.session_turn(alloc, script, k)?;
+        // proof: the entries so far are legal.
         let _journal = self.run.screen.board.journal();
         Ok(true)
     }
@@ -188,7 +190,8 @@ impl Followed {
     ) -> Result<bool, NoMemory>
         requires playable { is_playable script.now ≡ true }
         requires stands { RunStands script.now self.old.run }
-        requires along { IsAlong script.now text.now self.old.run.screen.board.history self.old.along }
+        requires along { IsAlong script.now text.now self.old.run.screen.board.history
+            self.old.along }
         requires turn { next_actor script.now (drop self.old.along.at text.now) ≡ Some Display }
         ensures stands { OnOk result (RunStands script.now self.new.run) }
         ensures makes { IfOk result (MakesNext script.now text.now self.old.run.screen.board.history
@@ -197,6 +200,7 @@ impl Followed {
         ensures answers { OnOk result (self.new.run.answers ≡ self.old.run.answers) }
     {
         let made = self.run.display_turn(alloc, script)?;
+        // proof: the entries so far are legal.
         let _journal = self.run.screen.board.journal();
         Ok(made)
     }
@@ -205,7 +209,8 @@ impl Followed {
     fn next_entry(&mut self, alloc: Global, script: &Script, text: &[u8]) -> Result<bool, NoMemory>
         requires playable { is_playable script.now ≡ true }
         requires stands { RunStands script.now self.old.run }
-        requires along { IsAlong script.now text.now self.old.run.screen.board.history self.old.along }
+        requires along { IsAlong script.now text.now self.old.run.screen.board.history
+            self.old.along }
         ensures stands { OnOk result (RunStands script.now self.new.run) }
         ensures makes { IfOk result (MakesNext script.now text.now self.old.run.screen.board.history
             self.new.run.screen.board.history self.old.along) }
@@ -254,11 +259,12 @@ impl Followed {
         alloc: Global,
         script: &Script,
         text: &[u8],
-        guide: &Guide,
+        guide: &ProbeGuide,
     ) -> Result<bool, NoMemory>
         requires playable { is_playable script.now ≡ true }
         requires stands { RunStands script.now self.old.run }
-        requires along { IsAlong script.now text.now self.old.run.screen.board.history self.old.along }
+        requires along { IsAlong script.now text.now self.old.run.screen.board.history
+            self.old.along }
         ensures stands { OnOk result (RunStands script.now self.new.run) }
         ensures goes { IfOk result (Follows script.now text.now self.old self.new) }
         ensures heeds { OnOk result ((last : ℕ) →
@@ -283,11 +289,12 @@ impl Followed {
         alloc: Global,
         script: &Script,
         text: &[u8],
-        guide: &Guide,
+        guide: &ProbeGuide,
     ) -> Result<(), NoMemory>
         requires playable { is_playable script.now ≡ true }
         requires stands { RunStands script.now self.old.run }
-        requires along { IsAlong script.now text.now self.old.run.screen.board.history self.old.along }
+        requires along { IsAlong script.now text.now self.old.run.screen.board.history
+            self.old.along }
         ensures stands { OnOk result (RunStands script.now self.new.run) }
         ensures stops { OnOk result (HasStopped script.now text.now
             self.new.run.screen.board.history self.new.along) }
@@ -305,7 +312,7 @@ impl Followed {
     }
 
     /// A run without an entry.
-    pub(crate) fn new(alloc: Global, script: &Script) -> Result<Followed, NoMemory>
+    pub(crate) fn new(alloc: Global, script: &Script) -> Result<FollowedRun, NoMemory>
         requires { is_playable script.now ≡ true }
         ensures stands { IfOk result (λ followed. RunStands script.now followed.run) }
         ensures no_entry { IfOk result (λ followed. followed.run.screen.board.history ≡ []) }
@@ -314,9 +321,9 @@ impl Followed {
         ensures no_answer { IfOk result (λ followed. followed.run.answers.items
             ≡ replicate script.now.setup.probes []) }
     {
-        Ok(Followed {
+        Ok(FollowedRun {
             run: GuidedRun::new(alloc, script)?,
-            along: Along {
+            along: ReplayProgress {
                 lost: Items::new(alloc),
                 at: 0,
                 posted: 0,
@@ -330,7 +337,7 @@ impl Followed {
         alloc: Global,
         script: &Script,
         text: &[u8],
-        guide: &Guide,
+        guide: &ProbeGuide,
     ) -> Result<(), NoMemory>
         requires playable { is_playable script.now ≡ true }
         requires stands { RunStands script.now self.old.run }
@@ -361,7 +368,7 @@ impl Followed {
         alloc: Global,
         script: &Script,
         text: &[u8],
-        guide: &Guide,
+        guide: &ProbeGuide,
     ) -> Result<(), NoMemory>
         requires playable { is_playable script.now ≡ true }
         requires stands { RunStands script.now self.old.run }

@@ -12,28 +12,29 @@ ghost use Rattle.flat_play.specs.Last.{IsLast, StaysLast};
 ghost use Rattle.flat_play.specs.Playing.{display_text};
 ghost use Rattle.flat_play.specs.Probing.{answer_of, with_answer};
 ghost use Rattle.flat_base.specs.declared.ids.Actor.TheVariants.{Session};
-ghost use Rattle.flat_judge.specs.declared.seat.Seat.{Seat};
+ghost use Rattle.flat_judge.specs.declared.session_cursor.SessionCursor.{SessionCursor};
 ghost use Rattle.flat_judge.specs.GuidedRuns.{AreBehind, DisplayGoes, Goes, GoesOn, Grown, HaveEnded, ProbeGoes};
 ghost use Rattle.flat_judge.specs.GuidedRuns.{ProbeGoesOn, asked_here};
 ghost use Rattle.flat_judge.specs.Heeding.{AllHeed, CouldSee, HasSeen, Heeds, SeenBehind, is_reached};
 
-use crate::guide::Guide;
-use crate::opening::{first_places, new_seats, no_answers};
-use crate::screen::Screen;
-use crate::seat::Seat;
+use crate::opening::{first_places, new_seats};
+use crate::probe_guide::ProbeGuide;
+use crate::replay_screen::ReplayScreen;
+use crate::session_cursor::SessionCursor;
 use flat_base::{Actor, Items, NoMemory, SessionNo};
 use flat_places::Script;
+use flat_play::no_answers;
 use flat_report::ProbeAnswers;
-use flat_scene::{Body, DisplayLine, ProbeLine, ScriptLine};
+use flat_scene::{DisplayLine, LineBody, ProbeLine, ScriptLine};
 use std::alloc::Global;
 
 /// A run that follows a guide.
 #[derive(Drop)]
 pub struct GuidedRun {
     /// The board and what is shown. The sessions are in `seats`.
-    pub screen: Screen,
+    pub screen: ReplayScreen,
     /// The sessions, session 1 first.
-    pub seats: Vec<Seat>,
+    pub seats: Vec<SessionCursor>,
     /// How many lines of the script the display has passed.
     pub place: usize,
     /// How many lines each probe has passed.
@@ -46,7 +47,7 @@ fn display_text(line: &ScriptLine) -> Option<DisplayLine>
     ensures { result ≡ display_text line.now.body }
 {
     match &line.body {
-        Body::Display(text) => Some(*text),
+        LineBody::Display(text) => Some(*text),
         _ => None,
     }
 }
@@ -59,7 +60,7 @@ fn asked_here(probe: usize, line: &ScriptLine) -> Option<ProbeLine>
         return None;
     };
     match &line.body {
-        Body::Probe(asked) if p as usize == probe => Some(*asked),
+        LineBody::Probe(asked) if p as usize == probe => Some(*asked),
         _ => None,
     }
 }
@@ -78,7 +79,7 @@ impl GuidedRun {
         let seats = new_seats(alloc, script)?;
         let places = first_places(alloc, script.setup.probes)?;
         let answers = no_answers(alloc, script.setup.probes)?;
-        let screen = Screen::new(alloc, script)?;
+        let screen = ReplayScreen::new(alloc, script)?;
         Ok(GuidedRun {
             screen,
             seats,
@@ -92,7 +93,7 @@ impl GuidedRun {
     pub fn session_turn(&mut self, alloc: Global, script: &Script, k: usize) -> Result<(), NoMemory>
         requires playable { is_playable script.now ≡ true }
         requires within { k < length self.old.seats.items }
-        requires open { (seat : Seat) → slice_get self.old.seats.items k ≡ Some seat →
+        requires open { (seat : SessionCursor) → slice_get self.old.seats.items k ≡ Some seat →
             seat.has_ended ≡ false }
         requires stands { RunStands script.now self.old }
         ensures stands { OnOk result (RunStands script.now self.new) }
@@ -124,6 +125,7 @@ impl GuidedRun {
         ensures goes { IfOk result (DisplayGoes self.old.screen.board self.new.screen.board) }
         ensures answers { self.new.answers ≡ self.old.answers }
     {
+        // proof: the entries so far are legal.
         let _journal = self.screen.board.journal();
         let line = script.lines.at(self.place);
         match display_text(line) {
@@ -162,7 +164,7 @@ impl GuidedRun {
 
     /// Whether the next line of a probe is answered by the last frame. If the guide names a
     /// later frame it waits for that one, unless no frame comes any more.
-    fn is_due(&self, guide: &Guide, probe: usize, is_last: bool) -> bool
+    fn is_due(&self, guide: &ProbeGuide, probe: usize, is_last: bool) -> bool
         requires { probe < length self.now.answers.items }
         ensures last { is_last ≡ true → result ≡ true }
         ensures heeds { (named : List ℕ) (one : List ProbeAnswer) →
@@ -259,7 +261,7 @@ impl GuidedRun {
         &mut self,
         alloc: Global,
         script: &Script,
-        guide: &Guide,
+        guide: &ProbeGuide,
         probe: usize,
         is_last: bool,
     ) -> Result<(), NoMemory>
@@ -295,7 +297,7 @@ impl GuidedRun {
         &mut self,
         alloc: Global,
         script: &Script,
-        guide: &Guide,
+        guide: &ProbeGuide,
         is_last: bool,
     ) -> Result<(), NoMemory>
         requires playable { is_playable script.now ≡ true }
@@ -328,8 +330,7 @@ impl GuidedRun {
         ensures stands { OnOk result (RunStands script.now self.new) }
         ensures ended { OnOk result (HaveEnded (k + 1) self.new.seats.items) }
         ensures place { OnOk result (self.new.place ≡ self.old.place) }
-        ensures grown { OnOk result
-            (Grown self.old.screen.board.history self.new.screen.board.history) }
+        ensures grown { OnOk result (Grown self.old.screen.board.history self.new.screen.board.history) }
         ensures answers { OnOk result (self.new.answers ≡ self.old.answers) }
     {
         for _ in self.seats[k].place..script.lines.len() + 1 {
@@ -348,8 +349,7 @@ impl GuidedRun {
         ensures stands { OnOk result (RunStands script.now self.new) }
         ensures ended { OnOk result (HaveEnded script.now.setup.sessions self.new.seats.items) }
         ensures place { OnOk result (self.new.place ≡ self.old.place) }
-        ensures grown { OnOk result
-            (Grown self.old.screen.board.history self.new.screen.board.history) }
+        ensures grown { OnOk result (Grown self.old.screen.board.history self.new.screen.board.history) }
         ensures answers { OnOk result (self.new.answers ≡ self.old.answers) }
     {
         for k in 0..self.seats.len() {
@@ -364,8 +364,7 @@ impl GuidedRun {
         requires stands { RunStands script.now self.old }
         ensures stands { OnOk result (RunStands script.now self.new) }
         ensures place { OnOk result (self.new.place ≡ length script.now.lines) }
-        ensures grown { OnOk result
-            (Grown self.old.screen.board.history self.new.screen.board.history) }
+        ensures grown { OnOk result (Grown self.old.screen.board.history self.new.screen.board.history) }
         ensures answers { OnOk result (self.new.answers ≡ self.old.answers) }
     {
         for _ in self.place..script.lines.len() {
@@ -377,12 +376,16 @@ impl GuidedRun {
     }
 
     /// Makes all entries that are left, and answers all lines of probes that are left.
-    pub fn end(&mut self, alloc: Global, script: &Script, guide: &Guide) -> Result<(), NoMemory>
+    pub fn end(
+        &mut self,
+        alloc: Global,
+        script: &Script,
+        guide: &ProbeGuide,
+    ) -> Result<(), NoMemory>
         requires playable { is_playable script.now ≡ true }
         requires stands { RunStands script.now self.old }
         ensures whole { OnOk result (IsWhole script.now self.new) }
-        ensures grown { OnOk result
-            (Grown self.old.screen.board.history self.new.screen.board.history) }
+        ensures grown { OnOk result (Grown self.old.screen.board.history self.new.screen.board.history) }
         ensures heeds { OnOk result (self.old.screen.board.history ≡ self.new.screen.board.history →
             AllHeed script.now guide.now.seen.items (frames self.old.screen.board.history)
             (suc (frames self.old.screen.board.history)) self.old.answers.items →

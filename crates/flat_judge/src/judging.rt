@@ -7,20 +7,20 @@ ghost use Rattle.flat_judge.specs.Heeding.{SeesAsTold};
 ghost use Rattle.flat_judge.specs.Verdicts.{IsVerdict};
 ghost use Rattle.flat_judge.specs.Reported.{IsReported};
 
-use crate::following::Followed;
-use crate::guide::Guide;
+use crate::following::FollowedRun;
 use crate::guided_run::GuidedRun;
 use crate::parting::{line_of, parts_at};
-use crate::screen::Screen;
+use crate::probe_guide::ProbeGuide;
+use crate::replay_screen::ReplayScreen;
 use flat_base::{Items, NoMemory};
 use flat_places::Script;
 use flat_play::{FrameStore, let_go};
-use flat_report::{Pieces, RunRecord, frames_are_seen, handed_is_report, print_report};
+use flat_report::{RunRecord, TextPieces, frames_are_seen, handed_is_report, print_report};
 use std::alloc::Global;
 
 /// What is said of a text.
 #[derive(Drop)]
-pub enum Verdict {
+pub enum ReportVerdict {
     /// It is the report of a run with so many entries and finished frames.
     Legal(usize, u32),
     /// It is wrong in this line, counted from 1, where the report of a run has this one; none,
@@ -31,7 +31,7 @@ pub enum Verdict {
 /// A report, and how many entries and frames its run has.
 #[derive(Drop)]
 struct Written {
-    report: Pieces,
+    report: TextPieces,
     entries: usize,
     frames: u32,
 }
@@ -41,7 +41,7 @@ fn report_of(
     alloc: Global,
     script: &Script,
     text: &[u8],
-    followed: Followed,
+    followed: FollowedRun,
 ) -> Result<Written, NoMemory>
     requires playable { is_playable script.now ≡ true }
     requires whole { IsWhole script.now followed.run }
@@ -53,7 +53,7 @@ fn report_of(
 {
     handed_is_report();
     frames_are_seen();
-    let Followed { run, along } = followed;
+    let FollowedRun { run, along } = followed;
     let GuidedRun {
         screen,
         seats: _,
@@ -61,7 +61,7 @@ fn report_of(
         places: _,
         answers: probes,
     } = run;
-    let Screen {
+    let ReplayScreen {
         board,
         start: _,
         store,
@@ -92,15 +92,15 @@ fn report_of(
 }
 
 /// The run that follows a text, to its end.
-fn run_followed(alloc: Global, script: &Script, text: &[u8]) -> Result<Followed, NoMemory>
+fn run_followed(alloc: Global, script: &Script, text: &[u8]) -> Result<FollowedRun, NoMemory>
     requires { is_playable script.now ≡ true }
     ensures whole { IfOk result (λ followed. IsWhole script.now followed.run) }
     ensures stopped { IfOk result (λ followed. StoppedBefore script.now text.now
         followed.run.screen.board.history followed.along) }
     ensures sees { IfOk result (λ followed. SeesAsTold script.now text.now followed.run) }
 {
-    let guide = Guide::read(alloc, script, text)?;
-    let mut followed = Followed::new(alloc, script)?;
+    let guide = ProbeGuide::read(alloc, script, text)?;
+    let mut followed = FollowedRun::new(alloc, script)?;
     let Ok(()) = followed.run_all(alloc, script, text, &guide) else {
         drop(followed);
         return Err(NoMemory);
@@ -110,17 +110,17 @@ fn run_followed(alloc: Global, script: &Script, text: &[u8]) -> Result<Followed,
 
 /// Judges a text: whether it is the report of a run of the script, and else in which line
 /// it parts from the report of a run, and what that report has there.
-pub fn judge(alloc: Global, script: &Script, text: &[u8]) -> Result<Verdict, NoMemory>
+pub fn judge(alloc: Global, script: &Script, text: &[u8]) -> Result<ReportVerdict, NoMemory>
     requires { is_playable script.now ≡ true }
     ensures { IfOk result (IsVerdict script.now text.now) }
 {
     let followed = run_followed(alloc, script, text)?;
     let written = report_of(alloc, script, text, followed)?;
     match parts_at(text, &written.report) {
-        None => Ok(Verdict::Legal(written.entries, written.frames)),
+        None => Ok(ReportVerdict::Legal(written.entries, written.frames)),
         Some(line) => {
             let want = line_of(alloc, &written.report, line)?;
-            Ok(Verdict::Wrong(line, want))
+            Ok(ReportVerdict::Wrong(line, want))
         }
     }
 }

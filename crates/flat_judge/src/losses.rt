@@ -8,11 +8,11 @@ use crate::entry_texts::loss_text;
 use crate::passing::pass;
 use crate::reading::next_display;
 use flat_base::{FrameNo, Items, NoMemory};
-use flat_scene::Lost;
+use flat_scene::LostDisplay;
 use std::alloc::Global;
 
 /// Whether one display may be lost before another.
-fn is_before(one: Lost, next: Lost) -> bool
+fn is_before(one: LostDisplay, next: LostDisplay) -> bool
     ensures { result ≡ (is_lost_before one next && not (next.display == one.display)) }
 {
     let is_earlier = one.frame.0 < next.frame.0
@@ -21,7 +21,7 @@ fn is_before(one: Lost, next: Lost) -> bool
 }
 
 /// Whether a display may be lost behind all of these.
-fn is_behind(lost: &[Lost], next: Lost) -> bool
+fn is_behind(lost: &[LostDisplay], next: LostDisplay) -> bool
     ensures { result ≡ fits_behind lost.now next }
 {
     lost.iter().all(|one| is_before(*one, next))
@@ -30,7 +30,7 @@ fn is_behind(lost: &[Lost], next: Lost) -> bool
 /// Reads the next display that was lost at a frame, and answers the place behind its line.
 fn read_loss(
     alloc: Global,
-    lost: &mut Items<Lost>,
+    lost: &mut Items<LostDisplay>,
     text: &[u8],
     at: usize,
     frame: FrameNo,
@@ -44,7 +44,7 @@ fn read_loss(
     let Some(display) = next_display(&text[at..]) else {
         return Ok(None);
     };
-    let one = Lost { display, frame };
+    let one = LostDisplay { display, frame };
     if !is_behind(lost.as_slice(), one) {
         return Ok(None);
     }
@@ -59,7 +59,7 @@ fn read_loss(
 /// Reads the displays that were lost at a frame, and answers the place behind their lines.
 pub(crate) fn read_losses(
     alloc: Global,
-    lost: &mut Items<Lost>,
+    lost: &mut Items<LostDisplay>,
     text: &[u8],
     at: usize,
     frame: FrameNo,

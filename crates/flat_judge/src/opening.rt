@@ -1,43 +1,31 @@
-//! What a guided run begins with: sessions that have read no line, and probes that were asked
-//! nothing.
+//! What a guided run begins with: sessions that have read no line, and probes that have passed
+//! none.
 ghost use Rattle.std.specs.Prelude.{◌≡◌, [], true, replicate, IfOk};
 ghost use Rattle.flat_playable.specs.Playable.{is_playable};
 ghost use Rattle.flat_judge.specs.GuidedRuns.{SeatsStand};
 
-use crate::seat::Seat;
+use crate::session_cursor::SessionCursor;
 use flat_base::{Items, NoMemory, SessionNo};
 use flat_places::Script;
-use flat_report::ProbeAnswers;
-use flat_session::{Reader, lines_are_read};
+use flat_session::{SessionReader, lines_are_read};
 use std::alloc::Global;
 
 /// Sessions that have read no line.
-pub(crate) fn new_seats(alloc: Global, script: &Script) -> Result<Vec<Seat>, NoMemory>
+pub(crate) fn new_seats(alloc: Global, script: &Script) -> Result<Vec<SessionCursor>, NoMemory>
     requires { is_playable script.now ≡ true }
     ensures { IfOk result (λ seats. SeatsStand script.now [] seats.items) }
 {
     lines_are_read();
     let mut seats = Vec::new(alloc);
     for before in 0..script.setup.sessions {
-        let reader = Reader::new(alloc, SessionNo(before + 1), &script.setup.buffers)?;
-        seats.push(Seat {
+        let reader = SessionReader::new(alloc, SessionNo(before + 1), &script.setup.buffers)?;
+        seats.push(SessionCursor {
             reader,
             place: 0,
             has_ended: false,
         })?;
     }
     Ok(seats)
-}
-
-/// So many probes, none of which was asked anything.
-pub(crate) fn no_answers(alloc: Global, probes: u32) -> Result<Vec<ProbeAnswers>, NoMemory>
-    ensures { IfOk result (λ answers. answers.items ≡ replicate probes []) }
-{
-    let mut answers = Vec::new(alloc);
-    for _ in 0..probes {
-        answers.push(ProbeAnswers::new(alloc))?;
-    }
-    Ok(answers)
 }
 
 /// So many places, each before the first line.

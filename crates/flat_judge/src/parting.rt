@@ -5,13 +5,13 @@ ghost use Rattle.flat_judge.specs.Passing.{PassesPiece};
 
 use crate::passing::pass_pieces;
 use flat_base::{Items, NoMemory};
-use flat_report::Pieces;
+use flat_report::TextPieces;
 use flat_text::line;
 use std::alloc::Global;
 
 /// How far a text goes on as a piece of a report does.
 #[derive(Clone, Copy)]
-pub enum Passed {
+pub enum MatchedText {
     /// To its end, in the line of a number.
     To(u64),
     /// It parts, in the line of a number.
@@ -27,7 +27,7 @@ fn line_after(line: u64, byte: u8) -> u64
 }
 
 /// Goes through a piece of a report, from a place of a text on, in that line.
-fn pass_piece(text: &[u8], at: usize, piece: &[u8], line: u64) -> Passed
+fn pass_piece(text: &[u8], at: usize, piece: &[u8], line: u64) -> MatchedText
     requires within { at ≤ length text.now }
     requires line { line + length piece.now < 2 ^ 64 }
     ensures { PassesPiece text.now at piece.now line result }
@@ -35,18 +35,18 @@ fn pass_piece(text: &[u8], at: usize, piece: &[u8], line: u64) -> Passed
     let mut reached = line;
     for place in 0..piece.len() {
         if text.len() <= at + place {
-            return Passed::Parts(reached);
+            return MatchedText::Parts(reached);
         }
         if text[at + place] != piece[place] {
-            return Passed::Parts(reached);
+            return MatchedText::Parts(reached);
         }
         reached = line_after(reached, piece[place]);
     }
-    Passed::To(reached)
+    MatchedText::To(reached)
 }
 
 /// Whether a text is a report. It compares run by run, which is faster than byte by byte.
-fn is_report(text: &[u8], report: &Pieces) -> bool
+fn is_report(text: &[u8], report: &TextPieces) -> bool
     ensures { result ≡ true → text.now ≡ report.now }
 {
     match pass_pieces(text, 0, report) {
@@ -56,7 +56,7 @@ fn is_report(text: &[u8], report: &Pieces) -> bool
 }
 
 /// The line in which a text parts from a report, counted from 1; none where it is the report.
-pub(crate) fn parts_at(text: &[u8], report: &Pieces) -> Option<u64>
+pub(crate) fn parts_at(text: &[u8], report: &TextPieces) -> Option<u64>
     ensures { result ≡ parts_from 1 text.now report.now }
 {
     if is_report(text, report) {
@@ -68,11 +68,11 @@ pub(crate) fn parts_at(text: &[u8], report: &Pieces) -> Option<u64>
     for run in runs {
         let piece = run.as_slice();
         match pass_piece(text, at, piece, line) {
-            Passed::To(next) => {
+            MatchedText::To(next) => {
                 at += piece.len();
                 line = next;
             }
-            Passed::Parts(parted) => return Some(parted),
+            MatchedText::Parts(parted) => return Some(parted),
         }
     }
     if at < text.len() {
@@ -82,7 +82,7 @@ pub(crate) fn parts_at(text: &[u8], report: &Pieces) -> Option<u64>
 }
 
 /// The text of a report in one piece.
-fn joined(alloc: Global, report: &Pieces) -> Result<Items<u8>, NoMemory>
+fn joined(alloc: Global, report: &TextPieces) -> Result<Items<u8>, NoMemory>
     ensures { IfOk result (λ joined. joined ≡ report.now) }
 {
     let mut joined = Items::new(alloc);
@@ -109,7 +109,7 @@ fn line_at(text: &[u8], number: u64) -> Option<&[u8]>
 /// A copy of the line of a number of a report; none where the report has no such line.
 pub(crate) fn line_of(
     alloc: Global,
-    report: &Pieces,
+    report: &TextPieces,
     number: u64,
 ) -> Result<Option<Items<u8>>, NoMemory>
     ensures { IfOk result (λ line. line ≡ line_of number report.now) }

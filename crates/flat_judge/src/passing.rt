@@ -2,7 +2,7 @@
 ghost use Rattle.std.specs.Prelude.{◌≤◌, length};
 ghost use Rattle.flat_judge.specs.Following.{Passes};
 
-use flat_report::Pieces;
+use flat_report::TextPieces;
 
 /// The place of a text behind these bytes, if it has them at a place.
 pub(crate) fn pass(text: &[u8], at: usize, bytes: &[u8]) -> Option<usize>
@@ -20,7 +20,7 @@ pub(crate) fn pass(text: &[u8], at: usize, bytes: &[u8]) -> Option<usize>
 }
 
 /// The place of a text behind these pieces, if it has them at a place.
-pub(crate) fn pass_pieces(text: &[u8], at: usize, pieces: &Pieces) -> Option<usize>
+pub(crate) fn pass_pieces(text: &[u8], at: usize, pieces: &TextPieces) -> Option<usize>
     requires { at ≤ length text.now }
     ensures { Passes text.now at pieces.now result }
 {

@@ -3,7 +3,7 @@
 ghost use Rattle.std.specs.Prelude.{◌≡◌, ◌≤◌, ◌++◌, ℕ, ℤ, suc, List, length, true, IfOk, IfSome, ◌<◌, ◌^◌};
 ghost use Rattle.flat_scene.specs.declared.frames.Hit.{Hit};
 ghost use Rattle.flat_scene.specs.declared.journal.Entry.{Entry};
-ghost use Rattle.flat_scene.specs.declared.journal.Kind.TheVariants as kind;
+ghost use Rattle.flat_scene.specs.declared.journal.EntryKind.TheVariants as kind;
 ghost use Rattle.flat_scene.specs.History.{◌▹◌, is_finish};
 ghost use Rattle.flat_rules.specs.Ends.{to_begin};
 ghost use Rattle.flat_rules.specs.Legal.{frames};
@@ -18,14 +18,14 @@ ghost use Rattle.flat_judge.specs.GuidedRuns.{ScreenStands};
 
 use crate::entry_texts::{line_text, posts_text};
 use crate::passing::{pass, pass_pieces};
-use crate::screen::Screen;
+use crate::replay_screen::ReplayScreen;
 use flat_base::NoMemory;
 use flat_places::Script;
-use flat_scene::{Entry, Hit, Kind};
+use flat_scene::{Entry, EntryKind, Hit};
 use std::alloc::Global;
 
 /// How many frames were finished before the last entry.
-fn finished_before(screen: &Screen, entry: &Entry) -> u64
+fn finished_before(screen: &ReplayScreen, entry: &Entry) -> u64
     requires { screen.now.store.last.frame.0 ≡ frames screen.now.board.history }
     ensures is { (before : List Entry) → screen.now.board.history ≡ (before ▹ entry.now) → result
         ≡ frames before }
@@ -33,19 +33,20 @@ fn finished_before(screen: &Screen, entry: &Entry) -> u64
 {
     let finished = u64::from(screen.store.last.frame.0);
     match entry.kind {
-        Kind::Finish => finished.saturating_sub(1),
+        EntryKind::Finish => finished.saturating_sub(1),
         _ => finished,
     }
 }
 
 /// Who is hit at the point for which the last entry asked; nobody, where it asked for none.
-fn hits_asked<'a>(screen: &'a Screen, entry: &Entry) -> &'a [Hit]
-    ensures { (earlier : List HitAnswer) (n : ℕ) (hits : ℤ → ℤ → List Hit) → screen.now.store.answers
+fn hits_asked<'a>(screen: &'a ReplayScreen, entry: &Entry) -> &'a [Hit]
+    ensures { (earlier : List HitAnswer) (n : ℕ) (hits : ℤ → ℤ → List Hit)
+        → screen.now.store.answers
         ≡ earlier ++ answer_to entry.now n hits entry.now.kind → (x y : ℤ) → entry.now.kind
         ≡ kind.Hit x y → result.now ≡ hits x y }
 {
     match (&entry.kind, screen.store.answers.as_slice().last()) {
-        (Kind::Hit(_, _), Some(answer)) => answer.hits.as_slice(),
+        (EntryKind::Hit(_, _), Some(answer)) => answer.hits.as_slice(),
         _ => &[],
     }
 }
@@ -56,7 +57,7 @@ pub(crate) fn pass_line(
     script: &Script,
     text: &[u8],
     at: usize,
-    screen: &Screen,
+    screen: &ReplayScreen,
     entry: &Entry,
 ) -> Result<Option<usize>, NoMemory>
     requires within { at ≤ length text.now }
@@ -71,7 +72,7 @@ pub(crate) fn pass_line(
 }
 
 /// The place behind the lines of the frame that the last entry finished, if the text has them.
-pub(crate) fn pass_frame(text: &[u8], at: usize, screen: &Screen) -> Option<usize>
+pub(crate) fn pass_frame(text: &[u8], at: usize, screen: &ReplayScreen) -> Option<usize>
     requires within { at ≤ length text.now }
     ensures within { IfSome result (λ next. next ≤ length text.now) }
     ensures passes { (script : Script) (before : List Entry) (entry : Entry) →
@@ -92,7 +93,7 @@ pub(crate) fn pass_events(
     script: &Script,
     text: &[u8],
     at: usize,
-    screen: &Screen,
+    screen: &ReplayScreen,
     before: usize,
 ) -> Result<Option<usize>, NoMemory>
     requires within { at ≤ length text.now }

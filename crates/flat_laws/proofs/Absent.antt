@@ -22,7 +22,7 @@ use Rattle.flat_scene.specs.declared.trees.Tree.{Tree}
 use Rattle.flat_scene.specs.Frames.{setup_at}
 use Rattle.flat_scene.specs.History.{is_closed}
 use Rattle.flat_scene.specs.Trees.{first}
-use Rattle.flat_topology.specs.declared.Placed.{Placed}
+use Rattle.flat_topology.specs.declared.PlacedNode.{PlacedNode}
 use Rattle.flat_topology.specs.Draw.{Painting, item_of, node_item, painting_of, scene_matrix, visible_rect}
 use Rattle.flat_topology.specs.Hits.{first_of_each, hit_on, region_rect}
 use Rattle.flat_topology.specs.Join.{JoinedTree, Viewer, child_view, join, joined_nodes, led_from, led_to, linked_to, node, nothing, viewed, viewer_from}
@@ -84,16 +84,16 @@ module _ (shown : Shown) (s : ℕ) (none : state_of shown s ≡ None) where
 
 -- ---- placed nodes and views
 
-abbrev IsOther : ℕ → Placed → Type 0
+abbrev IsOther : ℕ → PlacedNode → Type 0
 IsOther s at = at.session.0 ≢ s
 
 placed-avoid : (s : ℕ) (outer : Space) (tree : JoinedTree) → Avoids s tree → All (IsOther s) (placed_in outer tree)
 placed-avoid s outer nothing avoids = All-nil (IsOther s)
 placed-avoid s outer (node t n linked below after) avoids =
     let here : Space = node_space outer n in
-    let child : List Placed = placed_in (linked_space here n.content) linked in
-    let lower : List Placed = placed_in here below in
-    let later : List Placed = placed_in outer after in
+    let child : List PlacedNode = placed_in (linked_space here n.content) linked in
+    let lower : List PlacedNode = placed_in here below in
+    let later : List PlacedNode = placed_in outer after in
     All-cons (IsOther s) (placed_node t here n) (child ++ (lower ++ later)) avoids.0
     (All-append (IsOther s) child (lower ++ later) (placed-avoid s (linked_space here n.content) linked avoids.1)
     (All-append (IsOther s) lower later (placed-avoid s here below avoids.2) (placed-avoid s outer after avoids.3)))
@@ -135,7 +135,7 @@ all-reverse P (x ∷ xs) all =
     subst (All P) (sym (reverse-append (x ∷ []) xs))
     (All-append P (reverse xs) (x ∷ []) (all-reverse P xs (All-tail P x xs all)) (All-cons P x [] (All-head P x xs all) (All-nil P)))
 
-pub item-session : (at : Placed) (o : Option Painting) (item : DrawItem) → item_of at o ≡ Some item → at.session ≡ item.session
+pub item-session : (at : PlacedNode) (o : Option Painting) (item : DrawItem) → item_of at o ≡ Some item → at.session ≡ item.session
 item-session at None item is = absurd (cc)
 item-session at (Some p) item is = by_test (has_no_point (visible_rect at p.w p.h) || (at.opacity == 0)) is
   where
@@ -153,7 +153,7 @@ item-session at (Some p) item is = by_test (has_no_point (visible_rect at p.w p.
     by_test true none = absurd (cc)
     by_test false same = cc
 
-pub hit-session : (x y : ℤ) (at : Placed) (hit : Hit) → hit_on x y at ≡ Some hit → at.session ≡ hit.session
+pub hit-session : (x y : ℤ) (at : PlacedNode) (hit : Hit) → hit_on x y at ≡ Some hit → at.session ≡ hit.session
 hit-session x y at hit is = by_region (find (λ (region : HitRegion). has_point (region_rect at region.area) x y) at.hits) is
   where
     by_region : (o : Option HitRegion) → option_map (λ (region : HitRegion). let h : Hit = record { session = at.session; interaction = region.interaction } in

@@ -14,10 +14,10 @@ use Rattle.flat_scene.specs.declared.calls.Watch.{Watch}
 use Rattle.flat_scene.specs.declared.journal.Entry.{Entry}
 use Rattle.flat_scene.specs.declared.journal.Event.{Event}
 use Rattle.flat_scene.specs.declared.journal.Event.TheVariants as event
-use Rattle.flat_scene.specs.declared.journal.Kind.{Kind}
-use Rattle.flat_scene.specs.declared.journal.Kind.TheVariants.{Begin, Finish}
+use Rattle.flat_scene.specs.declared.journal.EntryKind.{EntryKind}
+use Rattle.flat_scene.specs.declared.journal.EntryKind.TheVariants.{Begin, Finish}
 use Rattle.flat_scene.specs.declared.journal.Reply.{Reply}
-use Rattle.flat_scene.specs.declared.journal.Told.{Told}
+use Rattle.flat_scene.specs.declared.journal.WatcherValue.{WatcherValue}
 use Rattle.flat_scene.specs.declared.setup.Setup.{Setup}
 use Rattle.flat_scene.specs.Frames.{credits, taken}
 use Rattle.flat_scene.specs.History.{◌▹◌, own, is_begin, is_closed, is_finish, is_session, presents, published}
@@ -40,11 +40,11 @@ flat-zero f g none (x ∷ xs) = sum_by-append f (g x) (flat_map g xs) ∙ (λ i.
 
 -- A number that neither answers of watchers nor tokens have.
 record IsOther (f : Event → ℕ) : Type 0 where
-  told : (p : PairNo) (get : Watch) (value : Told) → f (event.Told p get value) ≡ 0
+  told : (p : PairNo) (get : Watch) (value : WatcherValue) → f (event.Told p get value) ≡ 0
   back : (p : PairNo) → f (event.TokenBack p) ≡ 0
 
 module _ (f : Event → ℕ) (other : IsOther f) where
-  answer-zero : (p : PairNo) (get : Option Watch) (value : Option Told) → sum_by f (event_of p get value) ≡ 0
+  answer-zero : (p : PairNo) (get : Option Watch) (value : Option WatcherValue) → sum_by f (event_of p get value) ≡ 0
   answer-zero p (Some get) (Some value) = omega (arith, other.told p get value)
   answer-zero p (Some get) None = refl
   answer-zero p None value = refl
@@ -117,7 +117,7 @@ credits-unpresented true true n = refl
 credits-unpresented true false n = refl
 credits-unpresented false c n = refl
 
-pub opened-at-finish : (h : List Entry) (kind : Kind) → is_finish kind ≡ true → keeps_time h kind ≡ true → is_frame_open h ≡ true
+pub opened-at-finish : (h : List Entry) (kind : EntryKind) → is_finish kind ≡ true → keeps_time h kind ≡ true → is_frame_open h ≡ true
 opened-at-finish h Finish is keeps = keeps
 opened-at-finish h _ is keeps = cc
 
@@ -155,7 +155,7 @@ flat-kept : {X : Type 0} (g : X → List Event) → ((x : X) → kept (g x) ≡ 
 flat-kept g none [] = refl
 flat-kept g none (x ∷ xs) = filter-append is_presented (g x) (flat_map g xs) ∙ (λ i. none x i ++ flat-kept g none xs i)
 
-answer-kept : (p : PairNo) (get : Option Watch) (value : Option Told) → kept (event_of p get value) ≡ []
+answer-kept : (p : PairNo) (get : Option Watch) (value : Option WatcherValue) → kept (event_of p get value) ≡ []
 answer-kept p (Some get) (Some value) = refl
 answer-kept p (Some get) None = refl
 answer-kept p None value = refl
@@ -250,7 +250,7 @@ made-and-left law setup h legal s =
 most-rises : (a b : ℕ) → a ≤ b → most a ≤ most b
 most-rises a b less = grind (arith, common_steps)
 
-begin-publishes-none : (kind : Kind) (reply : Reply) (made : List Call) → is_begin kind ≡ true → published kind reply made ≡ []
+begin-publishes-none : (kind : EntryKind) (reply : Reply) (made : List Call) → is_begin kind ≡ true → published kind reply made ≡ []
 begin-publishes-none (Begin time) reply made is = refl
 begin-publishes-none _ reply made is = absurd (let wrong : false ≡ true = is in cc)
 

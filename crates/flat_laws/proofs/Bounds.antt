@@ -18,7 +18,7 @@ use Rattle.flat_scene.specs.declared.trees.Content.{Content}
 use Rattle.flat_scene.specs.declared.trees.Content.TheVariants as content
 use Rattle.flat_scene.specs.declared.trees.Node.{Node}
 use Rattle.flat_scene.specs.Trees.{first}
-use Rattle.flat_topology.specs.declared.Placed.{Placed}
+use Rattle.flat_topology.specs.declared.PlacedNode.{PlacedNode}
 use Rattle.flat_topology.specs.Draw.{node_item, painting_of}
 use Rattle.flat_topology.specs.Hits.{hit_on}
 use Rattle.flat_topology.specs.Join.{JoinedTree, Viewer, child_view, joined_nodes, joined_sessions, led_from, led_to, linked_to, node, nothing, sessions_in}
@@ -37,14 +37,14 @@ use Rattle.flat_laws.proofs.Seen.{IsIn, in-led, in-nodes}
 
 -- ---- views and nodes
 
-abbrev Covers : ViewNode → Placed → Type 0
+abbrev Covers : ViewNode → PlacedNode → Type 0
 Covers v at = at.session.0 ≡ v.session.0 → IsWithin v.bounds at.clip
 
 -- each view covers the nodes of its session
-abbrev AllCover : List ViewNode → List Placed → Type 0
+abbrev AllCover : List ViewNode → List PlacedNode → Type 0
 AllCover views nodes = All (λ v. All (Covers v) nodes) views
 
-cover-append : (views : List ViewNode) (nodes more : List Placed) → AllCover views nodes → AllCover views more → AllCover views (nodes ++ more)
+cover-append : (views : List ViewNode) (nodes more : List PlacedNode) → AllCover views nodes → AllCover views more → AllCover views (nodes ++ more)
 cover-append [] nodes more a b = All-nil (λ v. All (Covers v) (nodes ++ more))
 cover-append (v ∷ views) nodes more a b =
     All-cons (λ v. All (Covers v) (nodes ++ more)) v views
@@ -55,7 +55,7 @@ abbrev ViewIn : List ℕ → ViewNode → Type 0
 ViewIn sessions v = In v.session.0 sessions
 
 -- views of some sessions cover all nodes of others
-cover-others : (xs ys : List ℕ) → ((x : ℕ) → In x xs → In x ys → ⊥) → (views : List ViewNode) (nodes : List Placed)
+cover-others : (xs ys : List ℕ) → ((x : ℕ) → In x xs → In x ys → ⊥) → (views : List ViewNode) (nodes : List PlacedNode)
     → All (ViewIn xs) views → All (IsIn ys) nodes → AllCover views nodes
 cover-others xs ys apart views nodes on there =
     All-weaker (ViewIn xs) (λ v. All (Covers v) nodes)
@@ -99,11 +99,11 @@ all-within : (bounds : Rect) (outer : Space) (tree : JoinedTree) → IsWithin bo
 all-within bounds outer nothing within = All-nil (λ at. IsWithin bounds at.clip)
 all-within bounds outer (node s n linked below after) within =
     let here : Space = node_space outer n in
-    let P : Placed → Type 0 = λ at. IsWithin bounds at.clip in
+    let P : PlacedNode → Type 0 = λ at. IsWithin bounds at.clip in
     let at_node : IsWithin bounds here.clip = within-through bounds outer.clip here.clip within (cut-within outer.clip (node_matrix outer.matrix n) n.clip) in
-    let child : List Placed = placed_in (linked_space here n.content) linked in
-    let lower : List Placed = placed_in here below in
-    let later : List Placed = placed_in outer after in
+    let child : List PlacedNode = placed_in (linked_space here n.content) linked in
+    let lower : List PlacedNode = placed_in here below in
+    let later : List PlacedNode = placed_in outer after in
     All-cons P (placed_node s here n) (child ++ (lower ++ later)) at_node
     (All-append P child (lower ++ later) (all-within bounds (linked_space here n.content) linked (linked-within bounds here n.content at_node))
     (All-append P lower later (all-within bounds here below at_node) (all-within bounds outer after within)))
@@ -162,10 +162,10 @@ module _ (led : ℕ → JoinedTree) (each : (q : ℕ) → Distinct (sessions_in 
       let va : List ViewNode = views_in (Some (record { 0 = t })) there (linked_space here what) A in
       let vb : List ViewNode = views_in parent bounds here B in
       let vc : List ViewNode = views_in parent bounds outer C in
-      let pa : List Placed = placed_in (linked_space here what) A in
-      let pb : List Placed = placed_in here B in
-      let pc : List Placed = placed_in outer C in
-      let top : List Placed = placed_node t here n ∷ [] in
+      let pa : List PlacedNode = placed_in (linked_space here what) A in
+      let pb : List PlacedNode = placed_in here B in
+      let pc : List PlacedNode = placed_in outer C in
+      let top : List PlacedNode = placed_node t here n ∷ [] in
       let free : ¬ In t (a ++ (b ++ c)) = distinct.0 in
       let da : Distinct a = distinct-left a (b ++ c) distinct.1 in
       let dbc : Distinct (b ++ c) = distinct-right a (b ++ c) distinct.1 in
@@ -201,7 +201,7 @@ module _ (led : ℕ → JoinedTree) (each : (q : ℕ) → Distinct (sessions_in 
       (cover-append vc pa (pb ++ pc) (cover-others c a (λ x on_c on_a. a_bc x on_a (in-right x b c on_c)) vc pa onc ina)
       (cover-append vc pb pc (cover-others c (t ∷ b) (λ x on_c. not_c x b (λ h in_b. b_c x in_b h) on_c) vc pb onc inb)
       (nodes-covered t parent bounds outer rest dc))) in
-      let all : List Placed = top ++ (pa ++ (pb ++ pc)) in
+      let all : List PlacedNode = top ++ (pa ++ (pb ++ pc)) in
       All-append (λ v. All (Covers v) all) va (vb ++ vc) row_a (All-append (λ v. All (Covers v) all) vb vc row_b row_c)
     where
       other : (x : ℕ) (ys : List ℕ) → (x ≡ t → ⊥) → (In x ys → ⊥) → In x (t ∷ ys) → ⊥
@@ -221,7 +221,7 @@ module _ (shown : Shown) where
   view-covered views None each distinct = λ parent bounds outer within. All-nil (λ v. All (Covers v) [])
   view-covered views (Some viewer) each distinct = λ parent bounds outer within.
       let root : JoinedTree = joined_nodes (led_to shown views) viewer.session viewer.nodes in
-      let nodes : List Placed = placed_in outer root in
+      let nodes : List PlacedNode = placed_in outer root in
       let v : ViewNode = record { session = record { 0 = viewer.session }; parent = parent; bounds = bounds } in
       All-cons (λ u. All (Covers u) nodes) v (views_in parent bounds outer root)
       (All-weaker (λ at. IsWithin bounds at.clip) (Covers v) (λ at inside same. inside) nodes (all-within bounds outer root within))

@@ -4,9 +4,9 @@ use Rattle.std.specs.List.{list_any}
 use Rattle.flat_base.specs.declared.ids.Actor.TheVariants.{Display, Session}
 use Rattle.flat_scene.specs.declared.calls.Call.TheVariants as call
 use Rattle.flat_scene.specs.declared.journal.Entry.{Entry}
-use Rattle.flat_scene.specs.declared.journal.Kind.TheVariants as kind
+use Rattle.flat_scene.specs.declared.journal.EntryKind.TheVariants as kind
 use Rattle.flat_scene.specs.declared.journal.Reply.TheVariants as reply
-use Rattle.flat_scene.specs.declared.journal.Told.TheVariants as tell
+use Rattle.flat_scene.specs.declared.journal.WatcherValue.TheVariants as tell
 use Rattle.flat_scene.specs.declared.setup.Setup.{Setup}
 use Rattle.flat_scene.specs.Frames.{credits, is_signalled, taken}
 use Rattle.flat_scene.specs.History.{◌▹◌}

@@ -16,7 +16,7 @@ use Rattle.flat_scene.specs.declared.frames.Hit.{Hit}
 use Rattle.flat_scene.specs.declared.setup.Setup.{Setup}
 use Rattle.flat_scene.specs.declared.trees.Content.{Content}
 use Rattle.flat_scene.specs.declared.trees.Content.TheVariants as content
-use Rattle.flat_topology.specs.declared.Placed.{Placed}
+use Rattle.flat_topology.specs.declared.PlacedNode.{PlacedNode}
 use Rattle.flat_topology.specs.Draw.{Painting, painting_of, item_of, node_item, visible_rect, scene_matrix}
 use Rattle.flat_topology.specs.Hits.{hit_on, region_rect}
 use Rattle.flat_topology.specs.Join.{JoinedTree, nothing, node, child_view, join}
@@ -127,7 +127,7 @@ framed-placed above outer (node s n linked below after) =
     let child : List NodeInViewports = in_viewports (viewports_of_child above here n.content) (linked_space here n.content) linked in
     let lower : List NodeInViewports = in_viewports above here below in
     let later : List NodeInViewports = in_viewports above outer after in
-    let at : NodeInViewports → Placed = λ framed. framed.at in
+    let at : NodeInViewports → PlacedNode = λ framed. framed.at in
     ap (λ ps. placed_node s here n ∷ ps)
     (map-append at child (lower ++ later)
     ∙ ap (λ ps. map at child ++ ps) (map-append at lower later)
@@ -140,7 +140,7 @@ nodes-in-viewports-are-placed setup shown = framed-placed (display_rect setup �
 
 -- ---- items
 
-pub item-within : (at : Placed) (o : Option Painting) (item : DrawItem) → item_of at o ≡ Some item → IsWithin at.clip item.visible
+pub item-within : (at : PlacedNode) (o : Option Painting) (item : DrawItem) → item_of at o ≡ Some item → IsWithin at.clip item.visible
 item-within at None item is = absurd (cc)
 item-within at (Some p) item is = by_test (has_no_point (visible_rect at p.w p.h) || (at.opacity == 0)) is
   where
@@ -171,7 +171,7 @@ items-stay-in-viewports setup shown = All-weaker IsInside
 
 -- ---- hits
 
-region-within : (at : Placed) (area : Option IntRect) → IsWithin at.clip (region_rect at area)
+region-within : (at : PlacedNode) (area : Option IntRect) → IsWithin at.clip (region_rect at area)
 region-within at None = within-itself at.clip
 region-within at (Some area) = shared-second _ at.clip
 
@@ -184,7 +184,7 @@ found-passes test f P each (x ∷ xs) y is = by_test (λ rest. found-passes test
     by_test later true passes h = each x passes
     by_test later false fails h = later h
 
-pub hit-within : (x y : ℤ) (at : Placed) (hit : Hit) → hit_on x y at ≡ Some hit → has_point at.clip x y ≡ true
+pub hit-within : (x y : ℤ) (at : PlacedNode) (hit : Hit) → hit_on x y at ≡ Some hit → has_point at.clip x y ≡ true
 hit-within x y at hit is =
     found-passes (λ (region : HitRegion). has_point (region_rect at region.area) x y) _ (has_point at.clip x y ≡ true)
     (λ region passes. within-point at.clip (region_rect at region.area) x y (region-within at region.area) passes) at.hits hit is

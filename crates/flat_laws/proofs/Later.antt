@@ -8,8 +8,8 @@ use Rattle.flat_base.specs.declared.ids.SessionNo.{SessionNo}
 use Rattle.flat_base.specs.declared.ids.Actor.TheVariants.{Session}
 use Rattle.flat_scene.specs.declared.journal.Entry.{Entry}
 use Rattle.flat_scene.specs.declared.calls.Call.{Call}
-use Rattle.flat_scene.specs.declared.journal.Kind.{Kind}
-use Rattle.flat_scene.specs.declared.journal.Kind.TheVariants.{End}
+use Rattle.flat_scene.specs.declared.journal.EntryKind.{EntryKind}
+use Rattle.flat_scene.specs.declared.journal.EntryKind.TheVariants.{End}
 use Rattle.flat_scene.specs.declared.journal.Reply.{Reply}
 use Rattle.flat_scene.specs.declared.setup.Setup.{Setup}
 use Rattle.flat_scene.specs.Draft.{of_serial}
@@ -42,11 +42,11 @@ pub closed-earlier : (s : SessionNo) (k h : List Entry) → IsEarlier k h → is
 closed-earlier s k h before closed = subst (λ l. is_closed s l ≡ true) (sym before.is) (closed-later s k before.later closed)
 
 -- a closed session's entry is its end, which publishes nothing
-end-publishes-none : (kind : Kind) (reply : Reply) (made : List Call) → is_end kind ≡ true → published kind reply made ≡ []
+end-publishes-none : (kind : EntryKind) (reply : Reply) (made : List Call) → is_end kind ≡ true → published kind reply made ≡ []
 end-publishes-none (End refused) reply made is = refl
 end-publishes-none _ reply made is = absurd (let wrong : false ≡ true = is in cc)
 
-closed-ends : (h : List Entry) (kind : Kind) (s : SessionNo) → is_closed s h ≡ true → goes_on h kind (Session s) ≡ true → is_end kind ≡ true
+closed-ends : (h : List Entry) (kind : EntryKind) (s : SessionNo) → is_closed s h ≡ true → goes_on h kind (Session s) ≡ true → is_end kind ≡ true
 closed-ends h kind s closed on =
     let either : (is_end kind || not (is_closed s h)) ≡ true =
     (and_parts (not (list_any (λ entry. is_end entry.kind) (own s h))) (is_end kind || not (is_closed s h)) on).1 in

@@ -7,8 +7,8 @@ use Rattle.flat_base.specs.declared.ids.SessionNo.{SessionNo}
 use Rattle.flat_scene.specs.declared.calls.ViewportProps.{ViewportProps}
 use Rattle.flat_scene.specs.declared.journal.Entry.{Entry}
 use Rattle.flat_scene.specs.declared.journal.Layout.{Layout}
-use Rattle.flat_scene.specs.declared.journal.Told.{Told}
-use Rattle.flat_scene.specs.declared.journal.Told.TheVariants as tell
+use Rattle.flat_scene.specs.declared.journal.WatcherValue.{WatcherValue}
+use Rattle.flat_scene.specs.declared.journal.WatcherValue.TheVariants as tell
 use Rattle.flat_scene.specs.declared.setup.Setup.{Setup}
 use Rattle.flat_scene.specs.Effect.{draft_of}
 use Rattle.flat_scene.specs.Frames.{ratio}
@@ -45,7 +45,7 @@ told-by false true at (Some props) layout is = record { props = props; is = refl
 told-by false true at None layout is = absurd (cc)
 told-by false false at given layout is = absurd (cc)
 
-abbrev ratio_of : Told → ℕ
+abbrev ratio_of : WatcherValue → ℕ
 ratio_of (tell.Layout layout) = layout.ratio
 ratio_of _ = 0
 

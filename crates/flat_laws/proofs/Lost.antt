@@ -10,12 +10,12 @@ use Rattle.flat_base.specs.declared.ids.SessionNo.{SessionNo}
 use Rattle.flat_scene.specs.declared.calls.Call.{Call}
 use Rattle.flat_scene.specs.declared.calls.ViewportProps.{ViewportProps}
 use Rattle.flat_scene.specs.declared.journal.Entry.{Entry}
-use Rattle.flat_scene.specs.declared.journal.Kind.{Kind}
-use Rattle.flat_scene.specs.declared.journal.Kind.TheVariants.{View, Viewport}
+use Rattle.flat_scene.specs.declared.journal.EntryKind.{EntryKind}
+use Rattle.flat_scene.specs.declared.journal.EntryKind.TheVariants.{View, Viewport}
 use Rattle.flat_scene.specs.declared.journal.Reply.{Reply}
 use Rattle.flat_scene.specs.declared.journal.Reply.TheVariants.{Done}
-use Rattle.flat_scene.specs.declared.journal.Told.{Told}
-use Rattle.flat_scene.specs.declared.journal.Told.TheVariants as tell
+use Rattle.flat_scene.specs.declared.journal.WatcherValue.{WatcherValue}
+use Rattle.flat_scene.specs.declared.journal.WatcherValue.TheVariants as tell
 use Rattle.flat_scene.specs.declared.setup.Setup.{Setup}
 use Rattle.flat_scene.specs.Draft.{Draft, empty_draft}
 use Rattle.flat_scene.specs.Frames.{taken}
@@ -77,7 +77,7 @@ viewport-stays-lost setup before later p = loses-later setup (clears_viewport p)
 -- ---- gone
 
 -- a value that is gone in one case only
-gone-if : (b : Bool) (o : Option Told) → (o ≡ Some tell.Gone → ⊥) → cond b (Some tell.Gone) o ≡ Some tell.Gone → b ≡ true
+gone-if : (b : Bool) (o : Option WatcherValue) → (o ≡ Some tell.Gone → ⊥) → cond b (Some tell.Gone) o ≡ Some tell.Gone → b ≡ true
 gone-if true o never is = refl
 gone-if false o never is = absurd (never is)
 
@@ -120,7 +120,7 @@ done-then true reply replied done = refl
 done-then false reply replied done = absurd (let wrong : false ≡ true = sym (ap is_done replied) ∙ done in cc)
 
 -- a use that isn't refused is the first of its end
-first-use : (setup : Setup) (h : List Entry) (e : Entry) (p : PairNo) (kind : Kind) → e.reply ≡ reply_to setup h e.actor e.calls kind
+first-use : (setup : Setup) (h : List Entry) (e : Entry) (p : PairNo) (kind : EntryKind) → e.reply ≡ reply_to setup h e.actor e.calls kind
     → (uses_view p kind && is_done e.reply) ≡ true → length (view_uses p h) ≡ 0
 first-use setup h e p (View q) replied used =
     let parts = and_parts (q.0 == p.0) (is_done e.reply) used in
@@ -139,7 +139,7 @@ used-once setup (h ▹ e) legal p = by_use (used-once setup h legal.0 p) (uses_v
 -- ---- viewport ends
 
 -- a use that isn't refused has the token
-used-token : (setup : Setup) (h : List Entry) (e : Entry) (p : PairNo) (kind : Kind) → e.reply ≡ reply_to setup h e.actor e.calls kind
+used-token : (setup : Setup) (h : List Entry) (e : Entry) (p : PairNo) (kind : EntryKind) → e.reply ≡ reply_to setup h e.actor e.calls kind
     → (uses_viewport p kind && is_done e.reply) ≡ true → has_token setup p h ≡ true
 used-token setup h e p (Viewport q props) replied used =
     let parts = and_parts (q.0 == p.0) (is_done e.reply) used in

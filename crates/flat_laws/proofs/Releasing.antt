@@ -9,8 +9,8 @@ use Rattle.std.proofs.lemmas.List.Folds.{list_any-append}
 use Rattle.flat_base.specs.declared.ids.FenceNo.{FenceNo}
 use Rattle.flat_base.specs.declared.ids.SessionNo.{SessionNo}
 use Rattle.flat_scene.specs.declared.journal.Entry.{Entry}
-use Rattle.flat_scene.specs.declared.journal.Kind.{Kind}
-use Rattle.flat_scene.specs.declared.journal.Kind.TheVariants.{Begin, Finish, Signal}
+use Rattle.flat_scene.specs.declared.journal.EntryKind.{EntryKind}
+use Rattle.flat_scene.specs.declared.journal.EntryKind.TheVariants.{Begin, Finish, Signal}
 use Rattle.flat_scene.specs.declared.setup.Setup.{Setup}
 use Rattle.flat_scene.specs.Draft.{of_serial}
 use Rattle.flat_scene.specs.Frames.{going, is_among, is_released_by, is_signalled, lets_go, ready_prefix, sessions_to, signals, taken, takes, waiting}
@@ -80,7 +80,7 @@ going-begin setup (h ▹ e) s = by_kind (going-begin setup h s) (is_begin e.kind
     by_kind was true is = refl
     by_kind was false is = going-quiet setup h e s is ∙ was
 
-takes-going : (k : Kind) (f : FenceNo → Bool) (closed : Bool) (w g : List Published) → 0 < length (takes k f closed w)
+takes-going : (k : EntryKind) (f : FenceNo → Bool) (closed : Bool) (w g : List Published) → 0 < length (takes k f closed w)
     → lets_go k f closed w g ≡ takes k f closed w
 takes-going (Begin time) f true w g some = absurd (omega (arith, some))
 takes-going (Begin time) f false w g some = refl
@@ -104,7 +104,7 @@ took-releases setup h (k ▹ b) is before s n present accepted more fits fence a
     takes-going b.kind (is_signalled setup k) (is_closed s k) (waiting setup k s) (going setup k s) some ∙ ready.is in
     ap (λ ps. is_released_by ps fence) all ∙ any-get (λ (p : Published). is_among p.args.release fence) prefix at.0 present here among
 
-finish-signals : (setup : Setup) (kind : Kind) (g : SessionNo → List Published) (fence : FenceNo) → is_finish kind ≡ true
+finish-signals : (setup : Setup) (kind : EntryKind) (g : SessionNo → List Published) (fence : FenceNo) → is_finish kind ≡ true
     → signals (sessions_to setup.sessions) kind g fence ≡ list_any (λ s. is_released_by (g s) fence) (sessions_to setup.sessions)
 finish-signals setup Finish g fence is = refl
 finish-signals setup _ g fence is = absurd (let wrong : false ≡ true = is in cc)
@@ -180,7 +180,7 @@ drop-earlier [] = itself []
 drop-earlier (k ▹ e) = one-earlier k k e (itself k)
 
 -- at a begin all that waits of a closed session goes
-closed-goes : (k : Kind) (f : FenceNo → Bool) (closed : Bool) (w g : List Published) → is_begin k ≡ true → closed ≡ true → lets_go k f closed w g ≡ w
+closed-goes : (k : EntryKind) (f : FenceNo → Bool) (closed : Bool) (w g : List Published) → is_begin k ≡ true → closed ≡ true → lets_go k f closed w g ≡ w
 closed-goes (Begin time) f closed w g begins shut = ap (λ b. cond b w (ready_prefix time f w)) shut
 closed-goes _ f closed w g begins shut = absurd (let wrong : false ≡ true = begins in cc)
 
@@ -258,7 +258,7 @@ record Goes (setup : Setup) (k : List Entry) (b : Entry) (s : SessionNo) (presen
   accepted : of_serial (presents s k) number ≡ Some present
   when : (number ≤ taken setup (k ▹ b) s) ⊎ (is_closed s (k ▹ b) ≡ true)
 
-goes-at : (setup : Setup) (k : List Entry) (b : Entry) (s : SessionNo) (kind : Kind) (closed : Bool) (i : ℕ) (present : Published)
+goes-at : (setup : Setup) (k : List Entry) (b : Entry) (s : SessionNo) (kind : EntryKind) (closed : Bool) (i : ℕ) (present : Published)
     → b.kind ≡ kind → is_closed s k ≡ closed → is_begin kind ≡ true
     → slice_get (lets_go kind (is_signalled setup k) closed (waiting setup k s) (going setup k s)) i ≡ Some present → Goes setup k b s present
 goes-at setup k b s (Begin time) true i present is shut begins there = record {
@@ -299,7 +299,7 @@ finish-releases setup h (k ▹ b) e fence s ends is before released =
     }
 
 -- what an entry signals, by its kind
-by-signals : (setup : Setup) (h : List Entry) (e : Entry) (fence : FenceNo) (kind : Kind) → e.kind ≡ kind → is_signal_of fence kind ≡ false
+by-signals : (setup : Setup) (h : List Entry) (e : Entry) (fence : FenceNo) (kind : EntryKind) → e.kind ≡ kind → is_signal_of fence kind ≡ false
     → signals (sessions_to setup.sessions) kind (going setup h) fence ≡ true → IsReleased setup (h ▹ e) fence
 by-signals setup h e fence (Signal other) is none now = absurd (let wrong : false ≡ true = sym none ∙ now in cc)
 by-signals setup h e fence Finish is none now =

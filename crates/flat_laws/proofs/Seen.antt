@@ -10,7 +10,7 @@ use Rattle.flat_scene.specs.declared.frames.DrawItem.{DrawItem}
 use Rattle.flat_scene.specs.declared.frames.Hit.{Hit}
 use Rattle.flat_scene.specs.declared.frames.ViewNode.{ViewNode}
 use Rattle.flat_scene.specs.declared.journal.Entry.{Entry}
-use Rattle.flat_scene.specs.declared.journal.Told.TheVariants as tell
+use Rattle.flat_scene.specs.declared.journal.WatcherValue.TheVariants as tell
 use Rattle.flat_scene.specs.declared.setup.Setup.{Setup}
 use Rattle.flat_scene.specs.declared.trees.Children.{Children}
 use Rattle.flat_scene.specs.declared.trees.Children.TheVariants.{Empty}
@@ -20,7 +20,7 @@ use Rattle.flat_scene.specs.declared.trees.Node.{Node}
 use Rattle.flat_scene.specs.Frames.{setup_at}
 use Rattle.flat_scene.specs.Trees.{first}
 use Rattle.flat_scene.specs.ViewTrees.{is_node}
-use Rattle.flat_topology.specs.declared.Placed.{Placed}
+use Rattle.flat_topology.specs.declared.PlacedNode.{PlacedNode}
 use Rattle.flat_topology.specs.Draw.{node_item, painting_of}
 use Rattle.flat_topology.specs.Hits.{first_of_each, hit_on}
 use Rattle.flat_topology.specs.Join.{JoinedTree, Viewer, joined_nodes, joined_sessions, led_from, led_to, linked_to, sessions_in, viewed, viewer_from}
@@ -42,13 +42,13 @@ in-found x (y ∷ ys) (inr on) = or_right (y == x) (list_any (λ z. z == x) ys) 
 
 -- ---- placed nodes
 
-abbrev pub IsIn : List ℕ → Placed → Type 0
+abbrev pub IsIn : List ℕ → PlacedNode → Type 0
 IsIn sessions at = In at.session.0 sessions
 
-in-wider : (t : ℕ) (xs ys : List ℕ) → ((x : ℕ) → In x xs → In x ys) → (nodes : List Placed) → All (IsIn (t ∷ xs)) nodes → All (IsIn (t ∷ ys)) nodes
+in-wider : (t : ℕ) (xs ys : List ℕ) → ((x : ℕ) → In x xs → In x ys) → (nodes : List PlacedNode) → All (IsIn (t ∷ xs)) nodes → All (IsIn (t ∷ ys)) nodes
 in-wider t xs ys wider nodes all = All-weaker (IsIn (t ∷ xs)) (IsIn (t ∷ ys)) (λ at on. by_place at on) nodes all
   where
-    by_place : (at : Placed) → IsIn (t ∷ xs) at → IsIn (t ∷ ys) at
+    by_place : (at : PlacedNode) → IsIn (t ∷ xs) at → IsIn (t ∷ ys) at
     by_place at (inl same) = inl same
     by_place at (inr on) = inr (wider at.session.0 on)
 
@@ -78,10 +78,10 @@ module _ (led : ℕ → JoinedTree) (each : (q : ℕ) (outer : Space) → All (I
       let a : List ℕ = sessions_in (linked_to led what) in
       let b : List ℕ = sessions_in (joined_nodes led t children) in
       let c : List ℕ = sessions_in (joined_nodes led t rest) in
-      let P : Placed → Type 0 = IsIn (t ∷ (a ++ (b ++ c))) in
-      let child : List Placed = placed_in (linked_space here what) (linked_to led what) in
-      let lower : List Placed = placed_in here (joined_nodes led t children) in
-      let later : List Placed = placed_in outer (joined_nodes led t rest) in
+      let P : PlacedNode → Type 0 = IsIn (t ∷ (a ++ (b ++ c))) in
+      let child : List PlacedNode = placed_in (linked_space here what) (linked_to led what) in
+      let lower : List PlacedNode = placed_in here (joined_nodes led t children) in
+      let later : List PlacedNode = placed_in outer (joined_nodes led t rest) in
       All-cons P (placed_node t here n) (child ++ (lower ++ later)) (inl refl)
       (All-append P child (lower ++ later)
       (All-weaker (IsIn a) P (λ at on. inr (in-left at.session.0 a (b ++ c) on)) child (in-linked here what))

@@ -4,8 +4,8 @@ use Rattle.std.specs.Prelude.{cond, ◌&&◌}
 use Rattle.std.proofs.lemmas.Bool.{and_right}
 use Rattle.flat_base.specs.declared.ids.PairNo.{PairNo}
 use Rattle.flat_scene.specs.declared.journal.Event.{Event}
-use Rattle.flat_scene.specs.declared.journal.Kind.{Kind}
-use Rattle.flat_scene.specs.declared.journal.Kind.TheVariants.{Viewport}
+use Rattle.flat_scene.specs.declared.journal.EntryKind.{EntryKind}
+use Rattle.flat_scene.specs.declared.journal.EntryKind.TheVariants.{Viewport}
 use Rattle.flat_scene.specs.declared.journal.Reply.{Reply}
 use Rattle.flat_scene.specs.History.{◌▹◌, is_begin, is_closed, is_finish, is_session, own}
 use Rattle.flat_rules.specs.Ends.{is_done, uses_view, uses_viewport}
@@ -20,12 +20,12 @@ closed-none true news none = refl
 closed-none false news none = none refl
 
 -- a CreateViewport that is refused uses no end
-refused-still : (p : PairNo) (kind : Kind) (reply : Reply) → is_viewport kind ≡ true → is_finish kind ≡ false → (is_viewport kind && is_done reply) ≡ false
+refused-still : (p : PairNo) (kind : EntryKind) (reply : Reply) → is_viewport kind ≡ true → is_finish kind ≡ false → (is_viewport kind && is_done reply) ≡ false
     → (is_finish kind ≡ false) × ((uses_view p kind && is_done reply) ≡ false) × ((uses_viewport p kind && is_done reply) ≡ false)
 refused-still p (Viewport q props) reply is no_finish refused = (refl, refl, and_right (uses_viewport p (Viewport q props)) (is_done reply) refused)
 refused-still p _ reply is no_finish refused = absurd (let wrong : false ≡ true = is in cc)
 
-not-viewport : (kind : Kind) → is_viewport kind ≡ false → between.is_viewport kind ≡ false
+not-viewport : (kind : EntryKind) → is_viewport kind ≡ false → between.is_viewport kind ≡ false
 not-viewport (Viewport p props) is = is
 not-viewport _ is = refl
 

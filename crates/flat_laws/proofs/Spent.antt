@@ -4,8 +4,8 @@ use Rattle.std.specs.Prelude.{cond, is_some}
 use Rattle.flat_base.specs.declared.ids.PairNo.{PairNo}
 use Rattle.flat_scene.specs.declared.calls.Watch.{Watch}
 use Rattle.flat_scene.specs.declared.journal.Entry.{Entry}
-use Rattle.flat_scene.specs.declared.journal.Told.{Told}
-use Rattle.flat_scene.specs.declared.journal.Told.TheVariants as tell
+use Rattle.flat_scene.specs.declared.journal.WatcherValue.{WatcherValue}
+use Rattle.flat_scene.specs.declared.journal.WatcherValue.TheVariants as tell
 use Rattle.flat_scene.specs.declared.setup.Setup.{Setup}
 use Rattle.flat_scene.specs.History.{◌▹◌}
 use Rattle.flat_watch.specs.Told.{Watching, answer, answered_by, asking, news, same_told, settled}
@@ -14,11 +14,11 @@ use Rattle.flat_rules.specs.Watch.{Watcher, asked, is_open, listener, told, watc
 use Rattle.flat_laws.specs.Ends.{GoneIsTheLastAnswer, IsSpent}
 use Rattle.flat_laws.proofs.Lost.{gone-stays}
 
-abbrev gone : Option Told
+abbrev gone : Option WatcherValue
 gone = Some tell.Gone
 
 -- an answer is the value told
-answer-told : (now last : Option Told) (value : Told) → news now last ≡ Some value → now ≡ Some value
+answer-told : (now last : Option WatcherValue) (value : WatcherValue) → news now last ≡ Some value → now ≡ Some value
 answer-told now None value is = is
 answer-told None (Some last) value is = absurd (cc)
 answer-told (Some now) (Some last) value is = by_same (same_told now last) is
@@ -28,11 +28,11 @@ answer-told (Some now) (Some last) value is = by_same (same_told now last) is
     by_same false same = same
 
 -- a watcher that settles has the answer that it had, or the value told
-settled-last : (listens : Bool) (now : Option Told) (w : Watching) → (settled listens now w).last ≡ gone → (w.last ≡ gone → now ≡ gone) → now ≡ gone
+settled-last : (listens : Bool) (now : Option WatcherValue) (w : Watching) → (settled listens now w).last ≡ gone → (w.last ≡ gone → now ≡ gone) → now ≡ gone
 settled-last false now w is stays = stays is
 settled-last true now w is stays = by_waits (is_some w.waits) is
   where
-    by_news : (o : Option Told) → news now w.last ≡ o → (answered_by o w).last ≡ gone → now ≡ gone
+    by_news : (o : Option WatcherValue) → news now w.last ≡ o → (answered_by o w).last ≡ gone → now ≡ gone
     by_news None none same = stays same
     by_news (Some value) some same =
         let value_is : Some value ≡ gone = same in answer-told now w.last value some ∙ value_is
@@ -50,15 +50,15 @@ module _ (setup : Setup) (watcher : Watcher) where
       is
       (λ was. gone-stays setup h (e ∷ []) watcher (told-gone h was))
 
-  no-news : (now last : Option Told) → now ≡ gone → last ≡ gone → news now last ≡ None
+  no-news : (now last : Option WatcherValue) → now ≡ gone → last ≡ gone → news now last ≡ None
   no-news now last a b = λ i. news (a i) (b i)
 
-  last-settled : (listens : Bool) (now : Option Told) (w : Watching) → now ≡ gone → w.last ≡ gone → (settled listens now w).last ≡ gone
+  last-settled : (listens : Bool) (now : Option WatcherValue) (w : Watching) → now ≡ gone → w.last ≡ gone → (settled listens now w).last ≡ gone
   last-settled false now w tells is = is
   last-settled true now w tells is = by_waits (is_some w.waits)
     where
       by_waits : (b : Bool) → (answered_by (cond b (news now w.last) None) w).last ≡ gone
-      by_waits true = ap (λ (o : Option Told). (answered_by o w).last) (no-news now w.last tells is) ∙ is
+      by_waits true = ap (λ (o : Option WatcherValue). (answered_by o w).last) (no-news now w.last tells is) ∙ is
       by_waits false = is
 
   last-next : (h : List Entry) (e : Entry) → (watching setup watcher h).last ≡ gone → (watching setup watcher (h ▹ e)).last ≡ gone
@@ -70,7 +70,7 @@ module _ (setup : Setup) (watcher : Watcher) where
   last-later h [] is = is
   last-later h (e ∷ later) is = last-next (later ++ h) e (last-later h later is)
 
-  unanswered : (p : PairNo) (now : Option Told) (w : Watching) → now ≡ gone → w.last ≡ gone → event_of p w.waits (answer now w) ≡ []
+  unanswered : (p : PairNo) (now : Option WatcherValue) (w : Watching) → now ≡ gone → w.last ≡ gone → event_of p w.waits (answer now w) ≡ []
   unanswered p now w tells is = by_waits w.waits
     where
       by_waits : (o : Option Watch) → event_of p o (cond (is_some o) (news now w.last) None) ≡ []

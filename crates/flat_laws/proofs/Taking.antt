@@ -7,8 +7,8 @@ use Rattle.std.proofs.lemmas.Bool.{and_parts, leb-true}
 use Rattle.flat_base.specs.declared.ids.FenceNo.{FenceNo}
 use Rattle.flat_base.specs.declared.ids.SessionNo.{SessionNo}
 use Rattle.flat_scene.specs.declared.journal.Entry.{Entry}
-use Rattle.flat_scene.specs.declared.journal.Kind.{Kind}
-use Rattle.flat_scene.specs.declared.journal.Kind.TheVariants.{Begin}
+use Rattle.flat_scene.specs.declared.journal.EntryKind.{EntryKind}
+use Rattle.flat_scene.specs.declared.journal.EntryKind.TheVariants.{Begin}
 use Rattle.flat_scene.specs.declared.setup.Setup.{Setup}
 use Rattle.flat_scene.specs.Draft.{of_serial}
 use Rattle.flat_scene.specs.Frames.{is_ready, is_signalled, is_unsquashable, ready_prefix, ready_run, taken, takes, up_to_first, waiting}
@@ -44,13 +44,13 @@ split (suc a) (suc b) less = let rest = split a b (omega (arith, less)) in (rest
 -- ---- what an entry takes
 
 -- Presents that an entry takes: it is a begin, the session is open, and they are the ready prefix.
-pub record TakesReady (k : Kind) (f : FenceNo → Bool) (closed : Bool) (w : List Published) : Type 0 where
+pub record TakesReady (k : EntryKind) (f : FenceNo → Bool) (closed : Bool) (w : List Published) : Type 0 where
   pub time : ℕ
   pub begins : k ≡ Begin time
   pub opened : closed ≡ false
   pub is : takes k f closed w ≡ ready_prefix time f w
 
-pub takes-ready : (k : Kind) (f : FenceNo → Bool) (closed : Bool) (w : List Published) → 0 < length (takes k f closed w) → TakesReady k f closed w
+pub takes-ready : (k : EntryKind) (f : FenceNo → Bool) (closed : Bool) (w : List Published) → 0 < length (takes k f closed w) → TakesReady k f closed w
 takes-ready (Begin time) f true w some = absurd (omega (arith, some))
 takes-ready (Begin time) f false w some = record { time = time; begins = refl; opened = refl; is = refl }
 takes-ready _ f closed w some = absurd (omega (arith, some))

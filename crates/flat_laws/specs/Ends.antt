@@ -4,9 +4,9 @@ use Rattle.std.specs.List.{list_any}
 use Rattle.flat_base.specs.declared.ids.PairNo.{PairNo}
 use Rattle.flat_base.specs.declared.ids.SessionNo.{SessionNo}
 use Rattle.flat_scene.specs.declared.journal.Entry.{Entry}
-use Rattle.flat_scene.specs.declared.journal.Kind.{Kind}
-use Rattle.flat_scene.specs.declared.journal.Kind.TheVariants.{Viewport}
-use Rattle.flat_scene.specs.declared.journal.Told.TheVariants as tell
+use Rattle.flat_scene.specs.declared.journal.EntryKind.{EntryKind}
+use Rattle.flat_scene.specs.declared.journal.EntryKind.TheVariants.{Viewport}
+use Rattle.flat_scene.specs.declared.journal.WatcherValue.TheVariants as tell
 use Rattle.flat_scene.specs.declared.setup.Setup.{Setup}
 use Rattle.flat_scene.specs.History.{◌▹◌, is_begin, is_closed, is_finish}
 use Rattle.flat_watch.specs.Told.{news}
@@ -62,7 +62,7 @@ ViewportEndsAreUsedInTurn = (setup : Setup) (history : List Entry) → Legal set
 -- ---- events
 
 -- whether an entry is a CreateViewport that was done
-abbrev pub is_viewport : Kind → Bool
+abbrev pub is_viewport : EntryKind → Bool
 is_viewport (Viewport p props) = true
 is_viewport _ = false
 

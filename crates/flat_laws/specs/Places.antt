@@ -11,7 +11,7 @@ use Rattle.flat_scene.specs.declared.frames.ViewNode.{ViewNode}
 use Rattle.flat_scene.specs.declared.setup.Setup.{Setup}
 use Rattle.flat_scene.specs.declared.trees.Content.{Content}
 use Rattle.flat_scene.specs.declared.trees.Content.TheVariants as content
-use Rattle.flat_topology.specs.declared.Placed.{Placed}
+use Rattle.flat_topology.specs.declared.PlacedNode.{PlacedNode}
 use Rattle.flat_topology.specs.Draw.{draw_list, node_item}
 use Rattle.flat_topology.specs.Fit.{FitsSetup}
 use Rattle.flat_topology.specs.Hits.{hit_list, hit_on}
@@ -31,7 +31,7 @@ use Rattle.flat_topology.specs.Views.{view_nodes}
 
 -- A placed node, with the rectangles of all viewports above it, from the innermost to the display's own rectangle.
 pub record NodeInViewports : Type 0 where
-  pub at : Placed
+  pub at : PlacedNode
   pub viewports : List Rect
 
 -- the rectangles above a child view: below a viewport, its rectangle too

@@ -7,8 +7,8 @@ use Rattle.flat_base.specs.declared.ids.SessionNo.{SessionNo}
 use Rattle.flat_scene.specs.declared.journal.Entry.{Entry}
 use Rattle.flat_scene.specs.declared.journal.Event.{Event}
 use Rattle.flat_scene.specs.declared.journal.Event.TheVariants as event
-use Rattle.flat_scene.specs.declared.journal.Kind.{Kind}
-use Rattle.flat_scene.specs.declared.journal.Kind.TheVariants.{Begin, Signal}
+use Rattle.flat_scene.specs.declared.journal.EntryKind.{EntryKind}
+use Rattle.flat_scene.specs.declared.journal.EntryKind.TheVariants.{Begin, Signal}
 use Rattle.flat_scene.specs.declared.setup.Setup.{Setup}
 use Rattle.flat_scene.specs.Draft.{of_serial}
 use Rattle.flat_scene.specs.Frames.{credits, is_among, is_signalled, is_unsquashable, taken}
@@ -120,7 +120,7 @@ ClosedPresentsRelease = (setup : Setup) (history : List Entry) → Legal setup h
     → (fence : FenceNo) → is_among present.args.release fence ≡ true → is_signalled setup history fence ≡ true
 
 -- whether an entry is a Signal of a fence
-abbrev pub is_signal_of : FenceNo → Kind → Bool
+abbrev pub is_signal_of : FenceNo → EntryKind → Bool
 is_signal_of fence (Signal other) = other.0 == fence.0
 is_signal_of fence _ = false
 

@@ -13,13 +13,13 @@ use Rattle.flat_scene.specs.declared.frames.Hit.{Hit}
 use Rattle.flat_scene.specs.declared.journal.Entry.{Entry}
 use Rattle.flat_scene.specs.declared.journal.Event.{Event}
 use Rattle.flat_scene.specs.declared.journal.Event.TheVariants as event
-use Rattle.flat_scene.specs.declared.journal.Kind.{Kind}
-use Rattle.flat_scene.specs.declared.journal.Kind.TheVariants as kind
+use Rattle.flat_scene.specs.declared.journal.EntryKind.{EntryKind}
+use Rattle.flat_scene.specs.declared.journal.EntryKind.TheVariants as kind
 use Rattle.flat_scene.specs.declared.journal.Layout.{Layout}
 use Rattle.flat_scene.specs.declared.journal.Reply.{Reply}
 use Rattle.flat_scene.specs.declared.journal.Reply.TheVariants as reply
-use Rattle.flat_scene.specs.declared.journal.Told.{Told}
-use Rattle.flat_scene.specs.declared.journal.Told.TheVariants as told
+use Rattle.flat_scene.specs.declared.journal.WatcherValue.{WatcherValue}
+use Rattle.flat_scene.specs.declared.journal.WatcherValue.TheVariants as told
 use Rattle.flat_places.specs.declared.script.Script.{Script}
 use Rattle.flat_page.specs.Words.{numbers, number, session_name, actor_name}
 use Rattle.flat_places.specs.Forms.{Word}
@@ -34,7 +34,7 @@ layout_words layout =
     ∷ numbers (pos layout.inset.top ∷ pos layout.inset.right ∷ pos layout.inset.bottom ∷ pos layout.inset.left ∷ [])
     ++ codes "ratio" ∷ number layout.ratio ∷ []
 
-abbrev pub value_words : Told → List Word
+abbrev pub value_words : WatcherValue → List Word
 value_words (told.Layout layout) = layout_words layout
 value_words told.Connected = codes "connected" ∷ []
 value_words told.Disconnected = codes "disconnected" ∷ []
@@ -78,7 +78,7 @@ closing_words (Some NoPresentsRemaining) reason = codes "NO_PRESENTS_REMAINING" 
 closing_words (Some BadHangingGet) reason = codes "BAD_HANGING_GET" ∷ []
 
 -- what was done, where that is all there is to say
-abbrev pub done_words : Kind → List Word
+abbrev pub done_words : EntryKind → List Word
 done_words (kind.View p) = codes "CreateView" ∷ codes "ok" ∷ []
 done_words (kind.Viewport p props) = codes "CreateViewport" ∷ codes "ok" ∷ []
 done_words (kind.Signal f) = codes "Signal" ∷ codes "ok" ∷ []
@@ -86,12 +86,12 @@ done_words (kind.Dpr ratio) = codes "dpr" ∷ codes "ok" ∷ []
 done_words _ = []
 
 -- the call of a get
-abbrev pub asked_words : Kind → List Word
+abbrev pub asked_words : EntryKind → List Word
 asked_words (kind.Get watching) = get_word watching ∷ []
 asked_words _ = []
 
 -- what stands behind the actor and the line's number
-abbrev pub reply_words : Kind → Reply → List Word
+abbrev pub reply_words : EntryKind → Reply → List Word
 reply_words made reply.Done = done_words made
 reply_words made (reply.Presented count credits) =
     codes "Present" ∷ number count ∷ codes "credits" ∷ number credits ∷ []
@@ -114,7 +114,7 @@ point_words script x y frame hits =
 
 -- What stands behind the number of the line.
 -- The number of finished frames is that before the entry, and the hits are those of the last of them.
-abbrev pub answer_words : Script → ℕ → (ℤ → ℤ → List Hit) → Kind → Reply → List Word
+abbrev pub answer_words : Script → ℕ → (ℤ → ℤ → List Hit) → EntryKind → Reply → List Word
 answer_words script frames hits (kind.End refused) answer = []
 answer_words script frames hits (kind.Begin time) answer =
     codes "begin" ∷ number time ∷ codes "frame" ∷ number (suc frames) ∷ []
@@ -123,7 +123,7 @@ answer_words script frames hits (kind.Hit x y) answer = point_words script x y f
 answer_words script frames hits made answer = reply_words made answer
 
 -- what stands behind the actor
-abbrev pub said_words : Script → ℕ → (ℤ → ℤ → List Hit) → ℕ → Kind → Reply → List Word
+abbrev pub said_words : Script → ℕ → (ℤ → ℤ → List Hit) → ℕ → EntryKind → Reply → List Word
 said_words script frames hits line (kind.End refused) answer = codes "end" ∷ number refused ∷ []
 said_words script frames hits line made answer = number line ∷ answer_words script frames hits made answer
 

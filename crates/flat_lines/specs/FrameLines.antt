@@ -7,7 +7,7 @@ use Rattle.flat_scene.specs.declared.calls.BlendMode.{BlendMode}
 use Rattle.flat_scene.specs.declared.calls.BlendMode.TheVariants.{Src, SrcOver}
 use Rattle.flat_scene.specs.declared.frames.DrawItem.{DrawItem}
 use Rattle.flat_scene.specs.declared.frames.FrameOut.{FrameOut}
-use Rattle.flat_scene.specs.declared.frames.Lost.{Lost}
+use Rattle.flat_scene.specs.declared.frames.LostDisplay.{LostDisplay}
 use Rattle.flat_scene.specs.declared.frames.Paint.{Paint}
 use Rattle.flat_scene.specs.declared.frames.Paint.TheVariants.{Fill, Image}
 use Rattle.flat_scene.specs.declared.frames.SceneMatrix.{SceneMatrix}
@@ -56,12 +56,12 @@ view_line script view =
 abbrev pub apart_line : Script → SessionNo → List Word
 apart_line script s = codes "apart" ∷ session_name script.sessions s ∷ []
 
-abbrev pub lost_line : Lost → List Word
+abbrev pub lost_line : LostDisplay → List Word
 lost_line lost =
     codes "display" ∷ number lost.display ∷ codes "lost" ∷ codes "at" ∷ codes "frame" ∷ number lost.frame.0 ∷ []
 
 -- the displays that were lost at the frame of a number
-abbrev pub lost_at : ℕ → List Lost → List Lost
+abbrev pub lost_at : ℕ → List LostDisplay → List LostDisplay
 lost_at n = filter (λ lost. lost.frame.0 == n)
 
 -- the lines of a frame: its items, its views, the sessions apart

@@ -12,7 +12,7 @@ use flat_base::NoMemory;
 use flat_page::{Page, actor_name, session_name};
 use flat_places::Script;
 use flat_print::interaction_number;
-use flat_scene::{Entry, Hit, Kind, Post};
+use flat_scene::{Entry, EntryKind, Hit, PostedEvent};
 
 fn push_hit(page: &mut Page, script: &Script, hit: Hit) -> Result<(), NoMemory>
     ensures { OnOk result (Writes (session_name script.now.sessions hit.session
@@ -89,10 +89,10 @@ fn push_answer(
         (λ x y. hits.now) entry.now.kind entry.now.reply) page.old page.new) }
 {
     match &entry.kind {
-        Kind::Begin(time) => push_begin(page, *time, finished + 1),
-        Kind::Finish => push_finish(page, finished + 1),
-        Kind::Hit(x, y) => push_point(page, script, *x, *y, finished, hits),
-        Kind::End(_) => Ok(()),
+        EntryKind::Begin(time) => push_begin(page, *time, finished + 1),
+        EntryKind::Finish => push_finish(page, finished + 1),
+        EntryKind::Hit(x, y) => push_point(page, script, *x, *y, finished, hits),
+        EntryKind::End(_) => Ok(()),
         kind => push_reply(page, kind, &entry.reply),
     }
 }
@@ -109,7 +109,7 @@ fn push_said(
     ensures { OnOk result (Writes (said_words script.now finished
         (λ x y. hits.now) entry.now.line entry.now.kind entry.now.reply) page.old page.new) }
 {
-    if let Kind::End(refused) = &entry.kind {
+    if let EntryKind::End(refused) = &entry.kind {
         return page.counted(b"end", *refused);
     }
     page.count(entry.line as u64)?;
@@ -135,7 +135,7 @@ pub fn push_entry(
     Ok(())
 }
 
-fn push_posted(page: &mut Page, script: &Script, post: &Post) -> Result<(), NoMemory>
+fn push_posted(page: &mut Page, script: &Script, post: &PostedEvent) -> Result<(), NoMemory>
     ensures { OnOk result (Writes (session_name script.now.sessions post.now.session
         ∷ event_words script.now post.now.event) page.old page.new) }
 {
@@ -145,7 +145,7 @@ fn push_posted(page: &mut Page, script: &Script, post: &Post) -> Result<(), NoMe
 }
 
 /// The line of an event.
-fn push_post(page: &mut Page, script: &Script, post: &Post) -> Result<(), NoMemory>
+fn push_post(page: &mut Page, script: &Script, post: &PostedEvent) -> Result<(), NoMemory>
     ensures { OnOk result (WritesLines (post_line script.now post.now ∷ []) page.old page.new) }
 {
     page.put(b">")?;
@@ -155,7 +155,7 @@ fn push_post(page: &mut Page, script: &Script, post: &Post) -> Result<(), NoMemo
 }
 
 /// The lines of events.
-pub fn push_posts(page: &mut Page, script: &Script, posts: &[Post]) -> Result<(), NoMemory>
+pub fn push_posts(page: &mut Page, script: &Script, posts: &[PostedEvent]) -> Result<(), NoMemory>
     ensures { OnOk result (WritesLines (map (post_line script.now) posts.now) page.old page.new) }
 {
     for post in posts {

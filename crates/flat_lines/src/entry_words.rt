@@ -11,7 +11,7 @@ use crate::names::pair_name;
 use flat_base::{FlatlandError, NoMemory, Reason};
 use flat_page::Page;
 use flat_places::Script;
-use flat_scene::{Event, Inset, Kind, Layout, Reply, Told, Watch};
+use flat_scene::{EntryKind, Event, Inset, Layout, Reply, Watch, WatcherValue};
 
 fn push_inset(page: &mut Page, inset: &Inset) -> Result<(), NoMemory>
     ensures { OnOk result (Writes (number inset.now.top ∷ number inset.now.right
@@ -30,15 +30,15 @@ fn push_layout(page: &mut Page, layout: &Layout) -> Result<(), NoMemory>
     page.counted(b"ratio", layout.ratio)
 }
 
-fn push_value(page: &mut Page, value: &Told) -> Result<(), NoMemory>
+fn push_value(page: &mut Page, value: &WatcherValue) -> Result<(), NoMemory>
     ensures { OnOk result (Writes (value_words value.now) page.old page.new) }
 {
     match value {
-        Told::Layout(layout) => push_layout(page, layout),
-        Told::Connected => page.word(b"connected"),
-        Told::Disconnected => page.word(b"disconnected"),
-        Told::HasPresented => page.word(b"content_has_presented"),
-        Told::Gone => page.word(b"gone"),
+        WatcherValue::Layout(layout) => push_layout(page, layout),
+        WatcherValue::Connected => page.word(b"connected"),
+        WatcherValue::Disconnected => page.word(b"disconnected"),
+        WatcherValue::HasPresented => page.word(b"content_has_presented"),
+        WatcherValue::Gone => page.word(b"gone"),
     }
 }
 
@@ -81,11 +81,11 @@ fn get_word(watching: Watch) -> &'static [u8]
     }
 }
 
-fn push_asked(page: &mut Page, kind: &Kind) -> Result<(), NoMemory>
+fn push_asked(page: &mut Page, kind: &EntryKind) -> Result<(), NoMemory>
     ensures { OnOk result (Writes (asked_words kind.now) page.old page.new) }
 {
     match kind {
-        Kind::Get(watching) => page.word(get_word(*watching)),
+        EntryKind::Get(watching) => page.word(get_word(*watching)),
         _ => Ok(()),
     }
 }
@@ -98,14 +98,14 @@ fn push_ok(page: &mut Page, call: &[u8]) -> Result<(), NoMemory>
     page.word(b"ok")
 }
 
-fn push_done(page: &mut Page, kind: &Kind) -> Result<(), NoMemory>
+fn push_done(page: &mut Page, kind: &EntryKind) -> Result<(), NoMemory>
     ensures { OnOk result (Writes (done_words kind.now) page.old page.new) }
 {
     match kind {
-        Kind::View(_) => push_ok(page, b"CreateView"),
-        Kind::Viewport(_, _) => push_ok(page, b"CreateViewport"),
-        Kind::Signal(_) => push_ok(page, b"Signal"),
-        Kind::Dpr(_) => push_ok(page, b"dpr"),
+        EntryKind::View(_) => push_ok(page, b"CreateView"),
+        EntryKind::Viewport(_, _) => push_ok(page, b"CreateViewport"),
+        EntryKind::Signal(_) => push_ok(page, b"Signal"),
+        EntryKind::Dpr(_) => push_ok(page, b"dpr"),
         _ => Ok(()),
     }
 }
@@ -138,8 +138,9 @@ fn push_error(page: &mut Page, error: FlatlandError, reason: Option<Reason>) -> 
     }
 }
 
-/// Why a session was closed.
-fn push_closing(
+/// Why a session was closed: the error, and the reason of a bad operation; nothing for an end
+/// without an error.
+pub fn push_closing(
     page: &mut Page,
     error: Option<FlatlandError>,
     reason: Option<Reason>,
@@ -167,7 +168,7 @@ fn push_waited(page: &mut Page, met: &[u8], value: u32) -> Result<(), NoMemory>
     page.counted(met, value)
 }
 
-fn push_held(page: &mut Page, kind: &Kind) -> Result<(), NoMemory>
+fn push_held(page: &mut Page, kind: &EntryKind) -> Result<(), NoMemory>
     ensures { OnOk result (Writes (asked_words kind.now ++ codes "held" ∷ []) page.old page.new) }
 {
     push_asked(page, kind)?;
@@ -175,7 +176,7 @@ fn push_held(page: &mut Page, kind: &Kind) -> Result<(), NoMemory>
     Ok(())
 }
 
-fn push_now(page: &mut Page, kind: &Kind, value: &Told) -> Result<(), NoMemory>
+fn push_now(page: &mut Page, kind: &EntryKind, value: &WatcherValue) -> Result<(), NoMemory>
     ensures { OnOk result
         (Writes (asked_words kind.now ++ codes "now" ∷ value_words value.now) page.old page.new) }
 {
@@ -186,7 +187,7 @@ fn push_now(page: &mut Page, kind: &Kind, value: &Told) -> Result<(), NoMemory>
 }
 
 /// What an entry of this kind was answered.
-pub fn push_reply(page: &mut Page, kind: &Kind, reply: &Reply) -> Result<(), NoMemory>
+pub fn push_reply(page: &mut Page, kind: &EntryKind, reply: &Reply) -> Result<(), NoMemory>
     ensures { OnOk result (Writes (reply_words kind.now reply.now) page.old page.new) }
 {
     match reply {

@@ -14,7 +14,7 @@ use flat_base::{BufferNo, IntRect, NoMemory, Rect, SessionNo};
 use flat_page::{Page, session_name};
 use flat_places::Script;
 use flat_print::flip_number;
-use flat_scene::{BlendMode, DrawItem, Lost, Paint, SceneMatrix, ViewNode, ViewTree};
+use flat_scene::{BlendMode, DrawItem, LostDisplay, Paint, SceneMatrix, ViewNode, ViewTree};
 
 fn push_rect(page: &mut Page, rect: Rect) -> Result<(), NoMemory>
     ensures { OnOk result (Writes (rect_words rect) page.old page.new) }
@@ -216,7 +216,7 @@ pub fn push_apart(page: &mut Page, script: &Script, session: SessionNo) -> Resul
     Ok(())
 }
 
-fn push_lost_words(page: &mut Page, lost: &Lost) -> Result<(), NoMemory>
+fn push_lost_words(page: &mut Page, lost: &LostDisplay) -> Result<(), NoMemory>
     ensures { OnOk result (Writes (number lost.now.display ∷ codes "lost" ∷ codes "at"
         ∷ codes "frame" ∷ number lost.now.frame.0 ∷ []) page.old page.new) }
 {
@@ -228,7 +228,7 @@ fn push_lost_words(page: &mut Page, lost: &Lost) -> Result<(), NoMemory>
 }
 
 /// The line of a display that was lost.
-pub fn push_lost(page: &mut Page, lost: &Lost) -> Result<(), NoMemory>
+pub fn push_lost(page: &mut Page, lost: &LostDisplay) -> Result<(), NoMemory>
     ensures { OnOk result (WritesLines (lost_line lost.now ∷ []) page.old page.new) }
 {
     page.put(b"display")?;
@@ -267,7 +267,7 @@ pub fn push_tree(page: &mut Page, script: &Script, tree: &ViewTree) -> Result<()
 }
 
 /// The line of a display, if it was lost at the frame of that number.
-fn push_lost_at(page: &mut Page, number: u64, lost: &Lost) -> Result<(), NoMemory>
+fn push_lost_at(page: &mut Page, number: u64, lost: &LostDisplay) -> Result<(), NoMemory>
     ensures { OnOk result
         (WritesLines (map lost_line (lost_at number (lost.now ∷ []))) page.old page.new) }
 {
@@ -279,7 +279,7 @@ fn push_lost_at(page: &mut Page, number: u64, lost: &Lost) -> Result<(), NoMemor
 }
 
 /// The lines of the displays that were lost at the frame of a number.
-pub fn push_losses(page: &mut Page, number: u64, lost: &[Lost]) -> Result<(), NoMemory>
+pub fn push_losses(page: &mut Page, number: u64, lost: &[LostDisplay]) -> Result<(), NoMemory>
     ensures { OnOk result
         (WritesLines (map lost_line (lost_at number lost.now)) page.old page.new) }
 {

@@ -18,4 +18,6 @@ mod names;
 
 pub use ends::{push_end, push_title};
 pub use entry_lines::{push_entry, push_long, push_point, push_posts};
+pub use entry_words::push_closing;
 pub use frame_words::{push_item, push_losses, push_tree};
+pub use names::pair_name;

@@ -14,16 +14,16 @@ use Rattle.flat_scene.specs.declared.setup.Setup.{Setup}
 use Rattle.flat_scene.specs.History.{calls, is_session}
 use Rattle.flat_rules.specs.Ends.{view_owner, viewport_owner}
 use Rattle.flat_rules.specs.Stamps.{stamp_then}
-use Rattle.flat_facts.specs.declared.live.Live.{Live}
+use Rattle.flat_facts.specs.declared.live_viewport.LiveViewport.{LiveViewport}
 use Rattle.flat_facts.specs.Clears.{clears_pair}
 use Rattle.flat_facts.specs.Views.{ends_of, is_loss, view_after}
 use Rattle.flat_facts.proofs.lemmas.Losses.{no-clears, no-ends}
 use Rattle.flat_facts.proofs.lemmas.ViewHistory.{same-session}
-use Rattle.flat_states.specs.declared.state.Account.{Account}
-use Rattle.flat_links.specs.declared.following.Following.{Following}
+use Rattle.flat_states.specs.declared.state.SessionCounts.{SessionCounts}
+use Rattle.flat_links.specs.declared.session_links.SessionLinks.{SessionLinks}
 use Rattle.flat_links.specs.declared.pairs.PairState.{PairState}
 use Rattle.flat_links.specs.Clears.{cleared_if}
-use Rattle.flat_links.specs.Following.{IsOwnEntry}
+use Rattle.flat_links.specs.SessionLinks.{IsOwnEntry}
 use Rattle.flat_facts.specs.Pairs.{pair}
 use Rattle.flat_links.specs.Hearing.{IsBound, is_within, losing_of, losings}
 use Rattle.flat_links.specs.Usage.{SeesUses, SettlesPairs, losing_then, settled, with_pending}
@@ -36,8 +36,8 @@ use Rattle.flat_links.proofs.lemmas.PairSteps.{clears-elsewhere, ends-elsewhere,
 
 -- ---- one session's stamp rises
 
-pub losing-set : (old : List Following) (i : ℕ) (one : Following) → losings (slice_set old i one) ≡ slice_set (losings old) i one.losing
-losing-set old i one = map-set (λ (f : Following). f.losing) old i one
+pub losing-set : (old : List SessionLinks) (i : ℕ) (one : SessionLinks) → losings (slice_set old i one) ≡ slice_set (losings old) i one.losing
+losing-set old i one = map-set (λ (f : SessionLinks). f.losing) old i one
 
 rise-by : (all : List (Option ℕ)) (i j : ℕ) (losing : Option ℕ) → i < length all → is_within (slice_index_or all i None) losing ≡ true
     → ((i == j) ≡ true) × (i ≡ j) ⊎ ((i == j) ≡ false) × (i ≢ j)
@@ -66,7 +66,7 @@ if-not true b implies is = refl
 if-not false b implies is = let wrong : true ≡ false = sym is ∙ implies refl in cc
 
 -- its own entry
-module _ (setup : Setup) (s : SessionNo) (h : List Entry) (e : Entry) (carries : List Call) (account : Account) (live : List Live)
+module _ (setup : Setup) (s : SessionNo) (h : List Entry) (e : Entry) (carries : List Call) (account : SessionCounts) (live : List LiveViewport)
     (entry : IsOwnEntry setup h e s carries account live)
     (all : List (Option ℕ)) (below : s.0 - 1 < length all) (is_early : is_within (losing_of all s) (Some account.presents) ≡ true) where
   abbrev now : List (Option ℕ)
@@ -126,6 +126,6 @@ bounds-settled setup all then old new same settles each i d below =
     (ap (λ (x : PairState). x.cleared) is) (each i d within)
 
 -- what is written back with the same stamp
-pub losings-same : (all : List Following) (i : ℕ) (was new : Following) → was ≡ slice_index_or all i was → new.losing ≡ was.losing
+pub losings-same : (all : List SessionLinks) (i : ℕ) (was new : SessionLinks) → was ≡ slice_index_or all i was → new.losing ≡ was.losing
     → losings (slice_set all i new) ≡ losings all
-losings-same all i was new is same = map-set_same (λ (f : Following). f.losing) all i new was (same ∙ ap (λ (f : Following). f.losing) is)
+losings-same all i was new is same = map-set_same (λ (f : SessionLinks). f.losing) all i new was (same ∙ ap (λ (f : SessionLinks). f.losing) is)

@@ -6,7 +6,7 @@ use Rattle.flat_base.specs.declared.ids.ContentId.{ContentId}
 use Rattle.flat_base.specs.declared.ids.PairNo.{PairNo}
 use Rattle.flat_scene.specs.declared.calls.Call.{Call}
 use Rattle.flat_scene.specs.declared.calls.Call.TheVariants.{ReleaseViewport, Clear}
-use Rattle.flat_facts.specs.declared.live.Live.{Live}
+use Rattle.flat_facts.specs.declared.live_viewport.LiveViewport.{LiveViewport}
 use Rattle.flat_links.specs.declared.pairs.PairState.{PairState}
 use Rattle.flat_facts.specs.Clears.{is_clear, is_cleared, clears_pair}
 use Rattle.flat_links.specs.Clears.{cleared_if, ClearsOne, ClearsLive}
@@ -34,7 +34,7 @@ and-true true b is = is
 and-true false b is = refl
 
 -- one that the calls clear, and then the others
-pub clears-more : (one : Live) (live : List Live) (calls : List Call) (k : ℕ) (a b c : List PairState) → is_cleared one.name calls ≡ true
+pub clears-more : (one : LiveViewport) (live : List LiveViewport) (calls : List Call) (k : ℕ) (a b c : List PairState) → is_cleared one.name calls ≡ true
     → ClearsOne one.pair k a b → ClearsLive live calls k b c → ClearsLive (one ∷ live) calls k a c
 clears-more one live calls k a b c is first later = record {
   count = later.count ∙ first.count;
@@ -48,7 +48,7 @@ clears-more one live calls k a b c is first later = record {
 }
 
 -- one that they don't
-pub clears-less : (one : Live) (live : List Live) (calls : List Call) (k : ℕ) (a c : List PairState) → is_cleared one.name calls ≡ false
+pub clears-less : (one : LiveViewport) (live : List LiveViewport) (calls : List Call) (k : ℕ) (a c : List PairState) → is_cleared one.name calls ≡ false
     → ClearsLive live calls k a c → ClearsLive (one ∷ live) calls k a c
 clears-less one live calls k a c is later = record {
   count = later.count;
@@ -70,19 +70,19 @@ no-clear name (Clear ∷ calls) none = let wrong : true ≡ false = none in cc
 no-clear name (_ ∷ calls) none = no-clear name calls none
 
 -- calls without a Clear
-pub clears-nothing : (live : List Live) (calls : List Call) (k : ℕ) (pairs : List PairState) → list_any is_clear calls ≡ false
+pub clears-nothing : (live : List LiveViewport) (calls : List Call) (k : ℕ) (pairs : List PairState) → list_any is_clear calls ≡ false
     → ClearsLive live calls k pairs pairs
 clears-nothing [] calls k pairs none = clears-none calls k pairs
 clears-nothing (one ∷ live) calls k pairs none = clears-less one live calls k pairs pairs (no-clear one.name calls none)
     (clears-nothing live calls k pairs none)
 
 -- calls that clear the same viewports do the same
-same-pair : (p : PairNo) (live : List Live) (calls calls' : List Call) → ((name : ContentId) → is_cleared name calls' ≡ is_cleared name calls)
+same-pair : (p : PairNo) (live : List LiveViewport) (calls calls' : List Call) → ((name : ContentId) → is_cleared name calls' ≡ is_cleared name calls)
     → clears_pair p live calls' ≡ clears_pair p live calls
 same-pair p [] calls calls' same = refl
 same-pair p (one ∷ live) calls calls' same = rw (same one.name, same-pair p live calls calls' same) refl
 
-pub clears-same : (live : List Live) (calls calls' : List Call) (k : ℕ) (a b : List PairState)
+pub clears-same : (live : List LiveViewport) (calls calls' : List Call) (k : ℕ) (a b : List PairState)
     → ((name : ContentId) → is_cleared name calls' ≡ is_cleared name calls) → ClearsLive live calls' k a b → ClearsLive live calls k a b
 clears-same live calls calls' k a b same clears = record {
   count = clears.count;

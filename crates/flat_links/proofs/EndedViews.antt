@@ -12,9 +12,9 @@ use Rattle.flat_rules.specs.Ends.{ends_view, happens, view_owner}
 use Rattle.flat_rules.specs.Legal.{owns_view}
 use Rattle.flat_rules.specs.Stamps.{IsStamp}
 use Rattle.flat_facts.proofs.lemmas.Stamped.{happening-lasts, stamped}
-use Rattle.flat_links.specs.declared.following.Following.{Following}
+use Rattle.flat_links.specs.declared.session_links.SessionLinks.{SessionLinks}
 use Rattle.flat_links.specs.declared.pairs.PairState.{PairState}
-use Rattle.flat_links.specs.Following.{AreTied}
+use Rattle.flat_links.specs.SessionLinks.{AreLinked}
 use Rattle.flat_links.specs.Views.{end_stamp, is_ended}
 
 -- What is kept of a pair whose view end a session owns: the stamp of the view's end.
@@ -38,7 +38,8 @@ item-there [] i below = absurd (omega (arith, below))
 item-there (x ∷ xs) zero below = (x, refl, refl)
 item-there (x ∷ xs) (suc i) below = item-there xs i (omega arith)
 
-pub end-of : (setup : Setup) (s : SessionNo) (h : List Entry) {followings : List Following} (pairs : List PairState) → AreTied setup h followings pairs
+pub end-of : (setup : Setup) (s : SessionNo) (h : List Entry) {linked_sessions : List SessionLinks} (pairs : List PairState)
+    → AreLinked setup h linked_sessions pairs
     → (p : PairNo) → owns_view setup s p ≡ true → IsEndOf setup s h pairs p
 end-of setup s h pairs tied p owned =
     let owner : view_owner setup p ≡ Some s = owner-of s (view_owner setup p) owned in
@@ -51,7 +52,8 @@ end-of setup s h pairs tied p owned =
     record { owner = owner; stamp = rw is (kept.ended s owner) }
 
 -- whether it has, while the session is open
-pub ended-is : (setup : Setup) (s : SessionNo) (h : List Entry) {followings : List Following} (pairs : List PairState) → AreTied setup h followings pairs
+pub ended-is : (setup : Setup) (s : SessionNo) (h : List Entry) {linked_sessions : List SessionLinks} (pairs : List PairState)
+    → AreLinked setup h linked_sessions pairs
     → is_closed s h ≡ false → (p : PairNo) → owns_view setup s p ≡ true
     → is_ended pairs p ≡ happens setup (ends_view p) (calls s h)
 ended-is setup s h pairs tied opened p owned =

@@ -7,10 +7,10 @@ use Rattle.flat_scene.specs.declared.calls.Call.{Call}
 use Rattle.flat_scene.specs.declared.journal.Entry.{Entry}
 use Rattle.flat_scene.specs.declared.setup.Setup.{Setup}
 use Rattle.flat_scene.specs.History.{◌▹◌, own, calls, is_begin, is_closed, is_finish, is_session, presents}
-use Rattle.flat_links.specs.declared.following.Following.{Following}
+use Rattle.flat_links.specs.declared.session_links.SessionLinks.{SessionLinks}
 use Rattle.flat_rules.specs.Ends.{to_begin, to_finished}
 use Rattle.flat_facts.specs.Contents.{capped}
-use Rattle.flat_links.specs.Following.{IsFollowed, sight_of}
+use Rattle.flat_links.specs.SessionLinks.{AreSessionLinks, seen_by_begin}
 use Rattle.flat_rules.specs.Serials.{contents_made}
 use Rattle.flat_links.specs.Hearing.{is_within}
 use Rattle.flat_links.proofs.Risen.{losing-stays}
@@ -36,25 +36,25 @@ module _ (setup : Setup) (s : SessionNo) (h : List Entry) (e : Entry) where
 
   -- its own entry, of no frame
   pub followed-own : is_session s e.actor ≡ true → is_begin e.kind ≡ false → is_finish e.kind ≡ false → (carries : List Call) → e.calls ≡ carries
-      → (state new : Following)
+      → (state new : SessionLinks)
       → ((n : ℕ) → state.contents ≡ capped n → new.contents ≡ capped (n + length (contents_made carries)))
-      → is_within new.losing (Some (length (presents s h))) ≡ true → new.begun ≡ state.begun → new.finished ≡ state.finished → IsFollowed setup h s state
-      → IsFollowed setup (h ▹ e) s new
+      → is_within new.losing (Some (length (presents s h))) ≡ true → new.begun ≡ state.begun → new.finished ≡ state.finished → AreSessionLinks setup h s state
+      → AreSessionLinks setup (h ▹ e) s new
   followed-own mine no_begin no_finish carries carried state new contents losing begun finished old = record {
     losing = losing-stays s h e new.losing losing;
     contents = λ o.
         contents (length (contents_made (calls s h))) (old.contents (before-open o))
         ∙ ap (λ (cs : List Call). capped (length (contents_made (calls s h)) + length (contents_made cs))) (sym carried)
         ∙ ap capped (sym (contents-own mine));
-    begun = begun ∙ old.begun ∙ ap (λ (k : List Entry). sight_of setup k s) (sym (begin-same no_begin));
-    finished = finished ∙ old.finished ∙ ap (λ (k : List Entry). sight_of setup k s) (sym (finished-same no_finish));
+    begun = begun ∙ old.begun ∙ ap (λ (k : List Entry). seen_by_begin setup k s) (sym (begin-same no_begin));
+    finished = finished ∙ old.finished ∙ ap (λ (k : List Entry). seen_by_begin setup k s) (sym (finished-same no_finish));
   }
 
   -- another's, and its own once it was closed: the calls that count stay
-  pub followed-still : (is_session s e.actor ≡ true → is_closed s h ≡ true) → (state new : Following) → new.contents ≡ state.contents
+  pub followed-still : (is_session s e.actor ≡ true → is_closed s h ≡ true) → (state new : SessionLinks) → new.contents ≡ state.contents
       → new.losing ≡ state.losing
-      → new.begun ≡ sight_of setup (to_begin (h ▹ e)) s → new.finished ≡ sight_of setup (to_finished (h ▹ e)) s → IsFollowed setup h s state
-      → IsFollowed setup (h ▹ e) s new
+      → new.begun ≡ seen_by_begin setup (to_begin (h ▹ e)) s → new.finished ≡ seen_by_begin setup (to_finished (h ▹ e)) s → AreSessionLinks setup h s state
+      → AreSessionLinks setup (h ▹ e) s new
   followed-still shut state new contents losing begun finished old = record {
     losing = rw losing (losing-stays s h e state.losing old.losing);
     contents = λ o. contents ∙ old.contents (before-open o) ∙ ap (λ (cs : List Call). capped (length (contents_made cs))) (sym (same o));
@@ -69,8 +69,8 @@ module _ (setup : Setup) (s : SessionNo) (h : List Entry) (e : Entry) where
           by_actor false other = rw other refl
           by_actor true mine = let wrong : true ≡ false = sym (shut-stays s h e (shut mine)) ∙ o in cc
 
-  pub followed-idle : (is_session s e.actor ≡ true → is_closed s h ≡ true) → is_begin e.kind ≡ false → is_finish e.kind ≡ false → (state : Following)
-      → IsFollowed setup h s state → IsFollowed setup (h ▹ e) s state
+  pub followed-idle : (is_session s e.actor ≡ true → is_closed s h ≡ true) → is_begin e.kind ≡ false → is_finish e.kind ≡ false → (state : SessionLinks)
+      → AreSessionLinks setup h s state → AreSessionLinks setup (h ▹ e) s state
   followed-idle shut no_begin no_finish state old =
-      followed-still shut state state refl refl (old.begun ∙ ap (λ (k : List Entry). sight_of setup k s) (sym (begin-same no_begin)))
-      (old.finished ∙ ap (λ (k : List Entry). sight_of setup k s) (sym (finished-same no_finish))) old
+      followed-still shut state state refl refl (old.begun ∙ ap (λ (k : List Entry). seen_by_begin setup k s) (sym (begin-same no_begin)))
+      (old.finished ∙ ap (λ (k : List Entry). seen_by_begin setup k s) (sym (finished-same no_finish))) old

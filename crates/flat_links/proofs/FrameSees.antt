@@ -11,8 +11,8 @@ use Rattle.flat_base.specs.declared.ids.SessionNo.{SessionNo}
 use Rattle.flat_scene.specs.declared.calls.Call.{Call}
 use Rattle.flat_scene.specs.declared.calls.ViewportProps.{ViewportProps}
 use Rattle.flat_scene.specs.declared.journal.Entry.{Entry}
-use Rattle.flat_scene.specs.declared.journal.Kind.{Kind}
-use Rattle.flat_scene.specs.declared.journal.Kind.TheVariants.{Begin}
+use Rattle.flat_scene.specs.declared.journal.EntryKind.{EntryKind}
+use Rattle.flat_scene.specs.declared.journal.EntryKind.TheVariants.{Begin}
 use Rattle.flat_scene.specs.declared.setup.Setup.{Setup}
 use Rattle.flat_scene.specs.declared.trees.Children.{Children}
 use Rattle.flat_scene.specs.declared.trees.Tree.{Tree}
@@ -265,7 +265,7 @@ module _ (setup : Setup) (v : SessionNo) where
       by_kind before true is = twice (had (to_begin h)) (props_seen setup p n v h)
       by_kind before false is = before
 
-  takes-closed : (kind : Kind) (signalled : FenceNo → Bool) (w : List Published) → takes kind signalled true w ≡ []
+  takes-closed : (kind : EntryKind) (signalled : FenceNo → Bool) (w : List Published) → takes kind signalled true w ≡ []
   takes-closed (Begin time) signalled w = refl
   takes-closed _ signalled w = refl
 

@@ -6,7 +6,7 @@ use Rattle.std.proofs.lemmas.Bool.Decides.{nat_tests}
 use Rattle.flat_base.specs.declared.ids.ContentId.{ContentId}
 use Rattle.flat_scene.specs.declared.calls.Call.{Call}
 use Rattle.flat_scene.specs.declared.calls.Call.TheVariants.{CreateViewport, ReleaseViewport, Clear}
-use Rattle.flat_facts.specs.declared.live.Live.{Live}
+use Rattle.flat_facts.specs.declared.live_viewport.LiveViewport.{LiveViewport}
 use Rattle.flat_links.specs.declared.tokens.OutToken.{OutToken}
 use Rattle.flat_rules.specs.Legal.{number_if}
 use Rattle.flat_facts.specs.Lives.{is_new_viewport, lives_then, lives_after, pair_named, count_of, releases_live}
@@ -32,7 +32,7 @@ once true = refl
 once false = refl
 
 -- a release marks the token of the pair that it names
-pub marked-release : (lives : List Live) (c : ContentId) (k : ℕ) (outs : List OutToken)
+pub marked-release : (lives : List LiveViewport) (c : ContentId) (k : ℕ) (outs : List OutToken)
     → map (marked_by (pair_named lives c.0) k) outs ≡ map (marked lives (ReleaseViewport c ∷ []) k) outs
 marked-release lives c k [] = refl
 marked-release lives c k (out ∷ outs) =
@@ -47,7 +47,7 @@ stamp-more None true n k = let some : nat_lt 0 (1 + n) ≡ true = grind (arith, 
 stamp-more None false n k = let same : 0 + n ≡ n = omega arith in rw same refl
 
 -- one call, and then the others
-pub marked-more : (lives : List Live) (call : Call) (calls : List Call) (k : ℕ) (outs : List OutToken)
+pub marked-more : (lives : List LiveViewport) (call : Call) (calls : List Call) (k : ℕ) (outs : List OutToken)
     → map (marked (lives_then lives call) calls k) (map (marked lives (call ∷ []) k) outs) ≡ map (marked lives (call ∷ calls) k) outs
 marked-more lives call calls k [] = refl
 marked-more lives call calls k (out ∷ outs) =
@@ -55,7 +55,7 @@ marked-more lives call calls k (out ∷ outs) =
     ap (with_stamp out) (stamp-more out.released (releases_live out.pair lives call) (count_of (releases_live out.pair) (lives_then lives call) calls) k) in
     rw (one, marked-more lives call calls k outs) refl
 
-pub marked-none : (lives : List Live) (k : ℕ) (outs : List OutToken) → map (marked lives [] k) outs ≡ outs
+pub marked-none : (lives : List LiveViewport) (k : ℕ) (outs : List OutToken) → map (marked lives [] k) outs ≡ outs
 marked-none lives k outs = unmarked k outs
 
 -- ---- loops
@@ -84,28 +84,29 @@ mapped-next {A = A} f xs now i d y below is new =
     rw add-one here
 
 -- What is left of calls to note.
-pub record Left (calls : List Call) (k : ℕ) (now : List Live) (tokens : List OutToken) (lives : List Live) (outs : List OutToken) : Type 0 where
+pub record Left (calls : List Call) (k : ℕ) (now : List LiveViewport) (tokens : List OutToken) (lives : List LiveViewport) (outs : List OutToken) : Type 0 where
   pub live : lives_after now calls ≡ lives
   pub out : map (marked now calls k) tokens ≡ outs
 
-pub left-next : (call : Call) (calls rest : List Call) (k : ℕ) (live live' lives : List Live) (out out' outs : List OutToken) → calls ≡ call ∷ rest
+pub left-next : (call : Call) (calls rest : List Call) (k : ℕ) (live live' lives : List LiveViewport) (out out' outs : List OutToken) → calls ≡ call ∷ rest
     → live' ≡ lives_then live call → out' ≡ map (marked live (call ∷ []) k) out
     → lives_after live calls ≡ lives → map (marked live calls k) out ≡ outs → Left rest k live' out' lives outs
 left-next call calls rest k live live' lives out out' outs is live_is out_is all marks = record {
   live = ap (λ l. lives_after l rest) live_is ∙ ap (lives_after live) (sym is) ∙ all;
-  out = ap (map (marked live' rest k)) out_is ∙ ap (λ (l : List Live). map (marked l rest k) (map (marked live (call ∷ []) k) out)) live_is
+  out = ap (map (marked live' rest k)) out_is ∙ ap (λ (l : List LiveViewport). map (marked l rest k) (map (marked live (call ∷ []) k) out)) live_is
       ∙ marked-more live call rest k out ∙ ap (λ (cs : List Call). map (marked live cs k) out) (sym is) ∙ marks;
 }
 
 -- a call that is neither a release of a viewport nor a Clear
-pub plain-lives : (lives : List Live) (call : Call) → is_new_viewport call ≡ false → ((c : ContentId) → call ≡ ReleaseViewport c → ⊥) → (call ≡ Clear → ⊥)
+pub plain-lives : (lives : List LiveViewport) (call : Call) → is_new_viewport call ≡ false → ((c : ContentId) → call ≡ ReleaseViewport c → ⊥)
+    → (call ≡ Clear → ⊥)
     → lives ≡ lives_then lives call
 plain-lives lives (CreateViewport c p w h inset) none no_release no_clear = cc
 plain-lives lives (ReleaseViewport c) none no_release no_clear = absurd (no_release c refl)
 plain-lives lives Clear none no_release no_clear = absurd (no_clear refl)
 plain-lives lives _ none no_release no_clear = refl
 
-pub plain-marks : (lives : List Live) (call : Call) (k : ℕ) (outs : List OutToken) → ((c : ContentId) → call ≡ ReleaseViewport c → ⊥)
+pub plain-marks : (lives : List LiveViewport) (call : Call) (k : ℕ) (outs : List OutToken) → ((c : ContentId) → call ≡ ReleaseViewport c → ⊥)
     → outs ≡ map (marked lives (call ∷ []) k) outs
 plain-marks lives (ReleaseViewport c) k outs no_release = absurd (no_release c refl)
 plain-marks lives _ k outs no_release = sym (unmarked k outs)

@@ -13,7 +13,7 @@ use Rattle.flat_scene.specs.Frames.{taken}
 use Rattle.flat_scene.specs.History.{calls, is_closed}
 use Rattle.flat_scene.specs.Setups.{is_declared}
 use Rattle.flat_base.proofs.lemmas.Tests.{and-left}
-use Rattle.flat_facts.specs.declared.live.Live.{Live}
+use Rattle.flat_facts.specs.declared.live_viewport.LiveViewport.{LiveViewport}
 use Rattle.flat_rules.specs.Ends.{to_begin, to_finished, releases_viewport, viewport_uses}
 use Rattle.flat_rules.specs.Legal.{Legal, has_token, owns_viewport, is_frame_open, all_but_last, makes_viewport}
 use Rattle.flat_facts.specs.Lives.{held_of, lives_after, lives_then}
@@ -99,20 +99,20 @@ module _ (setup : Setup) (s : SessionNo) (p : PairNo) (owned : owns_viewport set
       subst (IsStamp test s h) is (stamp-of test lasting s h)
 
 -- the last call of a viewport's entry leaves it alive
-last-pair : (p : PairNo) (props : ViewportProps) (lives : List Live) (call : Call) → makes_viewport p props (Some call) ≡ true
+last-pair : (p : PairNo) (props : ViewportProps) (lives : List LiveViewport) (call : Call) → makes_viewport p props (Some call) ≡ true
     → 1 ≤ held_of p (lives_then lives call)
 last-pair p props lives (CreateViewport c q w h inset) is =
     let same : (q.0 == p.0) ≡ true = and-left (q.0 == p.0) _ (and-left _ _ (and-left _ _ is)) in
-    let one : held_of p ((let live : Live = record { name = c; pair = q } in live) ∷ []) ≡ 1 = rw same refl in
-    omega (arith, held-append p lives ((let live : Live = record { name = c; pair = q } in live) ∷ []), one)
+    let one : held_of p ((let live : LiveViewport = record { name = c; pair = q } in live) ∷ []) ≡ 1 = rw same refl in
+    omega (arith, held-append p lives ((let live : LiveViewport = record { name = c; pair = q } in live) ∷ []), one)
 last-pair p props lives _ is = cc
 
-pub made-lives : (p : PairNo) (props : ViewportProps) (lives : List Live) (carries : List Call) (last : Option Call)
+pub made-lives : (p : PairNo) (props : ViewportProps) (lives : List LiveViewport) (carries : List Call) (last : Option Call)
     → slice_get carries (length carries - 1) ≡ last → makes_viewport p props last ≡ true → 1 ≤ held_of p (lives_after lives carries)
 made-lives p props lives carries None at is = cc
 made-lives p props lives carries (Some call) at is =
     let split : carries ≡ all_but_last carries ++ call ∷ [] = split-last carries call at in
     let after : lives_after lives carries ≡ lives_then (lives_after lives (all_but_last carries)) call =
     ap (lives_after lives) split ∙ lives-append lives (all_but_last carries) (call ∷ []) in
-    let H : List Live → Type 0 = λ l. 1 ≤ held_of p l in
+    let H : List LiveViewport → Type 0 = λ l. 1 ≤ held_of p l in
     subst H (sym after) (last-pair p props (lives_after lives (all_but_last carries)) call is)

@@ -13,7 +13,7 @@ use Rattle.flat_scene.specs.Draft.{Draft, empty_draft}
 use Rattle.flat_scene.specs.Effect.{draft_of}
 use Rattle.flat_scene.specs.Frames.{taken}
 use Rattle.flat_scene.specs.History.{◌▹◌, calls, closes, is_closed, is_session, presents}
-use Rattle.flat_facts.specs.declared.live.Live.{Live}
+use Rattle.flat_facts.specs.declared.live_viewport.LiveViewport.{LiveViewport}
 use Rattle.flat_rules.specs.Ends.{times, happens, ends_view, clears_viewport, loses, is_viewport_lost, is_view_lost, viewport_owner, view_owner, to_finished}
 use Rattle.flat_rules.specs.Legal.{Legal}
 use Rattle.flat_facts.specs.Lives.{lives_after, clears_live, count_of}
@@ -69,7 +69,7 @@ module _ (setup : Setup) (s : SessionNo) (h : List Entry) (e : Entry) (legal : L
       happens-now (ends_view p) before.draft (ends_of p view e.calls) before.good counts not_yet) old
 
   -- the stamp of the first Clear while a viewport of the pair lived
-  pub clear-stamp : is_closed s h ≡ false → (p : PairNo) (live : List Live) → live ≡ lives_after [] (calls s h) → (stamp : Option ℕ)
+  pub clear-stamp : is_closed s h ≡ false → (p : PairNo) (live : List LiveViewport) → live ≡ lives_after [] (calls s h) → (stamp : Option ℕ)
       → IsStamp (happens setup (clears_viewport p)) s h stamp
       → IsStamp (happens setup (clears_viewport p)) s (h ▹ e) (stamp_then stamp (nat_lt 0 (count_of (clears_live p) live e.calls)) (length (presents s h)))
   clear-stamp opened p live is stamp old =
@@ -83,7 +83,7 @@ module _ (setup : Setup) (s : SessionNo) (h : List Entry) (e : Entry) (legal : L
       let then : Lived setup before.draft e.calls after.draft =
       lived setup before.draft e.calls after.draft first.tidy (good-more setup (calls s h) e.calls before.draft after.draft before.good good) in
       let counts : times setup (clears_viewport p) (Ok before.draft) e.calls ≡ count_of (clears_live p) live e.calls =
-      then.clears p ∙ ap (λ (l : List Live). count_of (clears_live p) l e.calls) (first.lives ∙ sym is) in
+      then.clears p ∙ ap (λ (l : List LiveViewport). count_of (clears_live p) l e.calls) (first.lives ∙ sym is) in
       let not_yet : happens setup (clears_viewport p) (calls s h) ≡ false =
       sym (stamped (happens setup (clears_viewport p)) (happening-lasts setup (clears_viewport p)) s h).some
       ∙ ap is_some (sym (old.opened opened) ∙ none) in

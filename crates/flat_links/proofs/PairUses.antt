@@ -11,7 +11,7 @@ use Rattle.flat_base.specs.declared.ids.SessionNo.{SessionNo}
 use Rattle.flat_scene.specs.declared.calls.Call.{Call}
 use Rattle.flat_scene.specs.declared.calls.ViewportProps.{ViewportProps}
 use Rattle.flat_scene.specs.declared.journal.Entry.{Entry}
-use Rattle.flat_scene.specs.declared.journal.Kind.{Kind}
+use Rattle.flat_scene.specs.declared.journal.EntryKind.{EntryKind}
 use Rattle.flat_scene.specs.declared.journal.Reply.{Reply}
 use Rattle.flat_scene.specs.declared.setup.Setup.{Setup}
 use Rattle.flat_scene.specs.Draft.{Draft}
@@ -19,15 +19,15 @@ use Rattle.flat_scene.specs.Effect.{draft_of}
 use Rattle.flat_scene.specs.Frames.{taken}
 use Rattle.flat_scene.specs.History.{◌▹◌, calls, closes, is_finish, is_session, published}
 use Rattle.flat_base.proofs.lemmas.Tests.{and-left}
-use Rattle.flat_facts.specs.declared.live.Live.{Live}
+use Rattle.flat_facts.specs.declared.live_viewport.LiveViewport.{LiveViewport}
 use Rattle.flat_links.specs.declared.pairs.PairState.{PairState}
-use Rattle.flat_states.specs.declared.state.Account.{Account}
+use Rattle.flat_states.specs.declared.state.SessionCounts.{SessionCounts}
 use Rattle.flat_facts.specs.Clears.{clears_pair}
 use Rattle.flat_links.specs.Clears.{cleared_if}
 use Rattle.flat_rules.specs.Ends.{is_done, live_props, props_of, serials_of, taken_calls, to_begin, uses_viewport, viewport_uses}
 use Rattle.flat_facts.specs.Begins.{finished}
 use Rattle.flat_facts.specs.Contents.{capped}
-use Rattle.flat_links.specs.Following.{IsOwnEntry, IsPairKept, props_pending}
+use Rattle.flat_links.specs.SessionLinks.{IsOwnEntry, IsPairKept, props_pending}
 use Rattle.flat_facts.specs.Pairs.{pair}
 use Rattle.flat_rules.specs.Legal.{makes_viewport, owns_in_call, owns_all, owns_in_kind, owns_viewport, own_call}
 use Rattle.flat_facts.specs.Lives.{made_of_pair}
@@ -94,7 +94,7 @@ unseen setup p v n (h ▹ e) few =
 
 -- ---- a use
 
-pub pair-used : (setup : Setup) (s : SessionNo) (h : List Entry) (e : Entry) (carries : List Call) (account : Account) (live : List Live)
+pub pair-used : (setup : Setup) (s : SessionNo) (h : List Entry) (e : Entry) (carries : List Call) (account : SessionCounts) (live : List LiveViewport)
     → IsOwnEntry setup h e s carries account live
     → (p : PairNo) (props : ViewportProps) → IsUse e p props → (serial : ℕ) → serial ≡ capped (length (contents_made (calls s h ++ carries)))
     → (view : Option PairNo) → view ≡ view_after None (calls s h) → (i : ℕ) (state : PairState) → IsPairKept setup h (pair i) state
@@ -115,12 +115,12 @@ pair-used setup s h e carries account live entry p props used serial counted vie
     by_pair : (b : Bool) → (p.0 == i) ≡ b → IsPairKept setup (h ▹ e) (pair i) (cond b (used_by serial props state_now) state_now)
     by_pair false other =
         let none : (uses_viewport (pair i) e.kind && is_done e.reply) ≡ false =
-        ap (λ (k : Kind). uses_viewport (pair i) k && is_done e.reply) used.kind ∙ rw other refl in
+        ap (λ (k : EntryKind). uses_viewport (pair i) k && is_done e.reply) used.kind ∙ rw other refl in
         pair-own setup s h e carries account live entry view is i none state kept
     by_pair true this =
         let mine : p ≡ pair i = (let number : p.0 ≡ i = grind (arith, nat_tests) in ap pair number) in
         let it : (uses_viewport (pair i) e.kind && is_done e.reply) ≡ true =
-        ap (λ (k : Kind). uses_viewport (pair i) k && is_done e.reply) used.kind ∙ ap (λ (r : Reply). (p.0 == i) && is_done r) used.reply ∙ rw this refl in
+        ap (λ (k : EntryKind). uses_viewport (pair i) k && is_done e.reply) used.kind ∙ ap (λ (r : Reply). (p.0 == i) && is_done r) used.reply ∙ rw this refl in
         let more : viewport_uses (pair i) (h ▹ e) ≡ (viewport_uses (pair i) h ▹ e) = rw it refl in
         let count : length (viewport_uses (pair i) (h ▹ e)) ≡ length (viewport_uses (pair i) h) + 1 = ap (length {A = Entry}) more ∙ omega arith in
         let ours : owns_viewport setup s (pair i) ≡ true = subst (λ (q : PairNo). owns_viewport setup s q ≡ true) mine owns in
@@ -129,7 +129,7 @@ pair-used setup s h e carries account live entry p props used serial counted vie
         uses-made setup s (pair i) ours h entry.legal.0 entry.opened in
         let last : makes_viewport (pair i) props (slice_get e.calls (length e.calls - 1)) ≡ true =
         subst (λ (q : PairNo). makes_viewport q props (slice_get e.calls (length e.calls - 1)) ≡ true) mine
-        (sym (ap (λ (k : Kind). own_call k (slice_get e.calls (length e.calls - 1))) used.kind) ∙ entry.legal.1.may.calls) in
+        (sym (ap (λ (k : EntryKind). own_call k (slice_get e.calls (length e.calls - 1))) used.kind) ∙ entry.legal.1.may.calls) in
         record {
           ended = λ w owner. ended-own setup s h e carries account live entry (pair i) view is w owner state.ended (kept.ended w owner);
           cleared = λ v owner. cleared-own setup s h e carries account live entry (pair i) v owner state.cleared (kept.cleared v owner);
@@ -141,7 +141,7 @@ pair-used setup s h e carries account live entry p props used serial counted vie
                 tells =
                     subst (λ (t : SessionNo). IsUseSerial (pair i) t (h ▹ e) (length (contents_made (calls s h ++ e.calls)))) (sym same)
                     (serial-new setup s (pair i) ours h e entry.legal entry.mine stays entry.opened
-                    (λ all. ap (λ (k : Kind). published k e.reply all) used.kind) count props last);
+                    (λ all. ap (λ (k : EntryKind). published k e.reply all) used.kind) count props last);
               };
           unused = λ none. let wrong : 1 ≤ 0 = omega (arith, none, count) in absurd (omega (arith, wrong));
           given = sym (ap (props_given setup) more ∙ ap props_at used.kind);

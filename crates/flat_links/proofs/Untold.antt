@@ -11,7 +11,7 @@ use Rattle.flat_base.specs.declared.ids.PairNo.{PairNo}
 use Rattle.flat_base.specs.declared.ids.SessionNo.{SessionNo}
 use Rattle.flat_scene.specs.declared.calls.ViewportProps.{ViewportProps}
 use Rattle.flat_scene.specs.declared.journal.Entry.{Entry}
-use Rattle.flat_scene.specs.declared.journal.Told.{Told}
+use Rattle.flat_scene.specs.declared.journal.WatcherValue.{WatcherValue}
 use Rattle.flat_scene.specs.declared.setup.PairDecl.{PairDecl}
 use Rattle.flat_scene.specs.declared.setup.Setup.{Setup}
 use Rattle.flat_facts.specs.Begins.{finish_entry, finished}
@@ -22,72 +22,74 @@ use Rattle.flat_rules.specs.Stamps.{is_seen}
 use Rattle.flat_rules.specs.Watch.{Watcher, are_joined, child_of, layout_of, listener, props_given, props_seen, props_told, ratio_told, status_of, told}
 use Rattle.std.specs.Option.{option_or}
 use Rattle.flat_states.proofs.lemmas.Counts.{at-session}
-use Rattle.flat_links.specs.declared.following.Following.{Following}
-use Rattle.flat_links.specs.declared.following.Sight.{Sight}
+use Rattle.flat_links.specs.declared.session_links.SessionLinks.{SessionLinks}
+use Rattle.flat_links.specs.declared.session_links.SeenAtBegin.{SeenAtBegin}
 use Rattle.flat_links.specs.declared.pairs.PairState.{PairState}
-use Rattle.flat_links.specs.Following.{AreTied, IsFollowed, IsLastSight, IsPairKept, new_following, nothing}
+use Rattle.flat_links.specs.SessionLinks.{AreLinked, AreSessionLinks, IsLastSeenAtBegin, IsPairKept, new_session_links, nothing}
 use Rattle.flat_facts.specs.Pairs.{pair}
 use Rattle.flat_links.specs.Hearing.{IsAlike, IsCalm, is_within, losing_of, losings}
 use Rattle.flat_facts.specs.Told.{TellsTheSame}
 use Rattle.flat_links.specs.Usage.{settled}
 use Rattle.flat_links.specs.Views.{child_by, layout_by, status_by}
 use Rattle.flat_links.proofs.PairTold.{child-told, display-keeps, status-told, viewport-lost, view-lost}
-use Rattle.flat_links.proofs.TiesFinish.{pair-settled}
-use Rattle.flat_links.proofs.ToldTies.{beyond-sight, child-kept, lost-told, props-kept, within-sight, zero-sight}
+use Rattle.flat_links.proofs.LinksFinish.{pair-settled}
+use Rattle.flat_links.proofs.ToldLinks.{beyond-seen_at_begin, child-kept, lost-told, props-kept, within-seen_at_begin, zero-seen_at_begin}
 
 -- What the last two frames saw of a session is alike.
-record Sights (setup : Setup) (h k : List Entry) (losing : Option ℕ) (s : SessionNo) : Type 0 where
-  old : Sight
-  new : Sight
-  before : IsLastSight setup h s old
-  after : IsLastSight setup k s new
+record BeginSights (setup : Setup) (h k : List Entry) (losing : Option ℕ) (s : SessionNo) : Type 0 where
+  old : SeenAtBegin
+  new : SeenAtBegin
+  before : IsLastSeenAtBegin setup h s old
+  after : IsLastSeenAtBegin setup k s new
   alike : IsAlike losing old new
 
 alike-nothing : (losing : Option ℕ) → IsAlike losing nothing nothing
 alike-nothing losing = record { closed = refl; view = refl; connected = refl; taken = λ stamp within. refl }
 
-module _ (setup : Setup) (h : List Entry) (line : ℕ) (legal : Legal setup (finished h line)) (followings : List Following) (pairs : List PairState)
-    (tied : AreTied setup h followings pairs) (calm : All IsCalm followings)
+module _ (setup : Setup) (h : List Entry) (line : ℕ) (legal : Legal setup (finished h line)) (linked_sessions : List SessionLinks) (pairs : List PairState)
+    (tied : AreLinked setup h linked_sessions pairs) (calm : All IsCalm linked_sessions)
     (ratio_is : ratio_told setup (finished h line) ≡ ratio_told setup h) where
   abbrev k : List Entry
   k = finished h line
 
   -- of each session, declared or not
-  sights : (s : SessionNo) → Sights setup h k (losing_of (losings followings) s) s
-  sights s = by_zero (s.0 == 0) refl
+  seen_at_begins : (s : SessionNo) → BeginSights setup h k (losing_of (losings linked_sessions) s) s
+  seen_at_begins s = by_zero (s.0 == 0) refl
     where
-      within : 0 < s.0 → s.0 ≤ length followings → Sights setup h k (losing_of (losings followings) s) s
+      within : 0 < s.0 → s.0 ≤ length linked_sessions → BeginSights setup h k (losing_of (losings linked_sessions) s) s
       within some few =
-          let below : s.0 - 1 < length followings = omega (arith, some, few) in
-          let one : Following = slice_index_or followings (s.0 - 1) new_following in
-          let itself : one ≡ slice_index_or followings (s.0 - 1) one = get_or_default followings (s.0 - 1) new_following one below in
-          let kept : IsFollowed setup h s one = at-session (IsFollowed setup h) followings s one tied.each_session some few itself in
+          let below : s.0 - 1 < length linked_sessions = omega (arith, some, few) in
+          let one : SessionLinks = slice_index_or linked_sessions (s.0 - 1) new_session_links in
+          let itself : one ≡ slice_index_or linked_sessions (s.0 - 1) one = get_or_default linked_sessions (s.0 - 1) new_session_links one below in
+          let kept : AreSessionLinks setup h s one = at-session (AreSessionLinks setup h) linked_sessions s one tied.each_session some few itself in
           record {
             old = one.finished;
             new = one.begun;
-            before = within-sight setup s h followings tied.each_session some few one itself;
+            before = within-seen_at_begin setup s h linked_sessions tied.each_session some few one itself;
             after = record {
-              closed = ap (λ (g : Sight). g.closed) kept.begun;
-              took = ap (λ (g : Sight). g.taken) kept.begun;
-              view = ap (λ (g : Sight). g.view) kept.begun;
-              connected = λ p. ap (λ (g : Sight). is_pair g.view p && g.connected) kept.begun;
+              closed = ap (λ (g : SeenAtBegin). g.closed) kept.begun;
+              took = ap (λ (g : SeenAtBegin). g.taken) kept.begun;
+              view = ap (λ (g : SeenAtBegin). g.view) kept.begun;
+              connected = λ p. ap (λ (g : SeenAtBegin). is_pair g.view p && g.connected) kept.begun;
             };
-            alike = rw (get_or-map (λ (f : Following). f.losing) followings (s.0 - 1) new_following None below) (calm (s.0 - 1) new_following below);
+            alike = rw (get_or-map (λ (f : SessionLinks). f.losing) linked_sessions (s.0 - 1) new_session_links None below)
+                (calm (s.0 - 1) new_session_links below);
           }
 
-      none : IsLastSight setup h s nothing → IsLastSight setup k s nothing → Sights setup h k (losing_of (losings followings) s) s
-      none was is = record { old = nothing; new = nothing; before = was; after = is; alike = alike-nothing (losing_of (losings followings) s) }
+      none : IsLastSeenAtBegin setup h s nothing → IsLastSeenAtBegin setup k s nothing → BeginSights setup h k (losing_of (losings linked_sessions) s) s
+      none was is = record { old = nothing; new = nothing; before = was; after = is; alike = alike-nothing (losing_of (losings linked_sessions) s) }
 
-      by_place : (b : Bool) → nat_le s.0 (length followings) ≡ b → s.0 ≢ 0 → Sights setup h k (losing_of (losings followings) s) s
+      by_place : (b : Bool) → nat_le s.0 (length linked_sessions) ≡ b → s.0 ≢ 0 → BeginSights setup h k (losing_of (losings linked_sessions) s) s
       by_place true few some = within (omega (arith, some)) (grind (arith, nat_tests))
       by_place false past some =
-          let beyond : length followings ≤ s.0 - 1 = (let more : length followings < s.0 = grind (arith, nat_tests) in omega (arith, more)) in
-          none (beyond-sight setup s h legal.0 followings tied.sessions beyond some) (beyond-sight setup s k legal followings tied.sessions beyond some)
+          let beyond : length linked_sessions ≤ s.0 - 1 = (let more : length linked_sessions < s.0 = grind (arith, nat_tests) in omega (arith, more)) in
+          none (beyond-seen_at_begin setup s h legal.0 linked_sessions tied.sessions beyond some)
+          (beyond-seen_at_begin setup s k legal linked_sessions tied.sessions beyond some)
 
-      by_zero : (b : Bool) → (s.0 == 0) ≡ b → Sights setup h k (losing_of (losings followings) s) s
+      by_zero : (b : Bool) → (s.0 == 0) ≡ b → BeginSights setup h k (losing_of (losings linked_sessions) s) s
       by_zero true is = let zero_number : s.0 ≡ 0 = grind (arith, nat_tests) in
-          none (zero-sight setup s h legal.0 zero_number) (zero-sight setup s k legal zero_number)
-      by_zero false is = by_place (nat_le s.0 (length followings)) refl
+          none (zero-seen_at_begin setup s h legal.0 zero_number) (zero-seen_at_begin setup s k legal zero_number)
+      by_zero false is = by_place (nat_le s.0 (length linked_sessions)) refl
           (let some : s.0 ≢ 0 = λ same. let wrong : (s.0 == 0) ≡ true = grind (arith, nat_tests) in let never : true ≡ false = sym wrong ∙ is in cc in some)
 
   -- ---- one pair
@@ -115,7 +117,7 @@ module _ (setup : Setup) (h : List Entry) (line : ℕ) (legal : Legal setup (fin
     view-owner-is = rw at refl
 
     bound : (v : SessionNo) → decl.viewport ≡ Session v → (n m : ℕ)
-        → ((stamp : Option ℕ) → is_within stamp (losing_of (losings followings) v) ≡ true → is_seen stamp n ≡ is_seen stamp m)
+        → ((stamp : Option ℕ) → is_within stamp (losing_of (losings linked_sessions) v) ≡ true → is_seen stamp n ≡ is_seen stamp m)
         → is_seen was.cleared n ≡ is_seen was.cleared m
     bound v viewport n m same = same was.cleared ((tied.bound p.0 any below).cleared v (owner-is ∙ ap (λ (a : Actor). Some a) viewport))
 
@@ -128,7 +130,7 @@ module _ (setup : Setup) (h : List Entry) (line : ℕ) (legal : Legal setup (fin
             ∙ sym (display-keeps setup h p (owner-is ∙ ap (λ (a : Actor). Some a) display))
         by_owner (Probe n) probe = rw (owner-is, probe) refl
         by_owner (Session v) viewport =
-            let it = sights v in
+            let it = seen_at_begins v in
             sym (lost-told setup k p v decl at viewport (settled was) kept_then it.new it.after)
             ∙ ap (λ (b : Bool). b || is_seen was.cleared it.new.taken) it.alike.closed
             ∙ ap (λ (b : Bool). it.old.closed || b) (bound v viewport it.new.taken it.old.taken it.alike.taken)
@@ -138,7 +140,7 @@ module _ (setup : Setup) (h : List Entry) (line : ℕ) (legal : Legal setup (fin
     connected-same : (is_pair (shown_view setup (to_finished k) decl.view) p && is_connected setup (to_finished k) decl.view)
         ≡ (is_pair (shown_view setup (to_finished h) decl.view) p && is_connected setup (to_finished h) decl.view)
     connected-same =
-        let it = sights decl.view in
+        let it = seen_at_begins decl.view in
         sym (it.after.connected p) ∙ ap (λ (v : Option PairNo). is_pair v p && it.new.connected) it.alike.view
         ∙ ap (λ (b : Bool). is_pair it.old.view p && b) it.alike.connected ∙ it.before.connected p
 
@@ -187,7 +189,7 @@ module _ (setup : Setup) (h : List Entry) (line : ℕ) (legal : Legal setup (fin
     -- and its viewport's owner
     child-same : (n : ℕ) → told setup k (child_of p n) ≡ told setup h (child_of p n)
     child-same n =
-        let it = sights decl.view in
+        let it = seen_at_begins decl.view in
         sym (child-kept setup k p n decl at (settled was) kept_then it.new it.after)
         ∙ ap (λ (b : Bool). child_by (b || is_seen was.ended it.new.taken) (is_pair it.new.view p)) it.alike.closed
         ∙ ap (λ (b : Bool). child_by (it.old.closed || b) (is_pair it.new.view p))

@@ -10,7 +10,7 @@ use Rattle.flat_base.specs.declared.ids.PairNo.{PairNo}
 use Rattle.flat_scene.specs.declared.calls.Call.{Call}
 use Rattle.flat_scene.specs.declared.calls.Call.TheVariants.{CreateViewport, ReleaseViewport, Clear}
 use Rattle.flat_scene.specs.declared.calls.Inset.{Inset}
-use Rattle.flat_facts.specs.declared.live.Live.{Live}
+use Rattle.flat_facts.specs.declared.live_viewport.LiveViewport.{LiveViewport}
 use Rattle.flat_links.specs.declared.tokens.OutToken.{OutToken}
 use Rattle.flat_rules.specs.Legal.{all_but_last}
 use Rattle.flat_facts.specs.Lives.{lives_after, lives_then, count_of, makes_one, releases_live, uses_last, is_new_viewport}
@@ -46,17 +46,17 @@ is-made p (CreateViewport name q w h inset) is never = never name q w h inset re
 is-made p call is never = cc
 
 -- without a new one no more viewports live
-fewer-one : (lives : List Live) (call : Call) → is_new_viewport call ≡ false → length (lives_then lives call) ≤ length lives
+fewer-one : (lives : List LiveViewport) (call : Call) → is_new_viewport call ≡ false → length (lives_then lives call) ≤ length lives
 fewer-one lives (CreateViewport name q w h inset) none = cc
 fewer-one lives (ReleaseViewport name) none = omega (
   arith,
-  length-filter (λ (live : Live). not (live.name.0 == name.0)) lives,
-  count_by-le-length (λ (live : Live). not (live.name.0 == name.0)) lives,
+  length-filter (λ (live : LiveViewport). not (live.name.0 == name.0)) lives,
+  count_by-le-length (λ (live : LiveViewport). not (live.name.0 == name.0)) lives,
 )
 fewer-one lives Clear none = omega arith
 fewer-one lives call none = omega arith
 
-pub lives-fewer : (lives : List Live) (xs : List Call) → list_any is_new_viewport xs ≡ false → length (lives_after lives xs) ≤ length lives
+pub lives-fewer : (lives : List LiveViewport) (xs : List Call) → list_any is_new_viewport xs ≡ false → length (lives_after lives xs) ≤ length lives
 lives-fewer lives [] none = omega arith
 lives-fewer lives (x ∷ xs) none =
     let two = or_parts (is_new_viewport x) (list_any is_new_viewport xs) none in
@@ -72,12 +72,12 @@ use-of p xs name q w h inset is at =
     let made : makes_one p (CreateViewport name q w h inset) ≡ true = ap (λ (o : Option Call). unwrap_or (option_map (makes_one p) o) false) (sym at) ∙ is in
     record { at = at ∙ ap (λ (r : PairNo). Some (CreateViewport name r w h inset)) (same-pair q p made) }
 
-module _ (p : PairNo) (xs : List Call) (name : ContentId) (w h : ℕ) (inset : Inset) (one : IsUseCall p xs name w h inset) (lives : List Live) where
+module _ (p : PairNo) (xs : List Call) (name : ContentId) (w h : ℕ) (inset : Inset) (one : IsUseCall p xs name w h inset) (lives : List LiveViewport) where
   split : xs ≡ all_but_last xs ++ CreateViewport name p w h inset ∷ []
   split = split-last xs (CreateViewport name p w h inset) one.at
 
   -- the viewport that it makes lives
-  pub lives-used : lives_after lives xs ≡ lives_after lives (all_but_last xs) ++ (let live : Live = record { name = name; pair = p } in live) ∷ []
+  pub lives-used : lives_after lives xs ≡ lives_after lives (all_but_last xs) ++ (let live : LiveViewport = record { name = name; pair = p } in live) ∷ []
   lives-used = ap (lives_after lives) split ∙ lives-append lives (all_but_last xs) (CreateViewport name p w h inset ∷ [])
 
   -- it marks no token

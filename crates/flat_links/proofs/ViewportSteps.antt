@@ -13,7 +13,7 @@ use Rattle.flat_scene.specs.Draft.{Draft, empty_draft}
 use Rattle.flat_scene.specs.Effect.{draft_of}
 use Rattle.flat_scene.specs.History.{◌▹◌, own, calls, closes, is_closed, is_finish, is_session, presents}
 use Rattle.flat_scene.specs.Setups.{is_declared}
-use Rattle.flat_facts.specs.declared.live.Live.{Live}
+use Rattle.flat_facts.specs.declared.live_viewport.LiveViewport.{LiveViewport}
 use Rattle.flat_links.specs.declared.tokens.OutToken.{OutToken}
 use Rattle.flat_rules.specs.Ends.{to_finished, times, releases_viewport, viewport_uses, viewports_of, uses_viewport, is_done}
 use Rattle.flat_rules.specs.Legal.{Legal, has_token, owns_viewport, is_token_back}
@@ -90,7 +90,7 @@ module _ (setup : Setup) (s : SessionNo) (declared : is_declared setup s ≡ tru
 
   -- another's entry that ends no frame leaves all as it is
   pub viewports-other : (h : List Entry) (e : Entry) → Legal setup (h ▹ e) → is_session s e.actor ≡ false → is_finish e.kind ≡ false
-      → (live : List Live) (out : List OutToken) → AreViewports setup h s live out
+      → (live : List LiveViewport) (out : List OutToken) → AreViewports setup h s live out
       → AreViewports setup (h ▹ e) s live out
   viewports-other h e legal other no_finish live out old = record {
     lives = λ o. old.lives (closed-before (is_session s e.actor) e (own s h) o) ∙ rw other refl;
@@ -104,7 +104,7 @@ module _ (setup : Setup) (s : SessionNo) (declared : is_declared setup s ≡ tru
   -- ---- its own entry that uses no viewport end of a pair
 
   module _ (h : List Entry) (e : Entry) (legal : Legal setup (h ▹ e)) (mine : is_session s e.actor ≡ true) (still : is_closed s (h ▹ e) ≡ false) where
-    abbrev pub lives : List Live
+    abbrev pub lives : List LiveViewport
     lives = lives_after [] (calls s h)
 
     opened : is_closed s h ≡ false
@@ -124,7 +124,7 @@ module _ (setup : Setup) (s : SessionNo) (declared : is_declared setup s ≡ tru
         let then : Lived setup before.draft e.calls after.draft =
         lived setup before.draft e.calls after.draft first.tidy (good-more setup (calls s h) e.calls before.draft after.draft before.good good) in
         let counts : times setup (releases_viewport p) (Ok before.draft) e.calls ≡ count_of (releases_live p) lives e.calls =
-        then.releases p ∙ ap (λ (l : List Live). count_of (releases_live p) l e.calls) first.lives in
+        then.releases p ∙ ap (λ (l : List LiveViewport). count_of (releases_live p) l e.calls) first.lives in
         times-append setup (releases_viewport p) (Ok empty_draft) (calls s h) e.calls
         ∙ ap (λ (n : ℕ). times setup (releases_viewport p) (Ok empty_draft) (calls s h) + n)
         (ap (λ (r : Result Draft Reason). times setup (releases_viewport p) r e.calls) before.good ∙ counts)
@@ -190,15 +190,15 @@ module _ (setup : Setup) (s : SessionNo) (declared : is_declared setup s ≡ tru
   -- its own entry that uses no viewport end, whether it closes the session or not
   pub viewports-own : (h : List Entry) (e : Entry) → Legal setup (h ▹ e) → is_session s e.actor ≡ true → is_finish e.kind ≡ false
       → ((p : PairNo) → owns_viewport setup s p ≡ true → (uses_viewport p e.kind && is_done e.reply) ≡ false)
-      → (live : List Live) (out : List OutToken) → AreViewports setup h s live out
+      → (live : List LiveViewport) (out : List OutToken) → AreViewports setup h s live out
       → AreViewports setup (h ▹ e) s (lives_after live e.calls) (map (marked live e.calls (length (presents s h))) out)
   viewports-own h e legal mine no_finish no_use live out old = record {
     lives = λ o.
         let before : is_closed s h ≡ false = closed-before (is_session s e.actor) e (own s h) o in
-        ap (λ (l : List Live). lives_after l e.calls) (old.lives before) ∙ sym (lives-own h e legal mine o);
+        ap (λ (l : List LiveViewport). lives_after l e.calls) (old.lives before) ∙ sym (lives-own h e legal mine o);
     outs = λ o.
         let before : is_closed s h ≡ false = closed-before (is_session s e.actor) e (own s h) o in
         ap (map (marked live e.calls (length (presents s h)))) (old.outs before)
-        ∙ ap (λ (l : List Live). map (marked l e.calls (length (presents s h))) (outs_of setup h s)) (old.lives before)
+        ∙ ap (λ (l : List LiveViewport). map (marked l e.calls (length (presents s h))) (outs_of setup h s)) (old.lives before)
         ∙ sym (outs-own h e legal mine o no_finish no_use);
   }

@@ -1,7 +1,7 @@
 -- Lemmas that other crates may cite.
 pub mod PairIdle
 pub mod PairSteps
-pub mod TiesSteps
+pub mod LinksSteps
 pub mod WithView
 pub mod DoneEnds
 pub mod EndSteps

@@ -1,4 +1,4 @@
--- What is kept of the viewports of all sessions, and what entries do to it and to ties.
+-- What is kept of the viewports of all sessions, and what entries do to it and to links.
 use Rattle.std.specs.Prelude.{◌≡◌, ℕ, List, length, Bool, false, [], ◌+◌, ◌-◌, true, map, slice_index_or, slice_set}
 use Rattle.std.specs.Prelude.{None}
 use Rattle.flat_scene.specs.declared.journal.Entry.{Entry}
@@ -12,11 +12,11 @@ use Rattle.flat_base.specs.declared.ids.PairNo.{PairNo}
 use Rattle.flat_base.specs.declared.ids.SessionNo.{SessionNo}
 use Rattle.flat_scene.specs.declared.calls.Call.{Call}
 use Rattle.flat_scene.specs.declared.calls.ViewportProps.{ViewportProps}
-use Rattle.flat_scene.specs.declared.journal.Kind.TheVariants.{Viewport}
+use Rattle.flat_scene.specs.declared.journal.EntryKind.TheVariants.{Viewport}
 use Rattle.flat_scene.specs.History.{◌▹◌, calls, closes, is_begin, is_closed, is_finish, presents}
 use Rattle.flat_states.specs.declared.state.SessionState.{SessionState}
-use Rattle.flat_links.specs.declared.ties.Ties.{Ties}
-use Rattle.flat_links.specs.Following.{AreTied, UsesNone}
+use Rattle.flat_links.specs.declared.link_table.LinkTable.{LinkTable}
+use Rattle.flat_links.specs.SessionLinks.{AreLinked, UsesNone}
 use Rattle.flat_rules.specs.Legal.{Legal, number_if}
 use Rattle.flat_facts.specs.Lives.{lives_after}
 use Rattle.flat_facts.specs.Views.{last_view}
@@ -68,25 +68,26 @@ pub record IsOwn (setup : Setup) (history : List Entry) (entry : Entry) (s : Ses
   pub no_finish : is_finish entry.kind ≡ false
 
 -- What is kept of pairs after an entry that uses no viewport end stands for the history with it.
-abbrev pub TiesNoted : SessionNo → List Call → SessionState → Viewports → Ties → Ties → Type 0
-TiesNoted s carries state ends old new =
+abbrev pub LinksNoted : SessionNo → List Call → SessionState → Viewports → LinkTable → LinkTable → Type 0
+LinksNoted s carries state ends old new =
     (setup : Setup) (history : List Entry) (entry : Entry) → IsOwn setup history entry s carries state ends
     → UsesNone entry
-    → AreTied setup history old.followings.items old.pairs.items
-    → AreTied setup (history ▹ entry) new.followings.items new.pairs.items
+    → AreLinked setup history old.linked_sessions.items old.pairs.items
+    → AreLinked setup (history ▹ entry) new.linked_sessions.items new.pairs.items
 
 -- and after one that uses the end of a pair, or is refused it
-abbrev pub TiesUsed : SessionNo → List Call → PairNo → ViewportProps → Bool → SessionState → Viewports → Ties → Ties
+abbrev pub LinksUsed : SessionNo → List Call → PairNo → ViewportProps → Bool → SessionState → Viewports → LinkTable
+    → LinkTable
     → Type 0
-TiesUsed s carries p props is_held state ends old new =
+LinksUsed s carries p props is_held state ends old new =
     (setup : Setup) (history : List Entry) (entry : Entry) → IsOwn setup history entry s carries state ends
     → is_closed s history ≡ false → entry.kind ≡ Viewport p props → entry.reply ≡ use_reply is_held
-    → AreTied setup history old.followings.items old.pairs.items
-    → AreTied setup (history ▹ entry) new.followings.items new.pairs.items
+    → AreLinked setup history old.linked_sessions.items old.pairs.items
+    → AreLinked setup (history ▹ entry) new.linked_sessions.items new.pairs.items
 
 -- The same of all sessions' viewports, where this one made the entry.
 pub record EnteredAt (s : SessionNo) (entry : Entry) (states : List SessionState) (old new : List Viewports)
-    (tied now : Ties) : Type 0 where
+    (tied now : LinkTable) : Type 0 where
   pub state : SessionState
   pub before : Viewports
   pub after : Viewports
@@ -94,12 +95,13 @@ pub record EnteredAt (s : SessionNo) (entry : Entry) (states : List SessionState
   pub of_before : before ≡ slice_index_or old (s.0 - 1) before
   pub heard : IsHeard entry state.account.presents before after
   pub new_is : new ≡ slice_set old (s.0 - 1) after
-  pub ties : TiesNoted s entry.calls state before tied now
+  pub links : LinksNoted s entry.calls state before tied now
 
 -- and whoever made it
-abbrev pub EndsEnteredBy : Actor → Entry → List SessionState → List Viewports → List Viewports → Ties → Ties → Type 0
+abbrev pub EndsEnteredBy : Actor → Entry → List SessionState → List Viewports → List Viewports → LinkTable → LinkTable
+    → Type 0
 EndsEnteredBy (Session s) entry states old new tied now = EnteredAt s entry states old new tied now
 EndsEnteredBy who entry states old new tied now = (new ≡ old) × (now ≡ tied)
 
-abbrev pub EndsEntered : Entry → List SessionState → List Viewports → List Viewports → Ties → Ties → Type 0
+abbrev pub EndsEntered : Entry → List SessionState → List Viewports → List Viewports → LinkTable → LinkTable → Type 0
 EndsEntered entry = EndsEnteredBy entry.actor entry

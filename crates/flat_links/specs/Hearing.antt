@@ -12,8 +12,8 @@ use Rattle.flat_topology.specs.Members.{is_member}
 use Rattle.flat_rules.specs.Ends.{view_owner, viewport_owner}
 use Rattle.flat_rules.specs.Stamps.{is_seen}
 use Rattle.flat_rules.specs.Watch.{Watcher, listener, told}
-use Rattle.flat_links.specs.declared.following.Following.{Following}
-use Rattle.flat_links.specs.declared.following.Sight.{Sight}
+use Rattle.flat_links.specs.declared.session_links.SessionLinks.{SessionLinks}
+use Rattle.flat_links.specs.declared.session_links.SeenAtBegin.{SeenAtBegin}
 use Rattle.flat_links.specs.declared.pairs.PairState.{PairState}
 
 -- whether a stamp is there and no later than another, or isn't there
@@ -23,18 +23,18 @@ is_within (Some stamp) None = false
 is_within (Some stamp) (Some last) = nat_le stamp last
 
 -- Two sights of a session tell the same of the ends that it owns, where it lost none after that stamp.
-pub record IsAlike (losing : Option ℕ) (old new : Sight) : Type 0 where
+pub record IsAlike (losing : Option ℕ) (old new : SeenAtBegin) : Type 0 where
   pub closed : new.closed ≡ old.closed
   pub view : new.view ≡ old.view
   pub connected : new.connected ≡ old.connected
   pub taken : (stamp : Option ℕ) → is_within stamp losing ≡ true → is_seen stamp new.taken ≡ is_seen stamp old.taken
 
 -- the same of the sights that a session's last two frames had
-abbrev pub IsCalm : Following → Type 0
+abbrev pub IsCalm : SessionLinks → Type 0
 IsCalm one = IsAlike one.losing one.finished one.begun
 
 -- of each session the stamp of its last entry that may have lost an end, and that of one of them
-abbrev pub losings : List Following → List (Option ℕ)
+abbrev pub losings : List SessionLinks → List (Option ℕ)
 losings = map (λ one. one.losing)
 
 abbrev pub losing_of : List (Option ℕ) → SessionNo → Option ℕ

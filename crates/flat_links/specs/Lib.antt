@@ -1,6 +1,6 @@
 pub mod AllEnds
 pub mod Clears
-pub mod Following
+pub mod SessionLinks
 pub mod Hearing
 pub mod Noted
 pub mod Usage

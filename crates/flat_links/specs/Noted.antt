@@ -2,7 +2,7 @@
 use Rattle.std.specs.Prelude.{◌≡◌, ◌<◌, ℕ, Bool, false, ◌||◌, ◌==◌, List, [], ◌∷◌, length, Option, None, slice_index_or}
 use Rattle.flat_base.specs.declared.ids.PairNo.{PairNo}
 use Rattle.flat_scene.specs.declared.calls.Call.{Call}
-use Rattle.flat_facts.specs.declared.live.Live.{Live}
+use Rattle.flat_facts.specs.declared.live_viewport.LiveViewport.{LiveViewport}
 use Rattle.flat_links.specs.declared.pairs.PairState.{PairState}
 use Rattle.flat_facts.specs.Clears.{clears_pair}
 use Rattle.flat_links.specs.Clears.{cleared_if}
@@ -38,7 +38,7 @@ KeepsOthers p old new = (i : ℕ) (d : PairState) → i < length old → (p.0 ==
 
 -- The states of all pairs after calls of a session that had this view, had made so many presents, and of which these
 -- viewports lived.
-pub record NotesPairs (view : Option PairNo) (calls : List Call) (presents : ℕ) (live : List Live)
+pub record NotesPairs (view : Option PairNo) (calls : List Call) (presents : ℕ) (live : List LiveViewport)
     (old new : List PairState) : Type 0 where
   pub count : length new ≡ length old
   pub each : (i : ℕ) (d : PairState) → i < length old

@@ -6,12 +6,12 @@ use Rattle.flat_base.specs.declared.ids.SessionNo.{SessionNo}
 use Rattle.flat_scene.specs.declared.calls.Call.{Call}
 use Rattle.flat_scene.specs.declared.calls.ViewportProps.{ViewportProps}
 use Rattle.flat_scene.specs.declared.journal.Entry.{Entry}
-use Rattle.flat_scene.specs.declared.journal.Kind.TheVariants.{Viewport}
+use Rattle.flat_scene.specs.declared.journal.EntryKind.TheVariants.{Viewport}
 use Rattle.flat_scene.specs.declared.journal.Reply.TheVariants.{Done}
 use Rattle.flat_scene.specs.declared.trees.Tree.{Tree}
 use Rattle.flat_scene.specs.declared.trees.ViewportUse.{ViewportUse}
-use Rattle.flat_links.specs.declared.following.Following.{Following}
-use Rattle.flat_facts.specs.declared.live.Live.{Live}
+use Rattle.flat_links.specs.declared.session_links.SessionLinks.{SessionLinks}
+use Rattle.flat_facts.specs.declared.live_viewport.LiveViewport.{LiveViewport}
 use Rattle.flat_links.specs.declared.pairs.PairState.{PairState}
 use Rattle.flat_facts.specs.Clears.{clears_pair}
 use Rattle.flat_links.specs.Clears.{cleared_if}
@@ -20,7 +20,7 @@ use Rattle.flat_rules.specs.Serials.{contents_made}
 use Rattle.flat_links.specs.Views.{ended_by, is_ended}
 use Rattle.std.specs.List.{list_any}
 use Rattle.flat_facts.specs.Views.{if_unended, is_loss}
-use Rattle.flat_states.specs.declared.state.Account.{Account}
+use Rattle.flat_states.specs.declared.state.SessionCounts.{SessionCounts}
 use Rattle.std.specs.Option.{option_or}
 
 -- a pair's state after a use with these properties, whose viewport has that serial
@@ -91,14 +91,15 @@ abbrev pub losing_then : List Call → ℕ → Option ℕ → Option ℕ
 losing_then calls presents losing = cond (list_any is_loss calls) (Some presents) losing
 
 -- what is kept of a session after calls before which it had made so many presents, and which leave it so many contents
-abbrev pub followed_by : List Call → ℕ → ℕ → Following → Following
-followed_by calls presents contents following =
-    record following { contents = contents; losing = losing_then calls presents following.losing }
+abbrev pub followed_by : List Call → ℕ → ℕ → SessionLinks → SessionLinks
+followed_by calls presents contents session_links =
+    record session_links { contents = contents; losing = losing_then calls presents session_links.losing }
 
 -- What is kept after calls of a session that had this account, and of which these viewports lived.
-pub record NotesCalls (s : SessionNo) (calls : List Call) (account : Account) (live : List Live) (contents : ℕ)
-    (old new : List Following) (pairs after : List PairState) : Type 0 where
-  pub was : Following
+pub record NotesCalls (s : SessionNo) (calls : List Call) (account : SessionCounts) (live : List LiveViewport)
+    (contents : ℕ)
+    (old new : List SessionLinks) (pairs after : List PairState) : Type 0 where
+  pub was : SessionLinks
   pub at : was ≡ slice_index_or old (s.0 - 1) was
   pub session : new ≡ slice_set old (s.0 - 1) (followed_by calls account.presents contents was)
   pub contents_are : (n : ℕ) → was.contents ≡ capped n → contents ≡ capped (n + length (contents_made calls))

@@ -9,7 +9,7 @@ use Rattle.flat_scene.specs.declared.journal.Event.{Event}
 use Rattle.flat_scene.specs.declared.journal.Event.TheVariants as event
 use Rattle.flat_scene.specs.declared.setup.Setup.{Setup}
 use Rattle.flat_scene.specs.History.{calls, is_closed}
-use Rattle.flat_facts.specs.declared.live.Live.{Live}
+use Rattle.flat_facts.specs.declared.live_viewport.LiveViewport.{LiveViewport}
 use Rattle.flat_links.specs.declared.tokens.OutToken.{OutToken}
 use Rattle.flat_rules.specs.Ends.{viewports_of, viewport_uses, releases_viewport}
 use Rattle.flat_rules.specs.Legal.{has_token}
@@ -31,13 +31,13 @@ abbrev pub outs_of : Setup → List Entry → SessionNo → List OutToken
 outs_of setup history s = flat_map (out_of setup history s) (viewports_of setup s)
 
 -- What is kept stands for the viewports of a session, while it is open.
-pub record AreViewports (setup : Setup) (history : List Entry) (s : SessionNo) (live : List Live)
+pub record AreViewports (setup : Setup) (history : List Entry) (s : SessionNo) (live : List LiveViewport)
     (out : List OutToken) : Type 0 where
   pub lives : is_closed s history ≡ false → live ≡ lives_after [] (calls s history)
   pub outs : is_closed s history ≡ false → out ≡ outs_of setup history s
 
 -- a token whose viewport these calls release, where its owner made so many presents before
-abbrev pub marked : List Live → List Call → ℕ → OutToken → OutToken
+abbrev pub marked : List LiveViewport → List Call → ℕ → OutToken → OutToken
 marked lives calls presents out = record out
     { released = stamp_then out.released (nat_lt 0 (count_of (releases_live out.pair) lives calls)) presents }
 

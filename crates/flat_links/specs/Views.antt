@@ -3,8 +3,8 @@ use Rattle.std.specs.Prelude.{◌≡◌, ◌<◌, ◌&&◌, nat_lt, not, false, 
 use Rattle.std.specs.Prelude.{List, Option, Some, None, is_some, option_and_then, option_map}
 use Rattle.flat_base.specs.declared.ids.PairNo.{PairNo}
 use Rattle.flat_scene.specs.declared.calls.Call.{Call}
-use Rattle.flat_scene.specs.declared.journal.Told.{Told}
-use Rattle.flat_scene.specs.declared.journal.Told.TheVariants as tell
+use Rattle.flat_scene.specs.declared.journal.WatcherValue.{WatcherValue}
+use Rattle.flat_scene.specs.declared.journal.WatcherValue.TheVariants as tell
 use Rattle.flat_scene.specs.declared.calls.ViewportProps.{ViewportProps}
 use Rattle.flat_links.specs.declared.pairs.PairState.{PairState}
 use Rattle.flat_rules.specs.Shown.{is_pair}
@@ -16,16 +16,16 @@ use Rattle.flat_facts.specs.Views.{ends_of}
 
 -- the layout, by the display's pixel ratio, whether the viewport end is lost, whether both ends are used, and the
 -- properties
-abbrev pub layout_by : ℕ → Bool → Bool → Option ViewportProps → Option Told
+abbrev pub layout_by : ℕ → Bool → Bool → Option ViewportProps → Option WatcherValue
 layout_by ratio lost joined props = cond lost (Some tell.Gone) (cond joined (option_map (layout_in ratio) props) None)
 
 -- the status, by whether the view's session is connected, and shows this view
-abbrev pub status_by : Bool → Bool → Bool → Option Told
+abbrev pub status_by : Bool → Bool → Bool → Option WatcherValue
 status_by lost joined connected = cond lost (Some tell.Gone)
     (cond joined (Some (cond connected tell.Connected tell.Disconnected)) None)
 
 -- the child, by whether the view end is lost, and whether its session shows the view
-abbrev pub child_by : Bool → Bool → Option Told
+abbrev pub child_by : Bool → Bool → Option WatcherValue
 child_by lost shown = cond lost (Some tell.Gone) (cond shown (Some tell.HasPresented) None)
 
 -- ---- which views have ended

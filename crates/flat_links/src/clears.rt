@@ -4,7 +4,7 @@ ghost use Rattle.flat_links.specs.Clears.{ClearsOne, ClearsLive};
 use crate::pairs::PairState;
 use flat_base::PairNo;
 use flat_facts::clears::{from_first, has_clear, is_cleared};
-use flat_facts::live::Live;
+use flat_facts::live_viewport::LiveViewport;
 use flat_facts::stamps::stamp_then;
 use flat_scene::Call;
 
@@ -20,7 +20,7 @@ fn clear_pair(pairs: &mut [PairState], p: PairNo, presents: u32)
 }
 
 /// Those of the live viewports that the calls clear are cleared.
-fn clear_live(pairs: &mut [PairState], live: &[Live], calls: &[Call], presents: u32)
+fn clear_live(pairs: &mut [PairState], live: &[LiveViewport], calls: &[Call], presents: u32)
     ensures { ClearsLive live.now calls.now presents pairs.old pairs.new }
 {
     for one in live {
@@ -34,7 +34,7 @@ fn clear_live(pairs: &mut [PairState], live: &[Live], calls: &[Call], presents: 
 /// lived, and it had made so many presents, before. It takes no memory. Where there
 /// is a Clear, each live viewport is looked for among the calls from the first
 /// release up to it.
-pub fn note_clears(pairs: &mut [PairState], live: &[Live], calls: &[Call], presents: u32)
+pub fn note_clears(pairs: &mut [PairState], live: &[LiveViewport], calls: &[Call], presents: u32)
     ensures { ClearsLive live.now calls.now presents pairs.old pairs.new }
 {
     if has_clear(calls) {

@@ -1,4 +1,4 @@
-//! What an entry of a session does to what is kept of its viewports, and to ties.
+//! What an entry of a session does to what is kept of its viewports, and to links.
 ghost use Rattle.std.specs.Prelude.{◌≡◌, ◌<◌, ◌≤◌, ◌==◌, not, All, false, length};
 ghost use Rattle.std.specs.Prelude.{true, vec_capacity, IfOk};
 ghost use Rattle.std.specs.List.{list_any};
@@ -8,10 +8,10 @@ ghost use Rattle.flat_facts.specs.Lives.{uses_last};
 ghost use Rattle.flat_scene.specs.History.{closes};
 ghost use Rattle.flat_states.specs.Presents.{entered_in, IsPlaced};
 ghost use Rattle.flat_links.specs.AllEnds.{IsHeard, IsUsed, EndsEntered};
-ghost use Rattle.flat_links.specs.AllEnds.{TiesNoted, TiesUsed, HasNone};
+ghost use Rattle.flat_links.specs.AllEnds.{LinksNoted, LinksUsed, HasNone};
 ghost use Rattle.flat_facts.specs.Lives.{is_new_viewport};
 
-use crate::ties::Ties;
+use crate::link_table::LinkTable;
 use crate::viewports::{Viewports, is_out};
 use flat_base::{Actor, NoMemory, PairNo, SessionNo};
 use flat_scene::{Call, Entry, ViewportProps};
@@ -39,16 +39,22 @@ pub fn new_ends(alloc: Global, n: u32) -> Result<Vec<Viewports>, NoMemory>
     Ok(ends)
 }
 
-/// Notes the calls of an entry by the ties of its session, where that is open.
-fn note_ties(state: &SessionState, ends: &Viewports, ties: &mut Ties, s: SessionNo, calls: &[Call])
+/// Notes the calls of an entry by the links of its session, where that is open.
+fn note_links(
+    state: &SessionState,
+    ends: &Viewports,
+    links: &mut LinkTable,
+    s: SessionNo,
+    calls: &[Call],
+)
     requires some { 0 < s.0 }
-    requires few { s.0 ≤ length ties.old.followings.items }
-    ensures { TiesNoted s calls.now state.now ends.now ties.old ties.new }
+    requires few { s.0 ≤ length links.old.linked_sessions.items }
+    ensures { LinksNoted s calls.now state.now ends.now links.old links.new }
 {
     if state.closed {
         return;
     }
-    ties.note(s, calls, state.account, ends.live.as_slice());
+    links.note(s, calls, state.account, ends.live.as_slice());
 }
 
 /// Notes the calls of an entry by its session's viewports, unless it closes the session.
@@ -67,18 +73,18 @@ fn note_viewports(ends: &mut Viewports, entry: &Entry, presents: u32)
 fn note_ends(
     state: &SessionState,
     ends: &mut Viewports,
-    ties: &mut Ties,
+    links: &mut LinkTable,
     s: SessionNo,
     entry: &Entry,
 )
     requires some { 0 < s.0 }
-    requires few { s.0 ≤ length ties.old.followings.items }
+    requires few { s.0 ≤ length links.old.linked_sessions.items }
     requires none { closes entry.now.reply ≡ false →
         list_any is_new_viewport entry.now.calls ≡ false }
     ensures ends { IsHeard entry.now state.now.account.presents ends.old ends.new }
-    ensures ties { TiesNoted s entry.now.calls state.now ends.old ties.old ties.new }
+    ensures links { LinksNoted s entry.now.calls state.now ends.old links.old links.new }
 {
-    note_ties(state, ends, ties, s, entry.calls.as_slice());
+    note_links(state, ends, links, s, entry.calls.as_slice());
     note_viewports(ends, entry, state.account.presents);
 }
 
@@ -87,13 +93,13 @@ fn note_ends(
 pub fn use_ends(
     state: &SessionState,
     ends: &mut Viewports,
-    ties: &mut Ties,
+    links: &mut LinkTable,
     s: SessionNo,
     calls: &[Call],
     viewport: NewViewport,
 ) -> bool
     requires some { 0 < s.0 }
-    requires few { s.0 ≤ length ties.old.followings.items }
+    requires few { s.0 ≤ length links.old.linked_sessions.items }
     requires others { list_any is_new_viewport (all_but_last calls.now) ≡ false }
     requires last { uses_last viewport.pair calls.now ≡ true }
     requires room_live { length ends.old.live.items < vec_capacity ends.old.live }
@@ -102,16 +108,16 @@ pub fn use_ends(
         ≡ not (list_any (λ one. one.pair.0 == viewport.pair.0) ends.old.out.items) }
     ensures used { IsUsed viewport.pair calls.now state.now.account.presents result ends.old
         ends.new }
-    ensures ties { TiesUsed s calls.now viewport.pair viewport.props result state.now ends.old
-        ties.old ties.new }
+    ensures links { LinksUsed s calls.now viewport.pair viewport.props result state.now ends.old
+        links.old links.new }
 {
     let account = state.account;
     let NewViewport { pair, props } = viewport;
     if is_out(ends.out.as_slice(), pair) {
-        ties.note(s, calls, account, ends.live.as_slice());
+        links.note(s, calls, account, ends.live.as_slice());
         return false;
     }
-    ties.use_viewport(s, calls, account, ends.live.as_slice(), pair, props);
+    links.use_viewport(s, calls, account, ends.live.as_slice(), pair, props);
     ends.use_end(calls, pair, account.presents);
     true
 }
@@ -121,23 +127,23 @@ pub fn use_ends(
 pub fn note_in(
     sessions: &mut Vec<SessionState>,
     ends: &mut Vec<Viewports>,
-    ties: &mut Ties,
+    links: &mut LinkTable,
     entry: &Entry,
 )
     requires placed { IsPlaced (length sessions.old.items) entry.now.actor }
     requires all { length ends.old.items ≡ length sessions.old.items }
-    requires tied { length ties.old.followings.items ≡ length sessions.old.items }
+    requires tied { length links.old.linked_sessions.items ≡ length sessions.old.items }
     requires none { closes entry.now.reply ≡ false →
         list_any is_new_viewport entry.now.calls ≡ false }
     ensures sessions { sessions.new.items ≡ entered_in entry.now sessions.old.items }
-    ensures ends { EndsEntered entry.now sessions.old.items ends.old.items ends.new.items ties.old
-        ties.new }
+    ensures ends { EndsEntered entry.now sessions.old.items ends.old.items ends.new.items links.old
+        links.new }
 {
     match entry.actor {
         Actor::Session(s) => {
             let place = s.0 as usize - 1;
             let state = &mut sessions[place];
-            note_ends(state, &mut ends[place], ties, s, entry);
+            note_ends(state, &mut ends[place], links, s, entry);
             note_entry(state, entry);
         }
         _ => {}

@@ -9,9 +9,9 @@ use crate::clears::note_clears;
 use crate::pairs::{PairState, note_views};
 use crate::usage::{see_use, settle_pairs, use_pair};
 use flat_base::{NoMemory, PairNo, Roomy, SESSIONS_MAX};
-use flat_facts::live::Live;
+use flat_facts::live_viewport::LiveViewport;
 use flat_scene::{Call, SessionSet, Setup, ViewportProps, ViewportUse};
-use flat_states::state::Account;
+use flat_states::state::SessionCounts;
 use std::alloc::Global;
 use std::marker::Model;
 
@@ -102,7 +102,7 @@ impl PairStates {
 
     /// Notes the calls of an entry, where its session had this account, and these
     /// viewports of it lived, before. It takes no memory.
-    pub fn note(&mut self, account: Account, calls: &[Call], live: &[Live])
+    pub fn note(&mut self, account: SessionCounts, calls: &[Call], live: &[LiveViewport])
         ensures { NotesPairs (if_unended account.view (is_ended self.old.items)) calls.now
             account.presents live.now self.old.items self.new.items }
     {

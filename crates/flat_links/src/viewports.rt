@@ -11,11 +11,11 @@ ghost use Rattle.flat_links.specs.Viewports.{back_events, still_out};
 
 use crate::tokens::OutToken;
 use flat_base::{ContentId, NoMemory, PairNo, SessionNo};
-use flat_facts::live::Live;
+use flat_facts::live_viewport::LiveViewport;
 use flat_facts::lives::{drop_named, pair_named};
 use flat_facts::stamps::{is_seen, stamp_then};
-use flat_scene::{Call, Event, Post};
-use flat_states::log::Log;
+use flat_scene::{Call, Event, PostedEvent};
+use flat_states::roomy_journal::RoomyJournal;
 use std::alloc::Global;
 
 impl OutToken {
@@ -72,7 +72,7 @@ fn place_of(out: &[OutToken], p: PairNo) -> usize
 
 /// Posts that tokens come back: those whose release the first so many presents
 /// have seen. Answers how many.
-fn post_back(out: &[OutToken], taken: u32, s: SessionNo, log: &mut Log) -> usize
+fn post_back(out: &[OutToken], taken: u32, s: SessionNo, log: &mut RoomyJournal) -> usize
     requires place { length log.old.history < 2 ^ 32 }
     requires room { length out.now ≤ log.old.post_room }
     ensures posts { log.new.posts ≡ log.old.posts ++ map (post_of (length log.old.history) s)
@@ -85,7 +85,7 @@ fn post_back(out: &[OutToken], taken: u32, s: SessionNo, log: &mut Log) -> usize
     let mut count = 0usize;
     for one in out {
         if one.is_back(taken) {
-            log.post(Post {
+            log.post(PostedEvent {
                 entry: log.len(),
                 session: s,
                 event: Event::TokenBack(one.pair),
@@ -100,7 +100,7 @@ fn post_back(out: &[OutToken], taken: u32, s: SessionNo, log: &mut Log) -> usize
 /// the tokens that are out, by rising pairs.
 #[derive(Drop)]
 pub struct Viewports {
-    pub live: Vec<Live>,
+    pub live: Vec<LiveViewport>,
     pub out: Vec<OutToken>,
 }
 
@@ -129,7 +129,7 @@ impl Viewports {
     }
 
     /// The same, and the room for so many posts, as for its token's return.
-    pub fn reserve_with(&mut self, log: &mut Log, posts: usize) -> Result<(), NoMemory>
+    pub fn reserve_with(&mut self, log: &mut RoomyJournal, posts: usize) -> Result<(), NoMemory>
         ensures live { self.new.live.items ≡ self.old.live.items }
         ensures out { self.new.out.items ≡ self.old.out.items }
         ensures room_live { OnOk result (length self.new.live.items < vec_capacity self.new.live) }
@@ -198,7 +198,7 @@ impl Viewports {
             self.old.out.items }
         ensures count { length self.new.out.items ≡ length self.old.out.items + 1 }
     {
-        self.live.push_reserved(Live { name, pair });
+        self.live.push_reserved(LiveViewport { name, pair });
         let place = place_of(self.out.as_slice(), pair);
         let token = OutToken {
             pair,
@@ -228,7 +228,7 @@ impl Viewports {
 
     /// At the end of a frame, of which the first so many presents were taken, the
     /// tokens come back whose release it has seen. Answers how many.
-    pub fn take_back(&mut self, taken: u32, s: SessionNo, log: &mut Log) -> usize
+    pub fn take_back(&mut self, taken: u32, s: SessionNo, log: &mut RoomyJournal) -> usize
         requires place { length log.old.history < 2 ^ 32 }
         requires room { length self.old.out.items ≤ log.old.post_room }
         ensures live { self.new.live.items ≡ self.old.live.items }

@@ -5,7 +5,7 @@ use Rattle.flat_lock.specs.Seats.{LockView, SeatView, new_seat, seat_at, all_hom
 use Rattle.flat_lock.specs.Steps.{first_view, waiting, note, told}
 use Rattle.flat_lock.specs.declared.view.View.{View}
 use Rattle.flat_lock.specs.Rule.{tickets_in, seats_in, total}
-use Rattle.flat_lock.specs.declared.view_parts.Turn.TheVariants.{Idle, Waits, Note}
+use Rattle.flat_lock.specs.declared.view_parts.SeatAction.TheVariants.{Idle, Waits, Note}
 
 abbrev Entry : Type 0
 Entry = ℕ × ℕ

@@ -3,13 +3,13 @@ use Rattle.std.proofs.Common.{◌≡◌, ℕ, List, [], refl, ap, ◌∙◌, Opt
 use Rattle.atomic_table.specs.Table.{Me}
 use Rattle.atomic_table.specs.Seated.{TableId}
 use Rattle.flat_lock.specs.declared.view.View.{View}
-use Rattle.flat_lock.specs.declared.view_parts.Turn.{Turn}
-use Rattle.flat_lock.specs.declared.view_parts.Turn.TheVariants.{Idle, Waits, Holds, Note}
+use Rattle.flat_lock.specs.declared.view_parts.SeatAction.{SeatAction}
+use Rattle.flat_lock.specs.declared.view_parts.SeatAction.TheVariants.{Idle, Waits, Holds, Note}
 use Rattle.flat_lock.specs.Seats.{LockView, SeatView, BelongsAt, new_seat}
 use Rattle.flat_lock.specs.Steps.{IsResting, dealing_view, split_off}
 use Rattle.flat_lock.specs.Places.{has_turn, IsPoised, IsSeat, lock_seen, seat_view}
 
-resting_at : {T : Type 0} (t : Turn) (slots : List (ℕ × Option T)) → IsPoised t slots → has_turn t ≡ false → (t ≡ Idle) × (slots ≡ [])
+resting_at : {T : Type 0} (t : SeatAction) (slots : List (ℕ × Option T)) → IsPoised t slots → has_turn t ≡ false → (t ≡ Idle) × (slots ≡ [])
 resting_at Idle slots poised none = (refl, poised)
 resting_at (Waits n) slots poised none = absurd poised
 resting_at (Holds n) slots poised none = absurd (let f : true ≡ false = none in cc)

@@ -12,7 +12,7 @@ use Rattle.atomic_table.specs.Table.{State, Me, Act, step, keeps, takes, gives, 
 use Rattle.atomic_table.proofs.Lists.{set_else, set_again, exchanged}
 use prog.Atomic.{either}
 use Rattle.flat_lock.specs.declared.view.View.{View}
-use Rattle.flat_lock.specs.declared.view_parts.Turn.TheVariants.{Idle, Waits, Holds}
+use Rattle.flat_lock.specs.declared.view_parts.SeatAction.TheVariants.{Idle, Waits, Holds}
 use Rattle.flat_lock.specs.History.{StartsWith, entries_of, GoesOn}
 use Rattle.flat_lock.specs.Rule.{tickets_in, seats_in, total, HasTicket, HasSeenAll, IsLive, IsSound, IsHomeOrHeld, LockRule}
 use Rattle.flat_lock.specs.Steps.{Learns, HasEntered, HasTurn, HasLeft, waiting, entering, giving, DrawsTicket, ReadsServing, ServesNext}

@@ -9,9 +9,9 @@ use lib.ListN.{get_elem?}
 use Rattle.atomic_table.specs.Table.{State, Splits, Joins, Final, Seen, opening}
 use Rattle.atomic_table.proofs.Lists.{set_else, at_longer}
 use Rattle.flat_lock.specs.declared.view.View.{View}
-use Rattle.flat_lock.specs.declared.view_parts.Ended.{Ended}
-use Rattle.flat_lock.specs.declared.view_parts.Turn.{Turn}
-use Rattle.flat_lock.specs.declared.view_parts.Turn.TheVariants.{Idle, Holds}
+use Rattle.flat_lock.specs.declared.view_parts.JoinedSeat.{JoinedSeat}
+use Rattle.flat_lock.specs.declared.view_parts.SeatAction.{SeatAction}
+use Rattle.flat_lock.specs.declared.view_parts.SeatAction.TheVariants.{Idle, Holds}
 use Rattle.flat_lock.specs.History.{StartsWith, entries_of}
 use Rattle.flat_lock.specs.Rule.{tickets_in, seats_in, total, IsLive, OwnsActor, IsSound, IsHomeOrHeld, LockRule}
 use Rattle.flat_lock.specs.Steps.{Learns, first_view, splitting, split_off, ended_view, joining, spent}
@@ -26,7 +26,7 @@ at_end (x ∷ xs) a b zero e = inl e
 at_end (x ∷ xs) a b (suc j) e = ⊎_elim (λ h. inl h) (λ h. inr (h.0, ap suc h.1)) (at_end xs a b j e)
 
 -- a resting seat hasn't the turn
-pub not_holding : (n : ℕ) (t : Turn) → t ≡ Idle → t ≢ Holds n
+pub not_holding : (n : ℕ) (t : SeatAction) → t ≡ Idle → t ≢ Holds n
 not_holding n t idle h = let e : Idle ≡ Holds n = sym idle ∙ h in cc
 
 module _ {T E F : Type 0} (history : T → List E) (actor : E → ℕ) (fixed : T → F) where
@@ -200,7 +200,7 @@ module _ {T E F : Type 0} (history : T → List E) (actor : E → ℕ) (fixed : 
               lock = was.lock;
               first = was.first;
               ended = elim [
-                | zero ↦ λ d g. subst (λ (z : Ended E). OwnsActor actor r.log h owner' id z.actor z.mine × (z.actor ≢ v.actor) × StartsWith r.log z.seen)
+                | zero ↦ λ d g. subst (λ (z : JoinedSeat E). OwnsActor actor r.log h owner' id z.actor z.mine × (z.actor ≢ v.actor) × StartsWith r.log z.seen)
                     (some-injective (ended_view w) d g) (
                       record { made = leaver.made; known = leaver.known; owned = updated-same r.owner w.actor id },
                       λ h. apart (sym leaver.owned ∙ (ap r.owner h ∙ keeper.owned)),
@@ -224,12 +224,12 @@ module _ {T E F : Type 0} (history : T → List E) (actor : E → ℕ) (fixed : 
 
   -- each actor but that of v has ended
   abbrev pub IsLast : V → Type 0
-  IsLast v = (a : ℕ) → a < v.seats → (a ≡ v.actor) ⊎ ((k : ℕ) × (d : Ended E) × (get_elem? v.ended k ≡ some d) × (d.actor ≡ a))
+  IsLast v = (a : ℕ) → a < v.seats → (a ≡ v.actor) ⊎ ((k : ℕ) × (d : JoinedSeat E) × (get_elem? v.ended k ≡ some d) × (d.actor ≡ a))
 
   -- The value that the last seat finds at home.
   pub closes : (id : ℕ) (v : V) (ws : List ℕ) (xs : List (Option T)) → v.turn ≡ Idle → IsLast v → Final (Seen Rule id v) ws xs
       → (x : T) × (get_elem? xs 0 ≡ some (Some x)) × Learns actor v (history x) (fixed x)
-      × ((k : ℕ) (d : Ended E) → get_elem? v.ended k ≡ some d → StartsWith (history x) d.seen × (d.mine ≡ entries_of actor d.actor (history x)))
+      × ((k : ℕ) (d : JoinedSeat E) → get_elem? v.ended k ≡ some d → StartsWith (history x) d.seen × (d.mine ≡ entries_of actor d.actor (history x)))
   closes id v ws xs idle last final =
       let s : St = final.0 in let r : Rule s = final.1.0 in let at : get_elem? s.views id ≡ some v = final.1.1 in
       let was = r.each_seat id v at in

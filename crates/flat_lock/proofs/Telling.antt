@@ -7,7 +7,7 @@ use lib.Seq.{set-get_or}
 use Rattle.atomic_table.specs.Table.{State, Me, Allows, Splits, Joins, step, keeps}
 use Rattle.atomic_table.proofs.Lists.{set_else, set_again, at_longer}
 use Rattle.flat_lock.specs.declared.view.View.{View}
-use Rattle.flat_lock.specs.declared.view_parts.Turn.TheVariants.{Idle, Holds, Note}
+use Rattle.flat_lock.specs.declared.view_parts.SeatAction.TheVariants.{Idle, Holds, Note}
 use Rattle.flat_lock.specs.History.{StartsWith}
 use Rattle.flat_lock.specs.Rule.{tickets_in, seats_in, total, HasSeenAll, IsLive, IsSound, IsHomeOrHeld, LockRule}
 use Rattle.flat_lock.specs.Steps.{Learns, Hears, note, note_of, noting, told, spent, seeing}

@@ -5,8 +5,8 @@ use mathlib.Core.Option.{some, some-ne-none, some-injective}
 use lib.ListN.{get_elem?}
 use Rattle.atomic_table.proofs.Lists.{at_set, one_turn}
 use Rattle.flat_lock.specs.declared.view.View.{View}
-use Rattle.flat_lock.specs.declared.view_parts.Turn.{Turn}
-use Rattle.flat_lock.specs.declared.view_parts.Turn.TheVariants.{Idle, Waits, Holds, Note}
+use Rattle.flat_lock.specs.declared.view_parts.SeatAction.{SeatAction}
+use Rattle.flat_lock.specs.declared.view_parts.SeatAction.TheVariants.{Idle, Waits, Holds, Note}
 use Rattle.flat_lock.specs.Rule.{tickets_in, seats_in, total, HasTicket, HasSeenAll}
 
 -- f, which is x at k
@@ -20,7 +20,7 @@ pub updated-other : (f : ℕ → ℕ) (k x n : ℕ) → n ≢ k → updated f k 
 updated-other f k x n h = ap (λ b. cond b x (f n)) (ne_eqb n k h)
 
 -- a ticket that another draws changes nothing for a seat
-pub others_wait : (drawn served id j : ℕ) (ticket : ℕ → ℕ) (t : Turn) → HasTicket drawn served ticket j t
+pub others_wait : (drawn served id j : ℕ) (ticket : ℕ → ℕ) (t : SeatAction) → HasTicket drawn served ticket j t
     → HasTicket (drawn + 1) served (updated ticket drawn id) j t
 others_wait drawn served id j ticket Idle h = tt
 others_wait drawn served id j ticket (Waits n) h = let l : n < drawn = h.1 in (h.0, omega arith, updated-other ticket drawn id n (λ e. omega arith) ∙ h.2)
@@ -28,7 +28,7 @@ others_wait drawn served id j ticket (Holds n) h = let l : n < drawn = h.1 in (h
 others_wait drawn served id j ticket Note h = tt
 
 -- nor does the end of another's turn
-pub others_served : {E : Type 0} (drawn served id j : ℕ) (ticket : ℕ → ℕ) (log log' seen : List E) (t : Turn) → j ≢ id → ticket served ≡ id
+pub others_served : {E : Type 0} (drawn served id j : ℕ) (ticket : ℕ → ℕ) (log log' seen : List E) (t : SeatAction) → j ≢ id → ticket served ≡ id
     → HasTicket drawn served ticket j t
     → HasTicket drawn (served + 1) ticket j t × HasSeenAll log' seen t
 others_served drawn served id j ticket log log' seen Idle other at h = (tt, tt)
@@ -38,7 +38,7 @@ others_served drawn served id j ticket log log' seen (Holds n) other at h = absu
 others_served drawn served id j ticket log log' seen Note other at h = (tt, tt)
 
 -- what has a ticket is a seat
-with_ticket : (t : Turn) → tickets_in t ≤ seats_in t
+with_ticket : (t : SeatAction) → tickets_in t ≤ seats_in t
 with_ticket Idle = omega arith
 with_ticket (Waits n) = omega arith
 with_ticket (Holds n) = omega arith
@@ -46,7 +46,7 @@ with_ticket Note = omega arith
 
 module _ {E F : Type 0} where
   -- one view is counted anew
-  pub total-set : (count : Turn → ℕ) (vs : List (View E F)) (i : ℕ) (v w : View E F) → get_elem? vs i ≡ some v
+  pub total-set : (count : SeatAction → ℕ) (vs : List (View E F)) (i : ℕ) (v w : View E F) → get_elem? vs i ≡ some v
       → total count (set vs i w) + count v.turn ≡ total count vs + count w.turn
   total-set count [] i v w e = absurd (some-ne-none v (sym e))
   total-set count (x ∷ xs) zero v w e = let a : ℕ = count x.turn in let b : ℕ = count v.turn in let c : ℕ = count w.turn in let d : ℕ = total count xs in
@@ -57,14 +57,14 @@ module _ {E F : Type 0} where
       let h : f + b ≡ d + c = total-set count xs i v w e in let goal : (a + f) + b ≡ (a + d) + c = omega arith in goal
 
   -- nothing changes where its turn stays
-  pub total-same : (count : Turn → ℕ) (vs : List (View E F)) (i : ℕ) (v w : View E F) → get_elem? vs i ≡ some v → count w.turn ≡ count v.turn
+  pub total-same : (count : SeatAction → ℕ) (vs : List (View E F)) (i : ℕ) (v w : View E F) → get_elem? vs i ≡ some v → count w.turn ≡ count v.turn
       → total count (set vs i w) ≡ total count vs
   total-same count vs i v w e same = let a : ℕ = count v.turn in let b : ℕ = count w.turn in let c : ℕ = total count vs in let d : ℕ =
       total count (set vs i w) in
       let h : d + a ≡ c + b = total-set count vs i v w e in let s : b ≡ a = same in let goal : d ≡ c = omega arith in goal
 
   -- one more view is counted
-  pub total-snoc : (count : Turn → ℕ) (vs : List (View E F)) (w : View E F) → total count (vs ++ w ∷ []) ≡ total count vs + count w.turn
+  pub total-snoc : (count : SeatAction → ℕ) (vs : List (View E F)) (w : View E F) → total count (vs ++ w ∷ []) ≡ total count vs + count w.turn
   total-snoc count [] w = let a : ℕ = count w.turn in let goal : a + 0 ≡ 0 + a = omega arith in goal
   total-snoc count (x ∷ xs) w = let a : ℕ = count x.turn in let b : ℕ = total count xs in let c : ℕ = count w.turn in let d : ℕ = total count (xs ++ w ∷ []) in
       let h : d ≡ b + c = total-snoc count xs w in let goal : a + d ≡ (a + b) + c = omega arith in goal

@@ -4,17 +4,17 @@ use Rattle.atomic_table.specs.Table.{Me}
 use Rattle.atomic_table.specs.Seated.{TableId}
 use Rattle.flat_lock.specs.Seats.{LockView, SeatView}
 use Rattle.flat_lock.specs.declared.view.View.{View}
-use Rattle.flat_lock.specs.declared.view_parts.Ended.{Ended}
-use Rattle.flat_lock.specs.declared.view_parts.Turn.{Turn}
-use Rattle.flat_lock.specs.declared.view_parts.Turn.TheVariants.{Idle, Waits, Holds, Note}
+use Rattle.flat_lock.specs.declared.view_parts.JoinedSeat.{JoinedSeat}
+use Rattle.flat_lock.specs.declared.view_parts.SeatAction.{SeatAction}
+use Rattle.flat_lock.specs.declared.view_parts.SeatAction.TheVariants.{Idle, Waits, Holds, Note}
 
 -- whether the seat has the turn
-abbrev pub has_turn : Turn → Bool
+abbrev pub has_turn : SeatAction → Bool
 has_turn (Holds n) = true
 has_turn _ = false
 
 -- between two calls no seat waits, and the seat that has the turn has the empty slot
-abbrev pub IsPoised : {T : Type 0} → Turn → List (ℕ × Option T) → Type 0
+abbrev pub IsPoised : {T : Type 0} → SeatAction → List (ℕ × Option T) → Type 0
 IsPoised Idle slots = slots ≡ []
 IsPoised (Waits n) slots = ⊥
 IsPoised (Holds n) slots = slots ≡ (0, None) ∷ []
@@ -36,7 +36,7 @@ module _ {E F : Type 0} where
   }
 
   -- what a seat leaves when it is joined into the first one
-  abbrev pub left_by : Option (SeatView E F) → Ended E
+  abbrev pub left_by : Option (SeatView E F) → JoinedSeat E
   left_by None = record { marker = record {}; actor = 0; seen = []; mine = [] }
   left_by (Some s) = record { marker = record {}; actor = s.actor; seen = s.seen; mine = s.mine }
 

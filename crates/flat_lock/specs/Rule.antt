@@ -7,43 +7,43 @@ use lib.ListN.{get_elem?}
 use Rattle.atomic_table.specs.Table.{State}
 use Rattle.flat_lock.specs.History.{StartsWith, entries_of}
 use Rattle.flat_lock.specs.declared.view.View.{View}
-use Rattle.flat_lock.specs.declared.view_parts.Ended.{Ended}
-use Rattle.flat_lock.specs.declared.view_parts.Turn.{Turn}
-use Rattle.flat_lock.specs.declared.view_parts.Turn.TheVariants.{Idle, Waits, Holds, Note}
+use Rattle.flat_lock.specs.declared.view_parts.JoinedSeat.{JoinedSeat}
+use Rattle.flat_lock.specs.declared.view_parts.SeatAction.{SeatAction}
+use Rattle.flat_lock.specs.declared.view_parts.SeatAction.TheVariants.{Idle, Waits, Holds, Note}
 
 -- how many tickets a seat has
-abbrev pub tickets_in : Turn → ℕ
+abbrev pub tickets_in : SeatAction → ℕ
 tickets_in Idle = 0
 tickets_in (Waits n) = 1
 tickets_in (Holds n) = 1
 tickets_in Note = 0
 
 -- whether it is an actor's seat, as a number
-abbrev pub seats_in : Turn → ℕ
+abbrev pub seats_in : SeatAction → ℕ
 seats_in Idle = 1
 seats_in (Waits n) = 1
 seats_in (Holds n) = 1
 seats_in Note = 0
 
 -- how many there are of these in all views
-abbrev pub total : {E F : Type 0} → (Turn → ℕ) → List (View E F) → ℕ
+abbrev pub total : {E F : Type 0} → (SeatAction → ℕ) → List (View E F) → ℕ
 total count [] = 0
 total count (v ∷ vs) = count v.turn + total count vs
 
 -- a seat's ticket was drawn, by that seat, and is served or waits to be
-abbrev pub HasTicket : ℕ → ℕ → (ℕ → ℕ) → ℕ → Turn → Type 0
+abbrev pub HasTicket : ℕ → ℕ → (ℕ → ℕ) → ℕ → SeatAction → Type 0
 HasTicket drawn served drawn_by seat Idle = Unit {0}
 HasTicket drawn served drawn_by seat (Waits n) = (served ≤ n) × (n < drawn) × (drawn_by n ≡ seat)
 HasTicket drawn served drawn_by seat (Holds n) = (n ≡ served) × (n < drawn) × (drawn_by n ≡ seat)
 HasTicket drawn served drawn_by seat Note = Unit {0}
 
 -- the seat that has the turn has seen the whole history
-abbrev pub HasSeenAll : {E : Type 0} → List E → List E → Turn → Type 0
+abbrev pub HasSeenAll : {E : Type 0} → List E → List E → SeatAction → Type 0
 HasSeenAll log seen (Holds n) = seen ≡ log
 HasSeenAll log seen _ = Unit {0}
 
 -- it is an actor's seat, and no note
-abbrev pub IsLive : Turn → Type 0
+abbrev pub IsLive : SeatAction → Type 0
 IsLive Note = ⊥
 IsLive _ = Unit {0}
 
@@ -65,7 +65,7 @@ pub record IsSound {E F : Type 0} (actor : E → ℕ) (constant : F) (seats : �
   pub own : IsLive v.turn → OwnsActor actor log handed_out owner seat v.actor v.mine
   pub lock : IsLive v.turn → (v.fixed ≡ Some constant) × (v.seats ≡ seats)
   pub first : v.first ≡ true → (seat ≡ 0) × (v.handed_out ≡ handed_out)
-  pub ended : (k : ℕ) (d : Ended E) → get_elem? v.ended k ≡ some d
+  pub ended : (k : ℕ) (d : JoinedSeat E) → get_elem? v.ended k ≡ some d
       → OwnsActor actor log handed_out owner seat d.actor d.mine × (d.actor ≢ v.actor) × StartsWith log d.seen
 
 module _ {T E F : Type 0} (history : T → List E) (actor : E → ℕ) (fixed : T → F) where

@@ -6,8 +6,8 @@ use Rattle.atomic_table.specs.Seated.{TableId}
 use Rattle.atomic_table.specs.declared.shared.Seat.{Seat}
 use Rattle.flat_lock.specs.History.{StartsWith, entries_of}
 use Rattle.flat_lock.specs.declared.view.View.{View}
-use Rattle.flat_lock.specs.declared.view_parts.Ended.{Ended}
-use Rattle.flat_lock.specs.declared.view_parts.Turn.TheVariants.{Idle, Waits, Holds, Note}
+use Rattle.flat_lock.specs.declared.view_parts.JoinedSeat.{JoinedSeat}
+use Rattle.flat_lock.specs.declared.view_parts.SeatAction.TheVariants.{Idle, Waits, Holds, Note}
 
 -- the table has two words and one slot
 abbrev pub IsShaped : TableId → Type 0
@@ -72,7 +72,7 @@ module _ {E F : Type 0} where
   }
 
   -- what is left of a seat that is joined
-  abbrev pub ended_view : View E F → Ended E
+  abbrev pub ended_view : View E F → JoinedSeat E
   ended_view w = record { marker = record {}; actor = w.actor; seen = w.seen; mine = w.mine }
 
   -- it keeps what the joined seat knew

@@ -4,16 +4,16 @@ ghost use Rattle.flat_lock.specs.Seats.{AreNew, all_home};
 ghost use Rattle.flat_lock.specs.Places.{left_by};
 ghost use Rattle.flat_lock.specs.Steps.{first_view, IsResting, IsSameSeat};
 
+use crate::has_history::HasHistory;
 use crate::lock::TicketLock;
 use crate::rule::{SeatJoined, SeatSplit, TableSeat};
 use crate::seat::LockSeat;
 use crate::seats::LockSeats;
-use crate::storied::Storied;
 use flat_base::NoMemory;
 use std::alloc::Global;
 
 /// The seats of a new lock. The first one hands out the others.
-pub(crate) fn deal<T: Storied>(
+pub(crate) fn deal<T: HasHistory>(
     lock: &TicketLock<T>,
     alloc: Global,
     mut first: TableSeat<T>,
@@ -40,7 +40,7 @@ pub(crate) fn deal<T: Storied>(
 }
 
 /// Joins each seat but the first, which is away, into the keeper: the last one first.
-pub(crate) fn gather<T: Storied>(
+pub(crate) fn gather<T: HasHistory>(
     lock: &TicketLock<T>,
     keeper: &mut TableSeat<T>,
     others: LockSeats<T>,

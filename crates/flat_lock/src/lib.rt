@@ -8,16 +8,16 @@
 #![tactic(auto)]
 
 mod deal;
+mod has_history;
 mod lock;
 mod rule;
 mod seat;
 mod seats;
 mod steps;
-mod storied;
 mod view;
 mod view_parts;
 
+pub use has_history::HasHistory;
 pub use lock::TicketLock;
 pub use seat::LockSeat;
 pub use seats::LockSeats;
-pub use storied::Storied;

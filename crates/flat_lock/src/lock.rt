@@ -4,11 +4,11 @@ ghost use Rattle.flat_lock.specs.History.{StartsWith, GoesOn, entries_of};
 ghost use Rattle.flat_lock.specs.Seats.{SeatView, AreNew, all_home};
 
 use crate::deal::{deal, gather};
+use crate::has_history::HasHistory;
 use crate::rule::SharedTable;
 use crate::seat::LockSeat;
 use crate::seats::LockSeats;
 use crate::steps;
-use crate::storied::Storied;
 use atomic_table::Table;
 use flat_base::NoMemory;
 use std::alloc::Global;
@@ -21,11 +21,11 @@ use std::sync::Wait;
 ///
 /// Each call that takes seats needs that they are of this lock.
 #[derive(Drop)]
-pub struct TicketLock<T: Storied> {
+pub struct TicketLock<T: HasHistory> {
     pub(crate) table: SharedTable<T>,
 }
 
-impl<T: Storied> Model for TicketLock<T> {
+impl<T: HasHistory> Model for TicketLock<T> {
     ghost use Rattle.flat_lock.specs.Seats.{LockView, lock_view};
     ghost use Rattle.flat_lock.specs.Steps.{IsShaped};
 
@@ -37,7 +37,7 @@ impl<T: Storied> Model for TicketLock<T> {
     ghost invariant = { λ l. IsShaped l.table.shared.table_id };
 }
 
-impl<T: Storied> TicketLock<T> {
+impl<T: HasHistory> TicketLock<T> {
     /// A lock over a value that stands for no entry, with all its seats at home.
     /// At [`NoMemory`] the value is dropped.
     pub fn new(

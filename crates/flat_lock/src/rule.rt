@@ -3,7 +3,7 @@
 //! Word 0 is the next ticket to be drawn, and word 1 the ticket that is served.
 //! The slot has the value. It is out with the seat that has the turn, from the
 //! load that finds its ticket served until the add that serves the next one.
-use crate::storied::Storied;
+use crate::has_history::HasHistory;
 use crate::view::View;
 use atomic_table::{Join, Play, Seat, Split, Table, TableRule};
 use std::alloc::Global;
@@ -15,7 +15,7 @@ pub struct OneHistory<T> {
     value: PhantomData<T>,
 }
 
-impl<T: Storied> TableRule<Option<T>, View<T::Entry, T::Fixed>, (Snapshot<T>, u32)>
+impl<T: HasHistory> TableRule<Option<T>, View<T::Entry, T::Fixed>, (Snapshot<T>, u32)>
     for OneHistory<T> {
     ghost use Rattle.std.specs.Prelude.{Some};
     ghost use Rattle.flat_lock.specs.Rule.{LockRule};
@@ -42,7 +42,7 @@ pub(crate) struct ServingRead<T> {
     value: PhantomData<T>,
 }
 
-impl<T: Storied> Play<Option<T>, View<T::Entry, T::Fixed>> for ServingRead<T> {
+impl<T: HasHistory> Play<Option<T>, View<T::Entry, T::Fixed>> for ServingRead<T> {
     ghost use Rattle.flat_lock.specs.Steps.{ReadsServing};
 
     ghost then = { ReadsServing T.history T.actor T.fixed };
@@ -53,7 +53,7 @@ pub(crate) struct NextServed<T> {
     value: PhantomData<T>,
 }
 
-impl<T: Storied> Play<Option<T>, View<T::Entry, T::Fixed>> for NextServed<T> {
+impl<T: HasHistory> Play<Option<T>, View<T::Entry, T::Fixed>> for NextServed<T> {
     ghost use Rattle.flat_lock.specs.Steps.{ServesNext};
 
     ghost then = { ServesNext T.history T.actor };
@@ -110,7 +110,7 @@ pub(crate) struct HistorySeen<T> {
     value: PhantomData<T>,
 }
 
-impl<T: Storied> Play<Option<T>, View<T::Entry, T::Fixed>> for HistorySeen<T> {
+impl<T: HasHistory> Play<Option<T>, View<T::Entry, T::Fixed>> for HistorySeen<T> {
     ghost use Rattle.flat_lock.specs.Steps.{Hears};
 
     ghost then = { Hears T.actor };
@@ -119,11 +119,14 @@ impl<T: Storied> Play<Option<T>, View<T::Entry, T::Fixed>> for HistorySeen<T> {
 /// The table of a lock over a `T`.
 pub(crate) type SharedTable<T> = Table<
     Option<T>,
-    View<<T as Storied>::Entry, <T as Storied>::Fixed>,
+    View<<T as HasHistory>::Entry, <T as HasHistory>::Fixed>,
     (Snapshot<T>, u32),
     OneHistory<T>,
     Global,
 >;
 
 /// A seat at that table.
-pub(crate) type TableSeat<T> = Seat<Option<T>, View<<T as Storied>::Entry, <T as Storied>::Fixed>>;
+pub(crate) type TableSeat<T> = Seat<
+    Option<T>,
+    View<<T as HasHistory>::Entry, <T as HasHistory>::Fixed>,
+>;

@@ -1,7 +1,7 @@
 ghost use Rattle.std.specs.Prelude.{◌≡◌, ◌<◌};
 
+use crate::has_history::HasHistory;
 use crate::rule::TableSeat;
-use crate::storied::Storied;
 use std::marker::Model;
 
 /// What one actor knows of a lock. Contracts see of which lock it is, the
@@ -11,12 +11,12 @@ use std::marker::Model;
 /// A seat crosses threads where the lock's value may. One that is dropped never
 /// comes home, and while it has the turn, no other seat ever gets one.
 #[derive(Drop)]
-pub struct LockSeat<T: Storied> {
+pub struct LockSeat<T: HasHistory> {
     pub(crate) place: u32,
     pub(crate) seat: TableSeat<T>,
 }
 
-impl<T: Storied> Model for LockSeat<T> {
+impl<T: HasHistory> Model for LockSeat<T> {
     ghost use Rattle.flat_lock.specs.Seats.{SeatView};
     ghost use Rattle.flat_lock.specs.Places.{IsSeat, seat_view};
 
@@ -27,7 +27,7 @@ impl<T: Storied> Model for LockSeat<T> {
     ghost invariant = { λ s. IsSeat s.place s.seat.me };
 }
 
-impl<T: Storied> LockSeat<T> {
+impl<T: HasHistory> LockSeat<T> {
     /// The number of the seat's actor, which is the seat's place.
     pub fn actor(&self) -> u32
         ensures number { result ≡ self.now.actor }

@@ -2,9 +2,9 @@ ghost use Rattle.std.specs.Prelude.{◌≡◌, true, false, Some, None, IsTrue, 
 ghost use Rattle.std.specs.Prelude.{slice_get, slice_set};
 ghost use Rattle.flat_lock.specs.Seats.{all_home, seat_at, AreInOrder, BelongsAt};
 
+use crate::has_history::HasHistory;
 use crate::lock::TicketLock;
 use crate::seat::LockSeat;
-use crate::storied::Storied;
 use std::marker::Model;
 use std::snapshot::Snapshot;
 
@@ -12,12 +12,12 @@ use std::snapshot::Snapshot;
 /// there, and None where it is away. Places count from 0, and a seat's place is
 /// the number of its actor.
 #[derive(Drop)]
-pub struct LockSeats<T: Storied> {
+pub struct LockSeats<T: HasHistory> {
     pub(crate) seats: Vec<Option<LockSeat<T>>>,
     pub(crate) of: Snapshot<TicketLock<T>>,
 }
 
-impl<T: Storied> Model for LockSeats<T> {
+impl<T: HasHistory> Model for LockSeats<T> {
     ghost use Rattle.flat_lock.specs.Seats.{SeatsView, AreInOrder};
 
     ghost Value = { SeatsView T.Entry T.Fixed };
@@ -27,7 +27,7 @@ impl<T: Storied> Model for LockSeats<T> {
     ghost invariant = { λ s. AreInOrder s.of.value s.seats.items };
 }
 
-impl<T: Storied> LockSeats<T> {
+impl<T: HasHistory> LockSeats<T> {
     /// Hands out the seat at a place. It is None exactly where that seat is away
     /// or there is no such place, and then nothing changes.
     pub fn take(&mut self, i: u32) -> Option<LockSeat<T>>

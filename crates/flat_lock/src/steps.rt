@@ -4,10 +4,10 @@ ghost use Rattle.flat_lock.specs.History.{GoesOn};
 ghost use Rattle.flat_lock.specs.Steps.{IsShaped, IsSameSeat, IsResting, IsWaiting, HasTurn};
 ghost use Rattle.flat_lock.specs.Steps.{HasDrawn, HasEntered, HasTaken, HasLeft, HasBeenTold};
 
+use crate::has_history::HasHistory;
 use crate::rule::{
     HistorySeen, NextServed, NoteMade, NoteTold, ServingRead, SharedTable, TableSeat, TicketDrawn,
 };
-use crate::storied::Storied;
 use crossbeam_utils::Backoff;
 use std::sync::Wait;
 use std::thread;
@@ -23,7 +23,7 @@ const VALUE: usize = 0;
 const NAP: u64 = 50;
 
 // Draws the ticket of that number, if it is the next one. Else nothing changes.
-fn draw_ticket<T: Storied>(table: &SharedTable<T>, seat: &mut TableSeat<T>, ticket: u64) -> bool
+fn draw_ticket<T: HasHistory>(table: &SharedTable<T>, seat: &mut TableSeat<T>, ticket: u64) -> bool
     requires shaped { IsShaped table.now.shared.table_id }
     requires own { seat.old.table_id ≡ table.now.shared.table_id }
     requires resting { IsResting seat.old.me }
@@ -42,7 +42,11 @@ fn draw_ticket<T: Storied>(table: &SharedTable<T>, seat: &mut TableSeat<T>, tick
 // waits for it with a ticket. A seat that comes at another time spins, lets other
 // threads run, and then sleeps in between. It looks before it exchanges, since a
 // failed exchange too takes the words from the seat that has the turn.
-fn draw_served<T: Storied>(table: &SharedTable<T>, rt: &impl Wait, seat: &mut TableSeat<T>) -> u64
+fn draw_served<T: HasHistory>(
+    table: &SharedTable<T>,
+    rt: &impl Wait,
+    seat: &mut TableSeat<T>,
+) -> u64
     requires shaped { IsShaped table.now.shared.table_id }
     requires own { seat.old.table_id ≡ table.now.shared.table_id }
     requires resting { IsResting seat.old.me }
@@ -68,7 +72,7 @@ fn draw_served<T: Storied>(table: &SharedTable<T>, rt: &impl Wait, seat: &mut Ta
 }
 
 // Reads the ticket that is served. Where it is the seat's, the seat has the value.
-fn read_serving<T: Storied>(table: &SharedTable<T>, seat: &mut TableSeat<T>, ticket: u64) -> u64
+fn read_serving<T: HasHistory>(table: &SharedTable<T>, seat: &mut TableSeat<T>, ticket: u64) -> u64
     requires shaped { IsShaped table.now.shared.table_id }
     requires own { seat.old.table_id ≡ table.now.shared.table_id }
     requires waiting { IsWaiting ticket seat.old.me }
@@ -81,7 +85,7 @@ fn read_serving<T: Storied>(table: &SharedTable<T>, seat: &mut TableSeat<T>, tic
 }
 
 // Waits until the seat's ticket is served.
-fn wait_for_ticket<T: Storied>(
+fn wait_for_ticket<T: HasHistory>(
     table: &SharedTable<T>,
     rt: &impl Wait,
     seat: &mut TableSeat<T>,
@@ -103,7 +107,7 @@ fn wait_for_ticket<T: Storied>(
 }
 
 /// Draws the ticket that is served, and takes the value out.
-pub(crate) fn enter<T: Storied>(
+pub(crate) fn enter<T: HasHistory>(
     table: &SharedTable<T>,
     rt: &impl Wait,
     seat: &mut TableSeat<T>,
@@ -124,7 +128,7 @@ pub(crate) fn enter<T: Storied>(
 }
 
 /// Puts the value back, and serves the next ticket.
-pub(crate) fn leave<T: Storied>(table: &SharedTable<T>, seat: &mut TableSeat<T>, value: T)
+pub(crate) fn leave<T: HasHistory>(table: &SharedTable<T>, seat: &mut TableSeat<T>, value: T)
     requires shaped { IsShaped table.now.shared.table_id }
     requires own { seat.old.table_id ≡ table.now.shared.table_id }
     requires turn { HasTurn seat.old.me }
@@ -139,7 +143,7 @@ pub(crate) fn leave<T: Storied>(table: &SharedTable<T>, seat: &mut TableSeat<T>,
 }
 
 /// Tells a resting seat what another has seen, by a note of it.
-pub(crate) fn tell<T: Storied>(
+pub(crate) fn tell<T: HasHistory>(
     table: &SharedTable<T>,
     from: &mut TableSeat<T>,
     to: &mut TableSeat<T>,

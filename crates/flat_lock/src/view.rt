@@ -1,7 +1,7 @@
 //! What a seat at the table knows.
 ghost use Rattle.std.specs.Prelude.{ℕ, List, Bool, Option};
-ghost use Rattle.flat_lock.specs.declared.view_parts.Turn.{Turn};
-ghost use Rattle.flat_lock.specs.declared.view_parts.Ended.{Ended};
+ghost use Rattle.flat_lock.specs.declared.view_parts.SeatAction.{SeatAction};
+ghost use Rattle.flat_lock.specs.declared.view_parts.JoinedSeat.{JoinedSeat};
 ghost use base.Fml.{ftrue};
 
 use std::marker::{Model, PhantomData};
@@ -21,13 +21,13 @@ pub struct View<E, F> {
     pub ghost mine: { List E },
     // The number of its actor.
     pub ghost actor: { ℕ },
-    pub ghost turn: { Turn },
+    pub ghost turn: { SeatAction },
     // Whether it is the first seat, which alone splits and joins.
     pub ghost first: { Bool },
     // The first seat has handed out the actors below this number.
     pub ghost handed_out: { ℕ },
     // The seats that were joined into this one, the last one first.
-    pub ghost ended: { List (Ended E) },
+    pub ghost ended: { List (JoinedSeat E) },
 }
 
 impl<E, F> Model for View<E, F> {

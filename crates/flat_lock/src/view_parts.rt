@@ -7,7 +7,7 @@ use std::marker::{Model, PhantomData};
 
 /// What a seat does. A ticket's number never wraps; the table's words have it
 /// modulo 2^64.
-pub enum Turn {
+pub enum SeatAction {
     /// It has no ticket.
     Idle,
     /// It waits until its ticket is served.
@@ -20,13 +20,13 @@ pub enum Turn {
 }
 
 /// What is left of a seat that was joined into the first one.
-pub struct Ended<E> {
+pub struct JoinedSeat<E> {
     marker: PhantomData<E>,
     pub ghost actor: { ℕ },
     pub ghost seen: { List E },
     pub ghost mine: { List E },
 }
 
-impl<E> Model for Ended<E> {
+impl<E> Model for JoinedSeat<E> {
     ghost also_owns = { λ _. ftrue };
 }

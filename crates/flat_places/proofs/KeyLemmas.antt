@@ -9,7 +9,7 @@ use Rattle.std.proofs.lemmas.Bool.Decides.{nat_tests, same_from_decides}
 use Rattle.std.proofs.lemmas.Grind.{pow_more}
 use Rattle.std.proofs.lemmas.Slice.Eq.{bytes_eq-Decides}
 use Rattle.std.proofs.Math.Nat.{pow-le-pow_right}
-use Rattle.flat_places.specs.declared.names.Meaning.{Meaning}
+use Rattle.flat_places.specs.declared.names.NameMeaning.{NameMeaning}
 use Rattle.flat_places.specs.Forms.{Word}
 use Rattle.flat_places.specs.Index.{key_of}
 use Rattle.flat_places.specs.Names.{is_name, is_name_byte}
@@ -52,7 +52,7 @@ key_tells w name one other =
     ) (bytes_eq-Decides w name)
 
 -- what a word means, where one more name is declared
-pub declared : (b : Bool) (w name : Word) (m : Meaning) (new old : Option Meaning) (key : ℕ) → key ≡ key_of name → is_name w ≡ b → is_name name ≡ true
+pub declared : (b : Bool) (w name : Word) (m : NameMeaning) (new old : Option NameMeaning) (key : ℕ) → key ≡ key_of name → is_name w ≡ b → is_name name ≡ true
     → new ≡ cond (is_eq (nat_cmp key (key_of w))) (Some m) old
     → cond b new None ≡ cond (bytes_eq w name) (Some m) (cond b old None)
 declared true w name m new old key same one other is =
@@ -63,7 +63,7 @@ declared false w name m new old key same one other is =
     (λ same. both_ways (is_name w) one (ap is_name ((bytes_eq-Decides w name).0 same) ∙ other)) in
     sym (cond-false (bytes_eq w name) (Some m) None apart)
 
-pub no_meaning : (b : Bool) → cond {A = Option Meaning} b None None ≡ None
+pub no_meaning : (b : Bool) → cond {A = Option NameMeaning} b None None ≡ None
 no_meaning true = refl
 no_meaning false = refl
 

@@ -1,7 +1,7 @@
 -- Keys of names, and which name lies in a slot, on small words.
 use Rattle.std.proofs.Common.{◌≡◌, ◌+◌, ◌*◌, Some, None, refl, codes}
-use Rattle.flat_places.specs.declared.names.Meaning.TheVariants.{Session, Pair}
-use Rattle.flat_places.specs.declared.names.Cached.{Cached}
+use Rattle.flat_places.specs.declared.names.NameMeaning.TheVariants.{Session, Pair}
+use Rattle.flat_places.specs.declared.names.CachedName.{CachedName}
 use Rattle.flat_places.specs.Index.{first_cached, key_of, slot_of}
 
 key_of_s4 : key_of (codes "S4") ≡ 83 + 256 * 52
@@ -10,11 +10,11 @@ key_of_s4 = refl
 slot_of_s4 : slot_of (key_of (codes "S4")) ≡ 36
 slot_of_s4 = refl
 
-a_name : Cached
+a_name : CachedName
 a_name = record { key = 65; len = 1; meaning = Session 0 }
 
 -- 126 is 65 and once more 61, so both names want one slot
-other_name : Cached
+other_name : CachedName
 other_name = record { key = 126; len = 1; meaning = Pair 0 }
 
 one_slot : slot_of 126 ≡ slot_of 65

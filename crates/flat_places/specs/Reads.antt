@@ -4,7 +4,7 @@ use Rattle.std.specs.Borrow.{Bor}
 use Rattle.flat_text.specs.Pieces.{is_space}
 use Rattle.flat_text.specs.Left.{pieces_left}
 use Rattle.flat_places.specs.declared.kinds.FaultKind.{FaultKind}
-use Rattle.flat_places.specs.declared.places.Places.{Places}
+use Rattle.flat_places.specs.declared.word_cursor.WordCursor.{WordCursor}
 use Rattle.flat_places.specs.Forms.{Word, Reading, Form, both, mapped, nothing}
 
 -- the kind, where there is one
@@ -13,7 +13,7 @@ reading_of None = Ok tt
 reading_of (Some k) = Err k
 
 -- the lowest kind so far
-abbrev pub sofar : Places → Reading (Unit {0})
+abbrev pub sofar : WordCursor → Reading (Unit {0})
 sofar p = reading_of p.fault
 
 -- the reading, and the kinds before it
@@ -25,7 +25,7 @@ abbrev pub giving : {A : Type 0} → A → Reading (Unit {0}) → Reading A
 giving v s = mapped (λ _. v) s
 
 -- the words that are left
-abbrev pub left : Places → List Word
+abbrev pub left : WordCursor → List Word
 left p = pieces_left is_space p.words
 
 -- the first word was taken, where there was one
@@ -34,10 +34,10 @@ TakesWord old None new = (old ≡ []) × (new ≡ [])
 TakesWord old (Some w) new = old ≡ w.now ∷ new
 
 -- the form was read: its words were taken, and the value or the lower kind was kept
-pub record Reads {A : Type 0} (form : Form A) (old new : Places) (value : A) : Type 0 where
+pub record Reads {A : Type 0} (form : Form A) (old new : WordCursor) (value : A) : Type 0 where
   pub words : left new ≡ (form (left old)).1
   pub outcome : lower (sofar old) (form (left old)).0 ≡ giving value (sofar new)
 
 -- the value, where no word is left and no fault was
-abbrev pub finished : {A : Type 0} → A → Places → Reading A
+abbrev pub finished : {A : Type 0} → A → WordCursor → Reading A
 finished v p = both (λ w _. w) (giving v (sofar p)) (nothing (left p))

@@ -10,16 +10,16 @@ ghost use Rattle.flat_places.specs.Places.{has_display_pair};
 ghost use Rattle.flat_places.specs.Reads.{Reads};
 
 use crate::kinds::FaultKind;
-use crate::names::{Indexed, is_name, is_word};
-use crate::places::Places;
+use crate::names::{IndexedScript, is_name, is_word};
+use crate::word_cursor::WordCursor;
 use flat_base::{Actor, ActorList, BufferNo, FenceNo, Items, NoMemory, PairNo, SessionNo};
 use flat_scene::FenceDecl;
 use std::alloc::Global;
 
 /// The places of names.
-impl<'a> Places<'a> {
+impl<'a> WordCursor<'a> {
     /// A session that is declared.
-    pub fn session(&mut self, script: &Indexed) -> SessionNo
+    pub fn session(&mut self, script: &IndexedScript) -> SessionNo
         requires { IsIndexed script.now }
         ensures { Reads (session script.now.script) self.old self.new result }
     {
@@ -36,7 +36,7 @@ impl<'a> Places<'a> {
         }
     }
 
-    fn owner(&mut self, script: &Indexed) -> Actor
+    fn owner(&mut self, script: &IndexedScript) -> Actor
         requires { IsIndexed script.now }
         ensures { Reads (owner script.now.script) self.old self.new result }
     {
@@ -54,7 +54,7 @@ impl<'a> Places<'a> {
     }
 
     /// Owners to the end of the line, one at least. Fails only if memory runs out.
-    pub fn owners(&mut self, alloc: Global, script: &Indexed) -> Result<ActorList, NoMemory>
+    pub fn owners(&mut self, alloc: Global, script: &IndexedScript) -> Result<ActorList, NoMemory>
         requires { IsIndexed script.now }
         ensures { IfOk result (λ v. Reads (owners script.now.script) self.old self.new v) }
     {
@@ -65,7 +65,7 @@ impl<'a> Places<'a> {
         self.each_owner(alloc, script)
     }
 
-    fn each_owner(&mut self, alloc: Global, script: &Indexed) -> Result<ActorList, NoMemory>
+    fn each_owner(&mut self, alloc: Global, script: &IndexedScript) -> Result<ActorList, NoMemory>
         requires { IsIndexed script.now }
         ensures { IfOk result (λ v. Reads (λ words. (each (owner_word script.now.script) words, []))
             self.old self.new v) }
@@ -79,7 +79,7 @@ impl<'a> Places<'a> {
     }
 
     /// A pair whose view end the session owns.
-    pub fn view_end(&mut self, script: &Indexed, owner: SessionNo) -> PairNo
+    pub fn view_end(&mut self, script: &IndexedScript, owner: SessionNo) -> PairNo
         requires { IsIndexed script.now }
         ensures { Reads (view_end script.now.script owner) self.old self.new result }
     {
@@ -90,7 +90,7 @@ impl<'a> Places<'a> {
     }
 
     /// A pair whose viewport end the session owns.
-    pub fn viewport_end(&mut self, script: &Indexed, owner: SessionNo) -> PairNo
+    pub fn viewport_end(&mut self, script: &IndexedScript, owner: SessionNo) -> PairNo
         requires { IsIndexed script.now }
         ensures { Reads (viewport_end script.now.script owner) self.old self.new result }
     {
@@ -101,7 +101,7 @@ impl<'a> Places<'a> {
     }
 
     /// A buffer collection that the session owns.
-    pub fn collection(&mut self, script: &Indexed, owner: SessionNo) -> BufferNo
+    pub fn collection(&mut self, script: &IndexedScript, owner: SessionNo) -> BufferNo
         requires { IsIndexed script.now }
         ensures { Reads (collection script.now.script owner) self.old self.new result }
     {
@@ -112,7 +112,7 @@ impl<'a> Places<'a> {
     }
 
     /// A fence that the actor owns.
-    pub fn fence(&mut self, script: &Indexed, owner: Actor) -> FenceNo
+    pub fn fence(&mut self, script: &IndexedScript, owner: Actor) -> FenceNo
         requires { IsIndexed script.now }
         ensures { Reads (fence script.now.script owner) self.old self.new result }
     {
@@ -123,7 +123,7 @@ impl<'a> Places<'a> {
     }
 
     /// A name that isn't declared yet.
-    pub fn new_name(&mut self, script: &Indexed) -> &'a [u8]
+    pub fn new_name(&mut self, script: &IndexedScript) -> &'a [u8]
         requires { IsIndexed script.now }
         ensures { Reads (new_name script.now.script) self.old self.new result.now }
     {
@@ -142,7 +142,7 @@ impl<'a> Places<'a> {
 
     /// The owner of a viewport end, where `paired` says whether the display has a
     /// pair already.
-    pub fn pair_owner(&mut self, script: &Indexed, paired: bool) -> Actor
+    pub fn pair_owner(&mut self, script: &IndexedScript, paired: bool) -> Actor
         requires indexed { IsIndexed script.now }
         requires paired { paired ≡ has_display_pair script.now.script }
         ensures { Reads (pair_owner script.now.script) self.old self.new result }
@@ -168,7 +168,7 @@ impl<'a> Places<'a> {
 }
 
 /// The pair of that name, whose view end the session owns.
-fn view_end_in(word: &[u8], script: &Indexed, owner: SessionNo) -> Result<PairNo, FaultKind>
+fn view_end_in(word: &[u8], script: &IndexedScript, owner: SessionNo) -> Result<PairNo, FaultKind>
     requires { IsIndexed script.now }
     ensures { result ≡ (view_end script.now.script owner (word.now ∷ [])).0 }
 {
@@ -182,7 +182,11 @@ fn view_end_in(word: &[u8], script: &Indexed, owner: SessionNo) -> Result<PairNo
 }
 
 /// The pair of that name, whose viewport end the session owns.
-fn viewport_end_in(word: &[u8], script: &Indexed, owner: SessionNo) -> Result<PairNo, FaultKind>
+fn viewport_end_in(
+    word: &[u8],
+    script: &IndexedScript,
+    owner: SessionNo,
+) -> Result<PairNo, FaultKind>
     requires { IsIndexed script.now }
     ensures { result ≡ (viewport_end script.now.script owner (word.now ∷ [])).0 }
 {
@@ -196,7 +200,11 @@ fn viewport_end_in(word: &[u8], script: &Indexed, owner: SessionNo) -> Result<Pa
 }
 
 /// The collection of that name, which the session owns.
-fn collection_in(word: &[u8], script: &Indexed, owner: SessionNo) -> Result<BufferNo, FaultKind>
+fn collection_in(
+    word: &[u8],
+    script: &IndexedScript,
+    owner: SessionNo,
+) -> Result<BufferNo, FaultKind>
     requires { IsIndexed script.now }
     ensures { result ≡ (collection script.now.script owner (word.now ∷ [])).0 }
 {
@@ -210,7 +218,7 @@ fn collection_in(word: &[u8], script: &Indexed, owner: SessionNo) -> Result<Buff
 }
 
 /// The fence of that name, which the actor owns.
-fn fence_in(word: &[u8], script: &Indexed, owner: Actor) -> Result<FenceNo, FaultKind>
+fn fence_in(word: &[u8], script: &IndexedScript, owner: Actor) -> Result<FenceNo, FaultKind>
     requires { IsIndexed script.now }
     ensures { result ≡ (fence script.now.script owner (word.now ∷ [])).0 }
 {

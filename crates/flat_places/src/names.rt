@@ -14,7 +14,7 @@ use std::collections::BTreeMap;
 /// What a name names: the place among those of its sort, from 0, in the order of
 /// declaration.
 #[derive(Clone, Copy)]
-pub enum Meaning {
+pub enum NameMeaning {
     /// A session.
     Session(u32),
     /// A probe.
@@ -33,19 +33,19 @@ const CACHE_SLOTS: usize = 61;
 
 /// A name in the cache, by its key and its length, and its meaning.
 #[derive(Clone, Copy)]
-pub struct Cached {
+pub struct CachedName {
     pub key: u128,
     pub len: usize,
-    pub meaning: Meaning,
+    pub meaning: NameMeaning,
 }
 
 /// Names and their meanings.
 #[derive(Drop)]
 pub struct Names {
     /// The meaning of each name, by its key.
-    pub map: BTreeMap<u128, Meaning>,
+    pub map: BTreeMap<u128, NameMeaning>,
     /// Some of the names, each in the slot of its key, where it is found without a search.
-    pub cache: [Option<Cached>; CACHE_SLOTS],
+    pub cache: [Option<CachedName>; CACHE_SLOTS],
 }
 
 impl Names {
@@ -63,7 +63,7 @@ impl Names {
     }
 
     /// The meaning of a word, where it is a name that was declared.
-    fn find(&self, word: &[u8]) -> Option<Meaning>
+    fn find(&self, word: &[u8]) -> Option<NameMeaning>
         requires { IsCache self.now }
         ensures { result ≡ meaning_at self.now word.now }
     {
@@ -79,7 +79,7 @@ impl Names {
     }
 
     /// The meaning of a word with this key, by a search in the map.
-    fn find_in_map(&self, word: &[u8], key: u128) -> Option<Meaning>
+    fn find_in_map(&self, word: &[u8], key: u128) -> Option<NameMeaning>
         requires { key ≡ key_of word.now }
         ensures { result ≡ meaning_at self.now word.now }
     {
@@ -91,7 +91,7 @@ impl Names {
 
     /// Gives a name its meaning, in place of one that it had. It fails only if memory runs
     /// out.
-    pub fn declare(&mut self, name: &[u8], meaning: Meaning) -> Result<(), NoMemory>
+    pub fn declare(&mut self, name: &[u8], meaning: NameMeaning) -> Result<(), NoMemory>
         requires cache { IsCache self.old }
         requires name { is_name name.now ≡ true }
         ensures found { OnOk result ((w : List ℕ) → meaning_at self.new w
@@ -101,7 +101,7 @@ impl Names {
         let key = key_of(name);
         self.map.insert(key, meaning)?;
         let slot = slot_of(key);
-        let new = Cached {
+        let new = CachedName {
             key,
             len: name.len(),
             meaning,
@@ -112,7 +112,7 @@ impl Names {
 }
 
 /// What a slot holds once a further name falls into it: the first name keeps it.
-fn first_cached(old: Option<Cached>, new: Cached) -> Cached
+fn first_cached(old: Option<CachedName>, new: CachedName) -> CachedName
     ensures { result ≡ first_cached old new }
 {
     match old {
@@ -146,14 +146,14 @@ fn key_of(name: &[u8]) -> u128
 /// A script, and where its names are found. Whoever adds a name to one of the script's
 /// lists declares it too, so that the two go together (`IsIndexed`).
 #[derive(Drop)]
-pub struct Indexed {
+pub struct IndexedScript {
     /// The script so far.
     pub script: Script,
     /// The names that it declares.
     pub names: Names,
 }
 
-impl Indexed {
+impl IndexedScript {
     ghost use Rattle.flat_places.specs.Index.{IsIndexed};
     ghost use Rattle.flat_places.specs.Slots.{IsCounted};
 
@@ -164,7 +164,7 @@ impl Indexed {
         ensures few { IfSome result (λ i. i < SESSIONS_MAX) }
     {
         match self.names.find(word) {
-            Some(Meaning::Session(i)) => Some(i),
+            Some(NameMeaning::Session(i)) => Some(i),
             _ => None,
         }
     }
@@ -175,7 +175,7 @@ impl Indexed {
         ensures few { IfSome result (λ i. i < PROBES_MAX) }
     {
         match self.names.find(word) {
-            Some(Meaning::Probe(i)) => Some(i),
+            Some(NameMeaning::Probe(i)) => Some(i),
             _ => None,
         }
     }
@@ -185,7 +185,7 @@ impl Indexed {
         ensures { result ≡ place_of self.now.script.buffers word.now }
     {
         match self.names.find(word) {
-            Some(Meaning::Buffers(i)) => Some(i),
+            Some(NameMeaning::Buffers(i)) => Some(i),
             _ => None,
         }
     }
@@ -195,7 +195,7 @@ impl Indexed {
         ensures { result ≡ place_of self.now.script.pairs word.now }
     {
         match self.names.find(word) {
-            Some(Meaning::Pair(i)) => Some(i),
+            Some(NameMeaning::Pair(i)) => Some(i),
             _ => None,
         }
     }
@@ -205,7 +205,7 @@ impl Indexed {
         ensures { result ≡ place_of self.now.script.fences word.now }
     {
         match self.names.find(word) {
-            Some(Meaning::Fence(i)) => Some(i),
+            Some(NameMeaning::Fence(i)) => Some(i),
             _ => None,
         }
     }

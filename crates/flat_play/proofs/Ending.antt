@@ -6,9 +6,9 @@ use Rattle.std.proofs.lemmas.Bool.{eq-eqb, eqb-true}
 use Rattle.std.proofs.lemmas.Grind.{common_steps}
 use Rattle.flat_base.specs.declared.ids.Actor.TheVariants.{Session}
 use Rattle.flat_base.specs.declared.ids.SessionNo.{SessionNo}
-use Rattle.flat_scene.specs.declared.script.Line.{Line}
+use Rattle.flat_scene.specs.declared.script.SessionLine.{SessionLine}
 use Rattle.flat_scene.specs.declared.journal.Entry.{Entry}
-use Rattle.flat_scene.specs.declared.journal.Kind.TheVariants.{End}
+use Rattle.flat_scene.specs.declared.journal.EntryKind.TheVariants.{End}
 use Rattle.flat_scene.specs.declared.journal.Reply.TheVariants.{Done}
 use Rattle.flat_scene.specs.declared.setup.Setup.{Setup}
 use Rattle.flat_scene.specs.Frames.{sessions_to}
@@ -17,7 +17,7 @@ use Rattle.flat_scene.specs.Interleave.{session_lines, display_lines, IsReading,
 use Rattle.flat_core.specs.Machines.{Machine, HasShare, entered, entry_of, made}
 use Rattle.flat_places.specs.declared.script.Script.{Script}
 use Rattle.flat_play.specs.declared.play.Play.{Play}
-use Rattle.flat_session.specs.declared.reader.Reader.{Reader}
+use Rattle.flat_session.specs.declared.session_reader.SessionReader.{SessionReader}
 use Rattle.flat_session.specs.Readings.{EndsAreRead, HasRead, Rise}
 use Rattle.flat_session.specs.Reads.{Stands}
 use Rattle.flat_playable.specs.Playable.{is_playable}
@@ -55,7 +55,7 @@ ends_first script play stands = record {
 -- ---- one session ends
 
 -- what stands by a session's own entries
-own_kept : (script : Script) (s : SessionNo) (place : ℕ) (old new : List Entry) (reader : Reader) → own s new ≡ own s old
+own_kept : (script : Script) (s : SessionNo) (place : ℕ) (old new : List Entry) (reader : SessionReader) → own s new ≡ own s old
     → ReaderStands script s place old reader → ReaderStands script s place new reader
 own_kept script s place old new reader same stands =
     let S : List Entry → Type 0 = λ es. Stands script.setup es reader in
@@ -66,7 +66,8 @@ module _ (ends_are_read : EndsAreRead) (script : Script) (playable : is_playable
   abbrev s : SessionNo
   s = record { 0 = before + 1 }
 
-  module _ (old : Play) (stands : EndsStand script before old) (reader : Reader) (mine : ReaderStands script s (length script.lines) old.board.history reader)
+  module _ (old : Play) (stands : EndsStand script before old) (reader : SessionReader)
+      (mine : ReaderStands script s (length script.lines) old.board.history reader)
     where
       share : HasShare old.board (Session s)
       share = has_room script old.board (before + 1) (omega arith) (omega arith) stands.shares (stands.unspent before (omega arith))
@@ -88,17 +89,17 @@ module _ (ends_are_read : EndsAreRead) (script : Script) (playable : is_playable
 
       reading : IsReading script.setup script.count (session_lines s script.lines) (own s (old.board.history ▹ last))
       reading =
-          let given : List (ℕ × Line) = session_lines s (take (length script.lines) script.lines) in
+          let given : List (ℕ × SessionLine) = session_lines s (take (length script.lines) script.lines) in
           let all : given ≡ session_lines s script.lines = ap (session_lines s) (take_all (length script.lines) script.lines (omega arith)) in
-          let R : List (ℕ × Line) → Type 0 = Rise 0 in
+          let R : List (ℕ × SessionLine) → Type 0 = Rise 0 in
           let rise : Rise 0 given = subst R (sym all) (session_rise s 0 script.lines (rises script playable)) in
           let has : HasRead old.board.setup given (own reader.session old.board.history) reader =
           on_board script.setup s old.board reader stands.setup mine.session (λ setup es r. HasRead setup given es r) mine.reads in
-          let I : Setup → List (ℕ × Line) → SessionNo → Type 0 =
+          let I : Setup → List (ℕ × SessionLine) → SessionNo → Type 0 =
           λ setup lines n. IsReading setup script.count lines
           (own n (old.board.history ▹ entry_of (Session n) (script.count + 1) reader.pending (End reader.refused) Done)) in
           let I1 : Setup → Type 0 = λ setup. I setup given reader.session in
-          let I2 : List (ℕ × Line) → Type 0 = λ lines. I script.setup lines reader.session in
+          let I2 : List (ℕ × SessionLine) → Type 0 = λ lines. I script.setup lines reader.session in
           let I3 : SessionNo → Type 0 = I script.setup (session_lines s script.lines) in
           subst I3 mine.session (subst I2 all (subst I1 stands.setup (ends_are_read given script.count old.board reader end_stands has rise)))
 
@@ -134,7 +135,7 @@ module _ (ends_are_read : EndsAreRead) (script : Script) (playable : is_playable
           let was : made (k + 1) old.board.history ≤ lines_by (k + 1) script.lines = stands.unspent k (omega arith) in
           omega (arith, more, none, was)
 
-      pub ends_more : (new : Play) (changed : Reader) → new.board
+      pub ends_more : (new : Play) (changed : SessionReader) → new.board
           ≡ entered old.board (Session reader.session) (script.count + 1) reader.pending (End reader.refused) Done
           → new.readers.items ≡ set old.readers.items before changed → new.store ≡ old.store → EndsStand script (before + 1) new
       ends_more new changed board readers same_store =
@@ -142,12 +143,12 @@ module _ (ends_are_read : EndsAreRead) (script : Script) (playable : is_playable
           let own_entry : entry_of (Session reader.session) (script.count + 1) reader.pending (End reader.refused) Done ≡ last =
           ap (λ (n : SessionNo). entry_of (Session n) (script.count + 1) reader.pending (End reader.refused) Done) mine.session in
           let grown : (h ▹ last) ≡ new.board.history = sym (ap (λ (m : Machine). m.history) board ∙ ap (λ (e : Entry). h ▹ e) own_entry) in
-          let still : List Reader = set old.readers.items before changed in
+          let still : List SessionReader = set old.readers.items before changed in
           let R : List Entry → Type 0 = λ es. (k : ℕ) → k < before + 1
           → IsReading script.setup script.count (session_lines (record { 0 = k + 1 }) script.lines) (own (record { 0 = k + 1 }) es) in
-          let W : List Reader → List Entry → Type 0 = λ ps es. (k : ℕ) (d : Reader) → before + 1 ≤ k → k < length ps
+          let W : List SessionReader → List Entry → Type 0 = λ ps es. (k : ℕ) (d : SessionReader) → before + 1 ≤ k → k < length ps
           → ReaderStands script (record { 0 = k + 1 }) (length script.lines) es (get_or ps k d) in
-          let W1 : List Reader → Type 0 = λ ps. W ps (h ▹ last) in
+          let W1 : List SessionReader → Type 0 = λ ps. W ps (h ▹ last) in
           let W2 : List Entry → Type 0 = W new.readers.items in
           let D : List Entry → Type 0 = DisplayStands script (length script.lines) in
           let E : List Entry → Type 0 = HasEnds (before + 1) in

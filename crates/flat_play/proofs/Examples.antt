@@ -2,8 +2,8 @@
 use Rattle.std.proofs.Common.{ℕ, ◌≡◌, refl, true, false, List, [], ◌∷◌}
 use Rattle.flat_base.specs.declared.ids.Actor.TheVariants.{Display}
 use Rattle.flat_scene.specs.declared.journal.Entry.{Entry}
-use Rattle.flat_scene.specs.declared.journal.Kind.{Kind}
-use Rattle.flat_scene.specs.declared.journal.Kind.TheVariants.{Begin, Finish}
+use Rattle.flat_scene.specs.declared.journal.EntryKind.{EntryKind}
+use Rattle.flat_scene.specs.declared.journal.EntryKind.TheVariants.{Begin, Finish}
 use Rattle.flat_scene.specs.declared.journal.Reply.TheVariants.{Done}
 use Rattle.flat_scene.specs.History.{◌▹◌}
 use Rattle.flat_pointer.specs.declared.text.PointerCall.TheVariants.{Up}
@@ -11,7 +11,7 @@ use Rattle.flat_pointer.specs.declared.text.PointerLine.{PointerLine}
 use Rattle.flat_pointer.specs.Lines.{rise_after}
 use Rattle.flat_play.specs.Touches.{frames_before}
 
-abbrev by_line : ℕ → Kind → Entry
+abbrev by_line : ℕ → EntryKind → Entry
 by_line number kind = record { actor = Display; line = number; calls = []; kind = kind; reply = Done }
 
 -- two frames, finished by lines 5 and 9

@@ -20,11 +20,11 @@ use Rattle.flat_scene.specs.declared.frames.FrameOut.{FrameOut}
 use Rattle.flat_texts.specs.Filming.{IsFilm}
 use Rattle.flat_texts.specs.declared.film.Film as film
 use Rattle.flat_why.specs.Text.{why_lines, whys_at}
-use Rattle.flat_play.specs.declared.explaining.Explaining.{Explaining}
-use Rattle.flat_play.specs.declared.explaining.Explaining.TheVariants.{Off, On, Film}
+use Rattle.flat_play.specs.declared.side_output.SideOutput.{SideOutput}
+use Rattle.flat_play.specs.declared.side_output.SideOutput.TheVariants.{Off, On, Film}
 use Rattle.flat_play.specs.Explaining.{StandsExplained, ToldExplained}
 use Rattle.flat_why.specs.Noted.{WhysStand}
-use Rattle.flat_why.specs.declared.whys.Whys.{Whys}
+use Rattle.flat_why.specs.declared.reason_tracker.ReasonTracker.{ReasonTracker}
 use Rattle.flat_play.specs.Touching.{enters, stays, GoesOnAt, GoesOnByEnds}
 use Rattle.flat_play.proofs.Touching.{no-finish}
 
@@ -43,7 +43,7 @@ module _ (script : Script) where
       (filter (λ (one : Entry). is_finish one.kind) (later ++ old)))) (no-finish script.setup entry.kind (and-left (is_end entry.kind) _ all))
       ∙ frames-ends later old (and-right (is_end entry.kind) _ all)
 
-  pub explained-ended : (old new : List Entry) (explaining : Explaining) → GoesOnByEnds old new → finished script.setup new ≡ finished script.setup old
+  pub explained-ended : (old new : List Entry) (explaining : SideOutput) → GoesOnByEnds old new → finished script.setup new ≡ finished script.setup old
       → StandsExplained script old explaining → ToldExplained script new explaining
   explained-ended old new Off on frames_are stands = tt
   explained-ended old new (Film one) on frames_are stands = subst (λ fs. IsFilm script.setup fs one) (sym frames_are) stands
@@ -57,13 +57,13 @@ module _ (script : Script) where
 pub entered_so_far : (entries : List Entry) (history : List Entry) → history_of entries ≡ history → length history ≡ length entries
 entered_so_far entries history is = ap (λ (h : List Entry). length h) (sym is) ∙ length-reverse entries
 
-pub same-explained : (script : Script) (number : ℕ) (old new : List Entry) (whys : Whys) → length new ≡ length old → GoesOnAt number old new
+pub same-explained : (script : Script) (number : ℕ) (old new : List Entry) (whys : ReasonTracker) → length new ≡ length old → GoesOnAt number old new
     → WhysStand script old whys → WhysStand script new whys
 same-explained script number old new whys same (stays is) stands = subst (λ h. WhysStand script h whys) (sym is) stands
 same-explained script number old new whys same (enters entry line is) stands =
     absurd (let more : length new ≡ suc (length old) = ap (λ (h : List Entry). length h) is in omega (arith, same, more))
 
-pub more-explained : (script : Script) (number : ℕ) (old new : List Entry) (whys : Whys) → length new ≢ length old → GoesOnAt number old new
+pub more-explained : (script : Script) (number : ℕ) (old new : List Entry) (whys : ReasonTracker) → length new ≢ length old → GoesOnAt number old new
     → WhysStand script old whys → (x : List Entry) × (entry : Entry) × (new ≡ (x ▹ entry)) × WhysStand script x whys
 more-explained script number old new whys apart (stays is) stands = absurd (apart (ap (λ (h : List Entry). length h) is))
 more-explained script number old new whys apart (enters entry line is) stands = (old, entry, is, stands)

@@ -8,8 +8,8 @@ use Rattle.std.proofs.lemmas.Option.{slice_get-get_or}
 use Rattle.flat_base.specs.declared.ids.Actor.{Actor}
 use Rattle.flat_base.specs.declared.ids.Actor.TheVariants.{Display, Session, Probe}
 use Rattle.flat_scene.specs.declared.journal.Entry.{Entry}
-use Rattle.flat_scene.specs.declared.script.Body.{Body}
-use Rattle.flat_scene.specs.declared.script.Body.TheVariants as body
+use Rattle.flat_scene.specs.declared.script.LineBody.{LineBody}
+use Rattle.flat_scene.specs.declared.script.LineBody.TheVariants as body
 use Rattle.flat_scene.specs.declared.script.ProbeLine.{ProbeLine}
 use Rattle.flat_scene.specs.declared.script.ScriptLine.{ScriptLine}
 use Rattle.flat_scene.specs.declared.setup.Setup.{Setup}
@@ -202,7 +202,7 @@ pub asked-within : (script : Script) (place : ℕ) (x : ScriptLine) → At scrip
     → (p : ℕ) (asked : ProbeLine) → asked_of x.actor x.body ≡ Some (p, asked) → p < length answers
 asked-within script place x at history answers was p asked is = by x.actor refl x.body refl
   where
-    by : (who : Actor) → x.actor ≡ who → (text : Body) → x.body ≡ text → p < length answers
+    by : (who : Actor) → x.actor ≡ who → (text : LineBody) → x.body ≡ text → p < length answers
     by (Probe q) who (body.Probe what) text =
         let both : Some (q, what) ≡ Some (p, asked) = sym (λ i. asked_of (who i) (text i)) ∙ is in
         let same : q ≡ p = ap number-in both in

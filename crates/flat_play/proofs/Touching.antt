@@ -9,8 +9,8 @@ use Rattle.std.proofs.lemmas.List.Sums.{take_while-cons}
 use Rattle.flat_base.proofs.lemmas.Tests.{and-left, and-right, and-true, all-also}
 use Rattle.flat_rules.proofs.lemmas.AllOrSome.{all-append}
 use Rattle.flat_scene.specs.declared.journal.Entry.{Entry}
-use Rattle.flat_scene.specs.declared.journal.Kind.{Kind}
-use Rattle.flat_scene.specs.declared.journal.Kind.TheVariants.{Finish}
+use Rattle.flat_scene.specs.declared.journal.EntryKind.{EntryKind}
+use Rattle.flat_scene.specs.declared.journal.EntryKind.TheVariants.{Finish}
 use Rattle.flat_scene.specs.declared.setup.Setup.{Setup}
 use Rattle.flat_scene.specs.History.{◌▹◌, is_end, is_finish}
 use Rattle.flat_rules.specs.Ends.{to_finished}
@@ -24,7 +24,7 @@ use Rattle.flat_topology.specs.Shown.{Shown}
 use Rattle.flat_pointer.specs.declared.text.PointerCall.{PointerCall}
 use Rattle.flat_pointer.specs.declared.text.PointerCall.TheVariants.{Down, Move, Up}
 use Rattle.flat_pointer.specs.declared.text.PointerLine.{PointerLine}
-use Rattle.flat_pointer.specs.declared.text.Touch.{Touch}
+use Rattle.flat_pointer.specs.declared.text.PointerTouch.{PointerTouch}
 use Rattle.flat_base.specs.declared.ids.Actor.{Actor}
 use Rattle.flat_scene.specs.declared.calls.Call.{Call}
 use Rattle.flat_scene.specs.declared.journal.Reply.{Reply}
@@ -124,7 +124,7 @@ module _ (setup : Setup) where
       by true late = late
       by false late = refl
 
-  pub no-finish : (kind : Kind) → is_end kind ≡ true → is_finish kind ≡ false
+  pub no-finish : (kind : EntryKind) → is_end kind ≡ true → is_finish kind ≡ false
   no-finish Finish end = absurd (let f : false ≡ true = end in cc)
   no-finish _ end = refl
 
@@ -154,7 +154,7 @@ rest-rises number (line ∷ later) from rise =
     by true is rest = rest
     by false is rest = and-true (let more : nat_lt number line.number ≡ true = grind (arith, nat_tests) in more) (and-right (nat_lt from line.number) _ rise)
 
-pub answers-upto : (setup : Setup) (shown : Shown) (number : ℕ) (lines early later : List PointerLine) (old new : List Touch) (count : ℕ)
+pub answers-upto : (setup : Setup) (shown : Shown) (number : ℕ) (lines early later : List PointerLine) (old new : List PointerTouch) (count : ℕ)
     → count ≡ length (take_while (is_upto number) lines)
     → early ≡ take count lines → later ≡ drop count lines → new ≡ old ++ map (touch_in setup shown) early → AnswersUpto setup shown number lines later old new
 answers-upto setup shown number lines early later old new count count_is early_is later_is touches =
@@ -171,7 +171,7 @@ answers-upto setup shown number lines early later old new count count_is early_i
 
 -- ---- the run
 
-pub answered-none : (setup : Setup) (lines : List PointerLine) (history : List Entry) (found : List Touch) → history ≡ [] → found ≡ []
+pub answered-none : (setup : Setup) (lines : List PointerLine) (history : List Entry) (found : List PointerTouch) → history ≡ [] → found ≡ []
     → rise_after 0 lines ≡ true
     → AreAnswered setup history 0 lines lines found
 answered-none setup lines history found none found_none rise = record {
@@ -195,7 +195,7 @@ all-after from (line ∷ later) rise =
     (λ one more. let test : nat_lt from one.number ≡ true = grind (arith, nat_tests) in test) later
     (all-after line.number later (and-right (nat_lt from line.number) _ rise)))
 
-module _ (setup : Setup) (history : List Entry) (last : ℕ) (lines left : List PointerLine) (found : List Touch) (there : Setup) (shown : Shown)
+module _ (setup : Setup) (history : List Entry) (last : ℕ) (lines left : List PointerLine) (found : List PointerTouch) (there : Setup) (shown : Shown)
     (answered : AreAnswered setup history last lines left found) (at : there ≡ setup_at setup (to_finished history))
     (shows : shown ≡ shown_states setup (to_finished history)) where
   -- lines after the last one are answered by the last finished frame
@@ -215,7 +215,7 @@ module _ (setup : Setup) (history : List Entry) (last : ℕ) (lines left : List 
       split (x ∷ xs) all = and-true (and-left (nat_lt last x.number) _ all) (split xs (and-right (nat_lt last x.number) _ all))
 
   -- one more line of the script
-  pub answered-more : (number : ℕ) (later : List PointerLine) (found' : List Touch) (history' : List Entry) → last < number
+  pub answered-more : (number : ℕ) (later : List PointerLine) (found' : List PointerTouch) (history' : List Entry) → last < number
       → AnswersUpto there shown number left later found found'
       → GoesOnAt number history history' → AreAnswered setup history' number lines later found'
   answered-more number later found' history' above answers on =
@@ -247,13 +247,13 @@ module _ (setup : Setup) (history : List Entry) (last : ℕ) (lines left : List 
           ∙ and-true (let test : nat_le entry.line number ≡ true = grind (arith, nat_tests) in test) still
 
   -- the lines that are left, behind all lines of the script
-  pub answered-all : (found' : List Touch) → found' ≡ found ++ map (touch_in there shown) left → found' ≡ map (touch_of setup history) lines
+  pub answered-all : (found' : List PointerTouch) → found' ≡ found ++ map (touch_in there shown) left → found' ≡ map (touch_of setup history) lines
   answered-all found' is =
       is ∙ (λ i. answered.touches i ++ next-touches left all-left i) ∙ sym (map-append (touch_of setup history) answered.answered left)
       ∙ ap (map (touch_of setup history)) (sym answered.parts)
 
 -- behind the Ends of all sessions
-pub answered-ended : (setup : Setup) (old new : List Entry) (lines : List PointerLine) (found : List Touch) → GoesOnByEnds old new
+pub answered-ended : (setup : Setup) (old new : List Entry) (lines : List PointerLine) (found : List PointerTouch) → GoesOnByEnds old new
     → found ≡ map (touch_of setup old) lines → found ≡ map (touch_of setup new) lines
 answered-ended setup old new lines found on touches = touches ∙ map-same lines
   where
@@ -281,7 +281,7 @@ ends-then first old new begun on = record {
   are_ends = all-append (λ (entry : Entry). is_end entry.kind) on.ends begun.ends on.are_ends begun.are_ends;
 }
 
-pub entered-on : (old new : Machine) (who : Actor) (number : ℕ) (carries : List Call) (kind : Kind) (reply : Reply)
+pub entered-on : (old new : Machine) (who : Actor) (number : ℕ) (carries : List Call) (kind : EntryKind) (reply : Reply)
     → new ≡ entered old who number carries kind reply → GoesOnAt number old.history new.history
 entered-on old new who number carries kind reply is = enters (entry_of who number carries kind reply) refl (ap (λ (m : Machine). m.history) is)
 

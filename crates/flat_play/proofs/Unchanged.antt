@@ -23,8 +23,8 @@ use Rattle.flat_tree.specs.Trees.{tree_of}
 use Rattle.flat_report.specs.FrameTexts.{unchanged}
 use Rattle.flat_report.specs.Report.{finished, frame_at}
 use Rattle.flat_play.specs.declared.frame.LastFrame.{LastFrame}
-use Rattle.flat_play.specs.declared.kept.Kept.{Kept}
-use Rattle.flat_play.specs.declared.kept.Kept.TheVariants as kept
+use Rattle.flat_play.specs.declared.kept_frames.KeptFrames.{KeptFrames}
+use Rattle.flat_play.specs.declared.kept_frames.KeptFrames.TheVariants as kept
 use Rattle.flat_play.specs.Keeping.{Keeps, KeepsUnchanged, KeepsMore, keeping_of}
 use Rattle.flat_core.specs.declared.start.FrameStart.{FrameStart}
 use Rattle.flat_core.specs.Starts.{IsStart}
@@ -57,7 +57,7 @@ last-finished setup (before ▹ entry) some = by (last-finished setup before) (i
         ∙ sym (ap (λ n. Some (frame_at setup n (to_finished (before ▹ entry)))) many ∙ ap (λ (h : List Entry). Some (frame_at setup (frames before) h)) ended)
 
 -- what is kept tells the last of its frames
-last-kept : (script : Script) (kept : Kept) (xs ys : List FrameOut) → Keeps script kept xs → Keeps script kept ys → last_item xs ≡ last_item ys
+last-kept : (script : Script) (kept : KeptFrames) (xs ys : List FrameOut) → Keeps script kept xs → Keeps script kept ys → last_item xs ≡ last_item ys
 last-kept script (kept.Texts texts) xs ys one other = sym one.last ∙ other.last
 last-kept script (kept.Damages damages) xs ys one other = sym one.last ∙ other.last
 last-kept script (kept.Trees trees) xs ys one other = sym one.last ∙ other.last
@@ -69,18 +69,18 @@ in-any-case (Ok value) holds = holds
 in-any-case (Err error) holds = tt
 
 -- what was kept as one kind is kept as it, of one frame more
-pub more-unchanged : {A E : Type 0} (script : Script) (number : FrameNo) (tree : ViewTree) (old was new : Kept) (result : Result A E) → old ≡ was
+pub more-unchanged : {A E : Type 0} (script : Script) (number : FrameNo) (tree : ViewTree) (old was new : KeptFrames) (result : Result A E) → old ≡ was
     → keeping_of new ≡ keeping_of was
     → ((frames : List FrameOut) (last : FrameOut) → Keeps script was frames → last_item frames ≡ Some last
     → OnOk result (Keeps script new (frames ++ unchanged number tree last ∷ []))) → OnOk result (KeepsUnchanged script number tree old new)
 more-unchanged script number tree old was new (Ok value) is same more = record {
   same = same ∙ ap keeping_of (sym is);
-  more = λ frames last keeps item. more frames last (subst (λ (k : Kept). Keeps script k frames) is keeps) item;
+  more = λ frames last keeps item. more frames last (subst (λ (k : KeptFrames). Keeps script k frames) is keeps) item;
 }
 more-unchanged script number tree old was new (Err error) is same more = tt
 
 -- so one frame more is kept that has the items of the last one
-pub kept-unchanged : {A E : Type 0} (script : Script) (number : FrameNo) (tree : ViewTree) (old new : Kept) (frames : List FrameOut) (last : FrameOut)
+pub kept-unchanged : {A E : Type 0} (script : Script) (number : FrameNo) (tree : ViewTree) (old new : KeptFrames) (frames : List FrameOut) (last : FrameOut)
     (result : Result A E) → Keeps script old frames → last_item frames ≡ Some last
     → OnOk result (KeepsUnchanged script number tree old new) → OnOk result (KeepsMore script (unchanged number tree last) old new)
 kept-unchanged script number tree old new frames last (Ok value) keeps is more = record {

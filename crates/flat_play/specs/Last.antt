@@ -10,7 +10,7 @@ use Rattle.flat_scene.specs.Setups.{at_ratio}
 use Rattle.flat_rules.specs.Ends.{to_finished}
 use Rattle.flat_rules.specs.Legal.{frames}
 use Rattle.flat_rules.specs.Shown.{shown_states}
-use Rattle.flat_topology.specs.declared.Joined.{Joined}
+use Rattle.flat_topology.specs.declared.GlobalTopology.{GlobalTopology}
 use Rattle.flat_topology.specs.Changes.{AreSame}
 use Rattle.flat_topology.specs.Connected.{joined_lists}
 use Rattle.flat_topology.specs.Fit.{FitsSetup}
@@ -21,7 +21,7 @@ use Rattle.flat_core.specs.declared.start.FrameStart.{FrameStart}
 use Rattle.flat_play.specs.declared.frame.LastFrame.{LastFrame}
 
 -- what is joined, if anything is, are these states
-abbrev pub IsJoined : {Z : Type 0} → Setup → Shown → Option (Arc Joined Z) → Type 0
+abbrev pub IsJoined : {Z : Type 0} → Setup → Shown → Option (Arc GlobalTopology Z) → Type 0
 IsJoined setup shown None = Unit {0}
 IsJoined setup shown (Some joined) = arc_value joined ≡ joined_lists setup shown
 

@@ -5,13 +5,13 @@ use Rattle.std.specs.List.{AllByRecursion}
 use Rattle.std.specs.List.Sorted.{IsStrictlyIncreasing}
 use Rattle.flat_base.specs.declared.ids.Actor.TheVariants.{Display, Session}
 use Rattle.flat_scene.specs.declared.journal.Reply.TheVariants.{Done}
-use Rattle.flat_scene.specs.declared.script.Body.{Body}
-use Rattle.flat_scene.specs.declared.script.Body.TheVariants as body
+use Rattle.flat_scene.specs.declared.script.LineBody.{LineBody}
+use Rattle.flat_scene.specs.declared.script.LineBody.TheVariants as body
 use Rattle.flat_scene.specs.declared.script.DisplayLine.{DisplayLine}
 use Rattle.flat_base.specs.declared.ids.SessionNo.{SessionNo}
 use Rattle.flat_scene.specs.declared.journal.Entry.{Entry}
-use Rattle.flat_scene.specs.declared.journal.Kind.TheVariants.{Begin, Finish}
-use Rattle.flat_scene.specs.declared.script.Line.{Line}
+use Rattle.flat_scene.specs.declared.journal.EntryKind.TheVariants.{Begin, Finish}
+use Rattle.flat_scene.specs.declared.script.SessionLine.{SessionLine}
 use Rattle.flat_scene.specs.declared.script.ScriptLine.{ScriptLine}
 use Rattle.flat_scene.specs.declared.setup.Setup.{Setup}
 use Rattle.flat_scene.specs.Frames.{sessions_to}
@@ -26,11 +26,11 @@ use Rattle.flat_report.specs.declared.report.HitAnswer.{HitAnswer}
 use Rattle.flat_report.specs.Handed.{answers_of}
 use Rattle.flat_report.specs.Report.{finished}
 use Rattle.flat_places.specs.declared.script.Script.{Script}
-use Rattle.flat_session.specs.declared.reader.Reader.{Reader}
+use Rattle.flat_session.specs.declared.session_reader.SessionReader.{SessionReader}
 use Rattle.flat_session.specs.Readings.{HasRead}
 use Rattle.flat_session.specs.Reads.{IsNew, Stands}
 use Rattle.flat_play.specs.declared.play.Play.{Play}
-use Rattle.flat_play.specs.declared.kept.Kept.{Kept}
+use Rattle.flat_play.specs.declared.kept_frames.KeptFrames.{KeptFrames}
 use Rattle.flat_play.specs.Keeping.{Keeps}
 use Rattle.flat_play.specs.Storing.{AnswersLine, FinishesNext, FramesStand, StoreStands}
 use Rattle.flat_playable.specs.Playable.{frames_close}
@@ -44,7 +44,8 @@ last_number n (next ∷ later) = last_number next.number later
 
 -- A session's entries are the reading of its lines up to a place, and its reader stands behind them.
 -- It refused no more lines than there were.
-pub record ReaderStands (script : Script) (s : SessionNo) (place : ℕ) (history : List Entry) (reader : Reader) : Type 0
+pub record ReaderStands (script : Script) (s : SessionNo) (place : ℕ) (history : List Entry) (reader : SessionReader)
+    : Type 0
   where
     pub session : reader.session ≡ s
     pub few : reader.refused ≤ last_number 0 (take place script.lines)
@@ -85,10 +86,11 @@ pub record DisplayStands (script : Script) (place : ℕ) (history : List Entry) 
   pub closing : frames_close (is_frame_open history) (begin_time history) (drop place script.lines) ≡ true
 
 -- All readers stand at a place.
-pub record ReadersStand (script : Script) (place : ℕ) (history : List Entry) (readers : List Reader) : Type 0 where
-  pub count : length readers ≡ script.setup.sessions
-  pub each : (k : ℕ) (d : Reader) → k < length readers
-      → ReaderStands script (record { 0 = k + 1 }) place history (slice_index_or readers k d)
+pub record ReadersStand (script : Script) (place : ℕ) (history : List Entry) (readers : List SessionReader) : Type 0
+  where
+    pub count : length readers ≡ script.setup.sessions
+    pub each : (k : ℕ) (d : SessionReader) → k < length readers
+        → ReaderStands script (record { 0 = k + 1 }) place history (slice_index_or readers k d)
 
 -- The whole run stands at a place.
 pub record PlayStands (script : Script) (place : ℕ) (play : Play) : Type 0 where
@@ -125,20 +127,21 @@ pub record EntersBeside (old new : Play) (number : ℕ) (text : DisplayLine) : T
   pub store : AnswersLine old.board.setup number text old.store new.store
 
 -- the line of a session that a body is, and the line of the display
-abbrev pub session_text : Body → Option Line
+abbrev pub session_text : LineBody → Option SessionLine
 session_text (body.Session text) = Some text
 session_text _ = None
 
-abbrev pub display_text : Body → Option DisplayLine
+abbrev pub display_text : LineBody → Option DisplayLine
 display_text (body.Display text) = Some text
 display_text _ = None
 
 -- ---- before any line
 
 -- The readers of the first sessions are there, and have read no line.
-pub record AreNew (setup : Setup) (sessions : ℕ) (readers : List Reader) : Type 0 where
+pub record AreNew (setup : Setup) (sessions : ℕ) (readers : List SessionReader) : Type 0 where
   pub count : length readers ≡ sessions
-  pub each : (k : ℕ) (d : Reader) → k < length readers → IsNew setup (record { 0 = k + 1 }) (slice_index_or readers k d)
+  pub each : (k : ℕ) (d : SessionReader) → k < length readers
+      → IsNew setup (record { 0 = k + 1 }) (slice_index_or readers k d)
 
 -- ---- after all lines
 
@@ -158,7 +161,7 @@ pub record EndsStand (script : Script) (ended : ℕ) (play : Play) : Type 0 wher
   pub count : length play.readers.items ≡ script.setup.sessions
   pub readings : (k : ℕ) → k < ended → IsReading script.setup script.count
       (session_lines (record { 0 = k + 1 }) script.lines) (own (record { 0 = k + 1 }) play.board.history)
-  pub waiting : (k : ℕ) (d : Reader) → ended ≤ k → k < length play.readers.items
+  pub waiting : (k : ℕ) (d : SessionReader) → ended ≤ k → k < length play.readers.items
       → ReaderStands script (record { 0 = k + 1 }) (length script.lines) play.board.history
       (slice_index_or play.readers.items k d)
   pub display : DisplayStands script (length script.lines) play.board.history
@@ -168,7 +171,7 @@ pub record EndsStand (script : Script) (ended : ℕ) (play : Play) : Type 0 wher
 
 -- A script was run to its end: the history interleaves the script's actors, what is kept of frames is that of those
 -- that it finishes, and the answers are those to the points that it asks for.
-pub record HasPlayed (script : Script) (board : Machine) (kept : Kept) (answers : List HitAnswer) : Type 0 where
+pub record HasPlayed (script : Script) (board : Machine) (kept : KeptFrames) (answers : List HitAnswer) : Type 0 where
   pub setup : board.setup ≡ script.setup
   pub interleaves : Interleaves script.setup script.count script.lines board.history
   pub keeps : Keeps script kept (finished script.setup board.history)

@@ -4,8 +4,8 @@ use Rattle.std.specs.Prelude.{Some, None}
 use Rattle.flat_base.specs.declared.ids.Actor.{Actor}
 use Rattle.flat_base.specs.declared.ids.Actor.TheVariants.{Probe}
 use Rattle.flat_scene.specs.declared.journal.Entry.{Entry}
-use Rattle.flat_scene.specs.declared.script.Body.{Body}
-use Rattle.flat_scene.specs.declared.script.Body.TheVariants as body
+use Rattle.flat_scene.specs.declared.script.LineBody.{LineBody}
+use Rattle.flat_scene.specs.declared.script.LineBody.TheVariants as body
 use Rattle.flat_scene.specs.declared.script.ProbeLine.{ProbeLine}
 use Rattle.flat_scene.specs.declared.script.ScriptLine.{ScriptLine}
 use Rattle.flat_scene.specs.declared.setup.Setup.{Setup}
@@ -26,7 +26,7 @@ abbrev pub ProbesStand : Script → ℕ → List Entry → List (List ProbeAnswe
 ProbesStand script place history answers = ProbesAnswered (script_to place script) history answers
 
 -- which probe a line asks, and what
-abbrev pub asked_of : Actor → Body → Option (ℕ × ProbeLine)
+abbrev pub asked_of : Actor → LineBody → Option (ℕ × ProbeLine)
 asked_of (Probe p) (body.Probe asked) = Some (p, asked)
 asked_of _ _ = None
 

@@ -1,17 +1,17 @@
 -- What a run of a script leaves, whoever drove it.
 use Rattle.std.specs.Prelude.{◌≡◌, ℕ, ◌+◌, List, length, map, Option}
 use Rattle.flat_scene.specs.declared.frames.FrameOut.{FrameOut}
-use Rattle.flat_scene.specs.declared.frames.Lost.{Lost}
+use Rattle.flat_scene.specs.declared.frames.LostDisplay.{LostDisplay}
 use Rattle.flat_scene.specs.Interleave.{IsWritten}
 use Rattle.flat_places.specs.declared.script.Script.{Script}
 use Rattle.flat_pointer.specs.declared.text.PointerLine.{PointerLine}
-use Rattle.flat_pointer.specs.declared.text.Touch.{Touch}
+use Rattle.flat_pointer.specs.declared.text.PointerTouch.{PointerTouch}
 use Rattle.flat_report.specs.declared.probes.ProbeAnswer.{ProbeAnswer}
 use Rattle.flat_report.specs.Probes.{ProbesAnswered, frames_seen}
 use Rattle.flat_report.specs.Report.{finished}
-use Rattle.flat_play.specs.declared.kept.Keeping.{Keeping}
+use Rattle.flat_play.specs.declared.kept_frames.FramesToKeep.{FramesToKeep}
 use Rattle.flat_play.specs.declared.play.Play.{Play}
-use Rattle.flat_play.specs.declared.whole.Played.{Played}
+use Rattle.flat_play.specs.declared.whole.FinishedPlay.{FinishedPlay}
 use Rattle.flat_play.specs.InTurn.{seen_in_turn}
 use Rattle.flat_play.specs.Keeping.{keeping_of}
 use Rattle.flat_play.specs.Playing.{HasPlayed, PlayStands}
@@ -30,7 +30,7 @@ pub record PlaysLine (script : Script) (place number : ℕ) (old new : Play) : T
 module _ {D : Type 0} (told : D → Option (List FrameOut)) (count : D → ℕ) (script : Script) (olds news : List D) where
   -- There is one legal history, which interleaves the script's actors. What is kept of frames in this way, the answers
   -- to points and to probes, and what the displays have had are those of this history.
-  pub record HasRun (way : Keeping) (ran : Played) : Type 0 where
+  pub record HasRun (way : FramesToKeep) (ran : FinishedPlay) : Type 0 where
     pub played : HasPlayed script ran.board ran.kept ran.answers
     pub probes : ProbesAnswered script ran.board.history ran.probes.items
     pub keeping : keeping_of ran.kept ≡ way
@@ -39,15 +39,15 @@ module _ {D : Type 0} (told : D → Option (List FrameOut)) (count : D → ℕ) 
 
   -- It was played in written order: the entries stand in the order of their lines, and each line of a probe saw the
   -- frame that was finished last before it.
-  pub record HasRunInOrder (way : Keeping) (ran : Played) : Type 0 where
+  pub record HasRunInOrder (way : FramesToKeep) (ran : FinishedPlay) : Type 0 where
     pub run : HasRun way ran
     pub written : IsWritten script.setup ran.board.history
     pub in_turn : frames_seen ran.probes.items ≡ seen_in_turn script ran.board.history
 
   -- All lines of the script were played, none of its sessions has ended yet, and pointers' lines and those of probes
   -- are answered.
-  pub record HasReadLines (way : Keeping) (lines : List PointerLine) (play : Play) (found : List Touch)
-      (answers : List (List ProbeAnswer)) (lost : List Lost) : Type 0 where
+  pub record HasReadLines (way : FramesToKeep) (lines : List PointerLine) (play : Play) (found : List PointerTouch)
+      (answers : List (List ProbeAnswer)) (lost : List LostDisplay) : Type 0 where
     pub stands : PlayStands script (length script.lines) play
     pub touches : found ≡ map (touch_of script.setup play.board.history) lines
     pub probes : ProbesAnswered script play.board.history answers

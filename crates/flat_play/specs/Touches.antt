@@ -9,7 +9,7 @@ use Rattle.flat_report.specs.Report.{begin_of, hits_at}
 use Rattle.flat_pointer.specs.declared.text.PointerCall.{PointerCall}
 use Rattle.flat_pointer.specs.declared.text.PointerCall.TheVariants.{Down}
 use Rattle.flat_pointer.specs.declared.text.PointerLine.{PointerLine}
-use Rattle.flat_pointer.specs.declared.text.Touch.{Touch}
+use Rattle.flat_pointer.specs.declared.text.PointerTouch.{PointerTouch}
 
 -- how many frames were finished by lines before that of a number
 abbrev pub frames_before : ℕ → List Entry → ℕ
@@ -23,7 +23,7 @@ call_hits setup begun (Down x y) = hits_at setup begun x y
 call_hits setup begun _ = []
 
 -- a line of a pointer, with whom it hits in the frame that was finished last before it
-abbrev pub touch_of : Setup → List Entry → PointerLine → Touch
+abbrev pub touch_of : Setup → List Entry → PointerLine → PointerTouch
 touch_of setup history line =
     record { line = line; hits = call_hits setup (begin_of (frames_before line.number history) history) line.call }
 

@@ -10,7 +10,7 @@ use Rattle.flat_topology.specs.Shown.{Shown}
 use Rattle.flat_pointer.specs.declared.text.PointerCall.{PointerCall}
 use Rattle.flat_pointer.specs.declared.text.PointerCall.TheVariants.{Down}
 use Rattle.flat_pointer.specs.declared.text.PointerLine.{PointerLine}
-use Rattle.flat_pointer.specs.declared.text.Touch.{Touch}
+use Rattle.flat_pointer.specs.declared.text.PointerTouch.{PointerTouch}
 use Rattle.flat_pointer.specs.Lines.{rise_after}
 use Rattle.flat_play.specs.Touches.{touch_of}
 
@@ -20,7 +20,7 @@ hits_in setup shown (Down x y) = hit_list setup shown x y
 hits_in setup shown _ = []
 
 -- a line of a pointer, with what it hits
-abbrev pub touch_in : Setup → Shown → PointerLine → Touch
+abbrev pub touch_in : Setup → Shown → PointerLine → PointerTouch
 touch_in setup shown line = record { line = line; hits = hits_in setup shown line.call }
 
 -- A history goes on by at most one entry, of the line with this number.
@@ -36,7 +36,7 @@ pub record GoesOnByEnds (old new : List Entry) : Type 0 where
 
 -- The lines that come next, up to that of a number, are answered by what is shown, and the later ones are left.
 pub record AnswersUpto (setup : Setup) (shown : Shown) (number : ℕ) (lines later : List PointerLine)
-    (old new : List Touch) : Type 0 where
+    (old new : List PointerTouch) : Type 0 where
   pub early : List PointerLine
   pub parts : lines ≡ early ++ later
   pub up_to : list_all (λ line. nat_le line.number number) early ≡ true
@@ -45,7 +45,7 @@ pub record AnswersUpto (setup : Setup) (shown : Shown) (number : ℕ) (lines lat
 
 -- The first lines are answered, those up to that of a number, behind which no entry stands; the others are left.
 pub record AreAnswered (setup : Setup) (history : List Entry) (number : ℕ) (lines left : List PointerLine)
-    (found : List Touch) : Type 0 where
+    (found : List PointerTouch) : Type 0 where
   pub answered : List PointerLine
   pub parts : lines ≡ answered ++ left
   pub touches : found ≡ map (touch_of setup history) answered

@@ -15,7 +15,6 @@ ghost use Rattle.flat_topology.specs.Changes.{AreSame};
 ghost use Rattle.flat_topology.specs.Connected.{joined_lists};
 ghost use Rattle.flat_topology.specs.Fit.{FitsSetup};
 ghost use Rattle.flat_topology.specs.Hits.{hit_list};
-ghost use Rattle.flat_topology.specs.Shown.{Shown};
 ghost use Rattle.flat_rules.specs.Shown.{shown_states};
 ghost use Rattle.flat_report.specs.Report.{frame_at};
 ghost use Rattle.flat_core.specs.Views.{AreViewed};
@@ -26,8 +25,8 @@ ghost use Rattle.flat_play.specs.Probing.{answer_of};
 
 use flat_base::{Actor, FrameNo, NoMemory};
 use flat_core::{FrameStart, shown_states_fit};
-use flat_hit::Touchable;
-use flat_join::{Shown, join};
+use flat_hit::HitIndex;
+use flat_join::{ShownStates, join};
 use flat_report::ProbeAnswer;
 use flat_reuse::{Drawing, Reuse};
 use flat_scene::{FrameOut, HitList, ProbeLine, SessionSet, Setup};
@@ -45,7 +44,7 @@ pub struct LastFrame {
     /// The pixel ratio at which it was composed.
     pub ratio: u32,
     /// What they show, joined, once that was asked for.
-    pub joined: Option<Arc<Touchable>>,
+    pub joined: Option<Arc<HitIndex>>,
 }
 
 /// What shown states are, joined at a pixel ratio, if that isn't done yet.
@@ -53,9 +52,9 @@ fn joined_once(
     alloc: Global,
     setup: &Setup,
     ratio: u32,
-    shown: &Shown,
-    joined: Option<Arc<Touchable>>,
-) -> Result<Arc<Touchable>, NoMemory>
+    shown: &ShownStates,
+    joined: Option<Arc<HitIndex>>,
+) -> Result<Arc<HitIndex>, NoMemory>
     requires setup { is_setup setup.now ≡ true }
     requires count { length shown.now ≡ setup.now.sessions }
     requires fit { FitsSetup setup.now shown.now }
@@ -66,7 +65,7 @@ fn joined_once(
     match joined {
         Some(joined) => Ok(joined),
         None => {
-            let joined = Touchable::new(alloc, join(alloc, shown, setup, ratio)?)?;
+            let joined = HitIndex::new(alloc, join(alloc, shown, setup, ratio)?)?;
             Ok(Arc::new(alloc, joined)?)
         }
     }
@@ -91,7 +90,7 @@ impl LastFrame {
         ensures ratio { IfOk result (λ last. last.ratio ≡ setup.now.ratio) }
     {
         shown_states_fit();
-        let shown = Shown::new(alloc, setup.sessions)?;
+        let shown = ShownStates::new(alloc, setup.sessions)?;
         let mut reuse = Reuse::new(alloc)?;
         let _nothing = reuse.draw_next(alloc, &shown, setup, setup.ratio)?;
         Ok(LastFrame {
@@ -113,7 +112,7 @@ impl LastFrame {
         alloc: Global,
         setup: &Setup,
         ratio: u32,
-        shown: &Shown,
+        shown: &ShownStates,
         changed: SessionSet,
         with_view: SessionSet,
     ) -> Result<FrameOut, NoMemory>
@@ -247,7 +246,7 @@ impl LastFrame {
     }
 
     /// One more handle of what the sessions show, joined, as points are answered by it.
-    pub fn share_joined(&mut self, alloc: Global, setup: &Setup) -> Result<Arc<Touchable>, NoMemory>
+    pub fn share_joined(&mut self, alloc: Global, setup: &Setup) -> Result<Arc<HitIndex>, NoMemory>
         requires setup { is_setup setup.now ≡ true }
         requires is { IsLast setup.now self.old }
         ensures joined { IfOk result (λ all. arc_value all

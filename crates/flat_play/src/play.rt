@@ -16,8 +16,8 @@ ghost use Rattle.flat_report.specs.Report.{finished};
 ghost use Rattle.flat_rules.specs.Legal.{frames};
 ghost use Rattle.flat_scene.specs.Heads.{is_setup};
 ghost use Rattle.flat_scene.specs.Interleave.{entry_of_display, IsWritten};
-ghost use Rattle.flat_scene.specs.declared.journal.Kind.TheVariants.{Begin, Finish};
-ghost use Rattle.flat_scene.specs.declared.script.Body.TheVariants as body;
+ghost use Rattle.flat_scene.specs.declared.journal.EntryKind.TheVariants.{Begin, Finish};
+ghost use Rattle.flat_scene.specs.declared.script.LineBody.TheVariants as body;
 ghost use Rattle.flat_scene.specs.declared.script.ScriptLine.{ScriptLine};
 
 use crate::store::FrameStore;
@@ -25,8 +25,8 @@ use flat_base::{Actor, NoMemory, SessionNo, TryCopy};
 use flat_core::{Board, FrameStart, shown_states_fit};
 use flat_display::{Display, DisplaySet};
 use flat_places::Script;
-use flat_scene::{Body, DisplayLine, Line};
-use flat_session::{Reader, lines_are_read};
+use flat_scene::{DisplayLine, LineBody, SessionLine};
+use flat_session::{SessionReader, lines_are_read};
 use std::alloc::Global;
 
 /// A run: the board, the sessions, and what is shown.
@@ -34,7 +34,7 @@ use std::alloc::Global;
 pub struct Play {
     pub board: Board,
     /// The sessions as they read their lines, session 1 first.
-    pub readers: Vec<Reader>,
+    pub readers: Vec<SessionReader>,
     /// What the last begin decided of its frame.
     pub start: FrameStart,
     /// What is kept of the finished frames.
@@ -119,7 +119,7 @@ impl Play {
         place: usize,
         s: SessionNo,
         number: u32,
-        text: &Line,
+        text: &SessionLine,
     ) -> Result<(), NoMemory>
         requires line { slice_get script.now.lines place
             ≡ Some (record { number = number; actor = Session s; body = body.Session text.now }) }
@@ -163,6 +163,7 @@ impl Play {
         ensures displays { KeepsDisplays (λ d. d.vtable) set.old set.new displays.old.items
             displays.new.items }
     {
+        // proof: the entries so far are legal.
         let _journal = self.board.journal();
         let line = script.lines.at(place);
         match text {
@@ -249,21 +250,21 @@ impl Play {
 }
 
 /// The line of a session that a body is.
-fn session_text(body: &Body) -> Option<&Line>
+fn session_text(body: &LineBody) -> Option<&SessionLine>
     ensures { option_copied result ≡ session_text body.now }
 {
     match body {
-        Body::Session(text) => Some(text),
+        LineBody::Session(text) => Some(text),
         _ => None,
     }
 }
 
 /// The line of the display that a body is.
-fn display_text(body: &Body) -> Option<DisplayLine>
+fn display_text(body: &LineBody) -> Option<DisplayLine>
     ensures { result ≡ display_text body.now }
 {
     match body {
-        Body::Display(text) => Some(*text),
+        LineBody::Display(text) => Some(*text),
         _ => None,
     }
 }

@@ -10,11 +10,11 @@ ghost use Rattle.flat_play.specs.Probing.{asked_of, answers_after};
 use crate::frame::LastFrame;
 use flat_base::{Actor, NoMemory};
 use flat_report::ProbeAnswers;
-use flat_scene::{Body, ProbeLine, ScriptLine, Setup};
+use flat_scene::{LineBody, ProbeLine, ScriptLine, Setup};
 use std::alloc::Global;
 
 /// So many probes, none of which was asked anything.
-pub(crate) fn no_answers(alloc: Global, probes: u32) -> Result<Vec<ProbeAnswers>, NoMemory>
+pub fn no_answers(alloc: Global, probes: u32) -> Result<Vec<ProbeAnswers>, NoMemory>
     ensures { IfOk result (λ answers. answers.items ≡ replicate probes []) }
 {
     let mut answers = Vec::new(alloc);
@@ -29,7 +29,7 @@ fn asked_of(line: &ScriptLine) -> Option<(u32, ProbeLine)>
     ensures { result ≡ asked_of line.now.actor line.now.body }
 {
     match (line.actor, &line.body) {
-        (Actor::Probe(p), Body::Probe(asked)) => Some((p, *asked)),
+        (Actor::Probe(p), LineBody::Probe(asked)) => Some((p, *asked)),
         _ => None,
     }
 }

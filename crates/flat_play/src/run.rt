@@ -14,20 +14,20 @@ ghost use Rattle.flat_play.specs.Keeping.{keeping_of};
 ghost use Rattle.flat_display.specs.Had.{AreKept};
 ghost use Rattle.flat_pointer.specs.Lines.{rise_after};
 
-use crate::explaining::Explaining;
-use crate::kept::Keeping;
+use crate::kept_frames::FramesToKeep;
 use crate::play::Play;
 use crate::probes::{answer_line, no_answers};
+use crate::side_output::SideOutput;
 use crate::store::FrameStore;
 use crate::touches::{answer_all, answer_upto};
 use flat_base::{Actor, NoMemory, SessionNo, ShareList, TryCopy};
 use flat_core::{Board, FrameStart};
 use flat_display::{Display, DisplaySet};
 use flat_places::Script;
-use flat_pointer::{PointerLine, Touch};
+use flat_pointer::{PointerLine, PointerTouch};
 use flat_report::ProbeAnswers;
 use flat_scene::Setup;
-use flat_session::{Reader, lines_are_read};
+use flat_session::{SessionReader, lines_are_read};
 use std::alloc::Global;
 
 /// The number of an actor's seat.
@@ -71,13 +71,13 @@ fn shares_of(alloc: Global, script: &Script) -> Result<ShareList, NoMemory>
 }
 
 /// The sessions of a setup, none of which has read a line.
-fn new_readers(alloc: Global, setup: &Setup) -> Result<Vec<Reader>, NoMemory>
+fn new_readers(alloc: Global, setup: &Setup) -> Result<Vec<SessionReader>, NoMemory>
     requires { is_setup setup.now ≡ true }
     ensures { IfOk result (λ readers. AreNew setup.now setup.now.sessions readers.items) }
 {
     let mut readers = Vec::new(alloc);
     for before in 0..setup.sessions {
-        let reader = Reader::new(alloc, SessionNo(before + 1), &setup.buffers)?;
+        let reader = SessionReader::new(alloc, SessionNo(before + 1), &setup.buffers)?;
         readers.push(reader)?;
     }
     Ok(readers)
@@ -95,7 +95,7 @@ pub fn open_board(alloc: Global, script: &Script) -> Result<Board, NoMemory>
 }
 
 /// A run of which no line is played.
-fn start(alloc: Global, script: &Script, keeping: Keeping) -> Result<Play, NoMemory>
+fn start(alloc: Global, script: &Script, keeping: FramesToKeep) -> Result<Play, NoMemory>
     requires { is_playable script.now ≡ true }
     ensures stands { IfOk result (λ play. PlayStands script.now 0 play) }
     ensures keeping { IfOk result (λ play. keeping_of play.store.kept ≡ keeping) }
@@ -125,7 +125,7 @@ pub(crate) struct PlayInput<'a> {
 #[derive(Drop)]
 pub(crate) struct LinesPlayed {
     pub(crate) play: Play,
-    pub(crate) touches: Vec<Touch>,
+    pub(crate) touches: Vec<PointerTouch>,
     pub(crate) probes: Vec<ProbeAnswers>,
 }
 
@@ -136,7 +136,7 @@ fn play_each(
     alloc: Global,
     input: PlayInput<'_>,
     ran: &mut LinesPlayed,
-    explaining: &mut Explaining,
+    explaining: &mut SideOutput,
     set: &mut DisplaySet,
     displays: &mut Vec<Box<dyn Display>>,
 ) -> Result<(), NoMemory>
@@ -192,8 +192,8 @@ fn play_each(
 pub(crate) fn play_lines(
     alloc: Global,
     input: PlayInput<'_>,
-    keeping: Keeping,
-    explaining: &mut Explaining,
+    keeping: FramesToKeep,
+    explaining: &mut SideOutput,
     set: &mut DisplaySet,
     displays: &mut Vec<Box<dyn Display>>,
 ) -> Result<LinesPlayed, NoMemory>

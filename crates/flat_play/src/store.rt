@@ -14,12 +14,12 @@ ghost use Rattle.flat_rules.specs.Ends.{to_begin};
 ghost use Rattle.flat_rules.specs.Legal.{frames};
 ghost use Rattle.flat_scene.specs.Heads.{is_setup};
 ghost use Rattle.flat_scene.specs.declared.frames.FrameOut.{FrameOut};
-ghost use Rattle.flat_scene.specs.declared.frames.Lost.{Lost};
+ghost use Rattle.flat_scene.specs.declared.frames.LostDisplay.{LostDisplay};
 ghost use Rattle.flat_scene.specs.declared.journal.Entry.{Entry};
 ghost use Rattle.flat_tree.specs.Trees.{tree_of};
 
 use crate::frame::LastFrame;
-use crate::kept::{Keeping, Kept};
+use crate::kept_frames::{FramesToKeep, KeptFrames};
 use flat_base::{Actor, FrameNo, NoMemory, TryCopy};
 use flat_core::FrameStart;
 use flat_display::{Display, DisplaySet};
@@ -33,7 +33,7 @@ use std::alloc::Global;
 #[derive(Drop)]
 pub struct FrameStore {
     /// What a word writes of them.
-    pub kept: Kept,
+    pub kept: KeptFrames,
     /// The last of them: what the next one and points are composed from.
     pub last: LastFrame,
     /// The answers to the points that were asked for.
@@ -45,14 +45,18 @@ impl FrameStore {
     ghost use Rattle.flat_play.specs.Storing.{LacksNext, StaysStored, StoreStands};
 
     /// Before the first frame.
-    pub fn new(alloc: Global, script: &Script, keeping: Keeping) -> Result<FrameStore, NoMemory>
+    pub fn new(
+        alloc: Global,
+        script: &Script,
+        keeping: FramesToKeep,
+    ) -> Result<FrameStore, NoMemory>
         requires { is_setup script.now.setup ≡ true }
         ensures stands { IfOk result (StoreStands script.now []) }
         ensures keeping { IfOk result (λ store. keeping_of store.kept ≡ keeping) }
     {
         let last = LastFrame::none(alloc, &script.setup)?;
         Ok(FrameStore {
-            kept: Kept::new(alloc, keeping),
+            kept: KeptFrames::new(alloc, keeping),
             last,
             answers: HitAnswers::new(alloc),
         })
@@ -82,7 +86,7 @@ impl FrameStore {
     pub fn show(&self, set: &mut DisplaySet, displays: &mut Vec<Box<dyn Display>>)
         requires { length displays.old.items ≡ set.old.displays }
         ensures shows { (script : Script) (before : List FrameOut) (frame : FrameOut) →
-            Keeps script self.now.kept (before ++ frame ∷ []) → (more : List Lost)
+            Keeps script self.now.kept (before ++ frame ∷ []) → (more : List LostDisplay)
             × (set.new ≡ record set.old { lost = set.old.lost ++ more })
             × Shows (λ d. shown d) (λ d. faults d) frame set.old.lost 1 displays.old.items
             displays.new.items more }

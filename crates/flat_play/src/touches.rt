@@ -8,7 +8,7 @@ ghost use Rattle.flat_play.specs.Touching.{AnswersUpto, touch_in};
 
 use crate::frame::LastFrame;
 use flat_base::NoMemory;
-use flat_pointer::{PointerCall, PointerLine, Touch};
+use flat_pointer::{PointerCall, PointerLine, PointerTouch};
 use flat_scene::{HitList, Setup};
 use std::alloc::Global;
 
@@ -19,7 +19,7 @@ fn answer(
     setup: &Setup,
     last: &mut LastFrame,
     line: PointerLine,
-) -> Result<Touch, NoMemory>
+) -> Result<PointerTouch, NoMemory>
     requires setup { is_setup setup.now ≡ true }
     requires is { IsLast setup.now last.old }
     ensures touch { IfOk result (λ touch. touch
@@ -29,9 +29,9 @@ fn answer(
     match line.call {
         PointerCall::Down { x, y } => {
             let hits = last.hits(alloc, setup, x, y)?;
-            Ok(Touch { line, hits })
+            Ok(PointerTouch { line, hits })
         }
-        _ => Ok(Touch {
+        _ => Ok(PointerTouch {
             line,
             hits: HitList::new(alloc),
         }),
@@ -44,7 +44,7 @@ pub(crate) fn answer_all(
     setup: &Setup,
     last: &mut LastFrame,
     lines: &[PointerLine],
-    found: &mut Vec<Touch>,
+    found: &mut Vec<PointerTouch>,
 ) -> Result<(), NoMemory>
     requires setup { is_setup setup.now ≡ true }
     requires is { IsLast setup.now last.old }
@@ -77,7 +77,7 @@ pub(crate) fn answer_upto<'a>(
     last: &mut LastFrame,
     lines: &'a [PointerLine],
     number: u32,
-    found: &mut Vec<Touch>,
+    found: &mut Vec<PointerTouch>,
 ) -> Result<&'a [PointerLine], NoMemory>
     requires setup { is_setup setup.now ≡ true }
     requires is { IsLast setup.now last.old }

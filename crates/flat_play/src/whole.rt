@@ -1,4 +1,5 @@
-//! A script is run as a whole: its lines, then the End of each session. What it leaves is a `Played`.
+//! A script is run as a whole: its lines, then the End of each session. What it leaves is a
+//! `FinishedPlay`.
 ghost use Rattle.std.specs.Prelude.{map, ◌≡◌, ◌<◌, ◌^◌, [], true, length};
 ghost use Rattle.std.specs.Prelude.{IfOk};
 ghost use Rattle.flat_playable.specs.Playable.{is_playable};
@@ -10,27 +11,27 @@ ghost use Rattle.flat_display.specs.Had.{AreKept};
 ghost use Rattle.flat_play.specs.Touches.{touch_of};
 ghost use Rattle.flat_pointer.specs.Lines.{rise_after};
 
-use crate::explaining::Explaining;
-use crate::kept::{Keeping, Kept};
+use crate::kept_frames::{FramesToKeep, KeptFrames};
 use crate::play::Play;
 use crate::run::{LinesPlayed, PlayInput, play_lines};
+use crate::side_output::SideOutput;
 use crate::store::FrameStore;
 use flat_base::NoMemory;
 use flat_core::Board;
 use flat_display::{Display, DisplaySet};
 use flat_places::Script;
-use flat_pointer::{PointerLine, Touch};
+use flat_pointer::{PointerLine, PointerTouch};
 use flat_report::{HitAnswers, ProbeAnswers};
-use flat_why::Whys;
+use flat_why::ReasonTracker;
 use std::alloc::Global;
 
 /// A script that was run to its end.
 #[derive(Drop)]
-pub struct Played {
+pub struct FinishedPlay {
     /// Its journal is that of the run.
     pub board: Board,
     /// What is kept of the finished frames.
-    pub kept: Kept,
+    pub kept: KeptFrames,
     /// The answers to the points that were asked for.
     pub answers: HitAnswers,
     /// The answers of probes: those of each, in the order of its lines.
@@ -39,13 +40,13 @@ pub struct Played {
     pub set: DisplaySet,
 }
 
-impl Played {
+impl FinishedPlay {
     /// What is kept of the frames. All else is let go here: a crate that drops a board has
     /// to prove the drop of every type in it.
-    pub fn into_kept(self) -> Kept
+    pub fn into_kept(self) -> KeptFrames
         ensures { result ≡ self.kept }
     {
-        let Played {
+        let FinishedPlay {
             board,
             kept,
             answers: _,
@@ -73,11 +74,11 @@ pub fn let_go(board: Board) {
 pub(crate) fn play_whole(
     alloc: Global,
     script: &Script,
-    keeping: Keeping,
+    keeping: FramesToKeep,
     lines: &[PointerLine],
-    explaining: &mut Explaining,
+    explaining: &mut SideOutput,
     displays: &mut Vec<Box<dyn Display>>,
-) -> Result<(Played, Vec<Touch>), NoMemory>
+) -> Result<(FinishedPlay, Vec<PointerTouch>), NoMemory>
     requires playable { is_playable script.now ≡ true }
     requires rise { rise_after 0 lines.now ≡ true }
     requires unexplained { StandsExplained script.now [] explaining.old }
@@ -113,7 +114,7 @@ pub(crate) fn play_whole(
         last: _,
         answers,
     } = store;
-    let played = Played {
+    let played = FinishedPlay {
         board,
         kept,
         answers,
@@ -129,10 +130,10 @@ pub(crate) fn play_whole(
 pub fn play_touched(
     alloc: Global,
     script: &Script,
-    keeping: Keeping,
+    keeping: FramesToKeep,
     lines: &[PointerLine],
     displays: &mut Vec<Box<dyn Display>>,
-) -> Result<(Played, Vec<Touch>), NoMemory>
+) -> Result<(FinishedPlay, Vec<PointerTouch>), NoMemory>
     requires playable { is_playable script.now ≡ true }
     requires rise { rise_after 0 lines.now ≡ true }
     requires few { length displays.old.items < 2 ^ 32 }
@@ -148,7 +149,7 @@ pub fn play_touched(
         script,
         keeping,
         lines,
-        &mut Explaining::Off,
+        &mut SideOutput::Off,
         displays,
     )
 }
@@ -158,9 +159,9 @@ pub fn play_touched(
 pub fn play_script(
     alloc: Global,
     script: &Script,
-    keeping: Keeping,
+    keeping: FramesToKeep,
     displays: &mut Vec<Box<dyn Display>>,
-) -> Result<Played, NoMemory>
+) -> Result<FinishedPlay, NoMemory>
     requires playable { is_playable script.now ≡ true }
     requires few { length displays.old.items < 2 ^ 32 }
     ensures run { IfOk result (HasRunInOrder (λ d. shown d) (λ d. faults d) script.now
@@ -178,17 +179,24 @@ pub fn play_explained(
     alloc: Global,
     script: &Script,
     displays: &mut Vec<Box<dyn Display>>,
-) -> Result<(Played, Vec<u8>), NoMemory>
+) -> Result<(FinishedPlay, Vec<u8>), NoMemory>
     requires playable { is_playable script.now ≡ true }
     requires few { length displays.old.items < 2 ^ 32 }
     ensures run { IfOk result (λ ran. HasRunInOrder (λ d. shown d) (λ d. faults d) script.now
-        displays.old.items displays.new.items Keeping.Last ran.0) }
+        displays.old.items displays.new.items FramesToKeep.Last ran.0) }
     ensures text { IfOk result (λ ran. ran.1.items ≡ why_text script.now ran.0.board.history) }
     ensures kept { AreKept (λ d. shown d) (λ d. faults d) (AreBegun script.now)
         displays.old.items displays.new.items (λ d. d.vtable) }
 {
-    let mut whys = Explaining::On(Whys::new(alloc, script)?);
-    let (played, _touches) = play_whole(alloc, script, Keeping::Last, &[], &mut whys, displays)?;
+    let mut whys = SideOutput::On(ReasonTracker::new(alloc, script)?);
+    let (played, _touches) = play_whole(
+        alloc,
+        script,
+        FramesToKeep::Last,
+        &[],
+        &mut whys,
+        displays,
+    )?;
     match whys.into_text() {
         Ok(text) => Ok((played, text)),
         Err(NoMemory) => {

@@ -14,7 +14,7 @@ use Rattle.flat_text.specs.Pieces.{is_feed, words_of, lines_of, without_empty_en
 use Rattle.flat_places.specs.declared.kinds.FaultKind.TheVariants.{TooLong, NotAscii, LongLine, BadHead, BadOrder}
 use Rattle.flat_places.specs.declared.script.Script.{Script}
 use Rattle.flat_script.specs.declared.script.ScriptFault.{ScriptFault}
-use Rattle.flat_forms.specs.declared.lines.Part.TheVariants as part
+use Rattle.flat_forms.specs.declared.lines.TextPart.TheVariants as part
 use Rattle.flat_places.specs.Forms.{Word, Reading, mapped, whole, give}
 use Rattle.flat_forms.specs.Head.{empty, with_version, first_line, head_line, run_line, is_ready}
 use Rattle.flat_forms.specs.Body.{body_line, is_open}

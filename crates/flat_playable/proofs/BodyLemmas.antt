@@ -13,8 +13,8 @@ use Rattle.flat_base.specs.declared.limits.TheConstants.{RATIO_SINCE}
 use Rattle.flat_scene.specs.declared.script.ScriptLine.{ScriptLine}
 use Rattle.flat_scene.specs.declared.script.DisplayLine.{DisplayLine}
 use Rattle.flat_scene.specs.declared.script.DisplayLine.TheVariants as display
-use Rattle.flat_scene.specs.declared.script.Body.{Body}
-use Rattle.flat_scene.specs.declared.script.Body.TheVariants as body
+use Rattle.flat_scene.specs.declared.script.LineBody.{LineBody}
+use Rattle.flat_scene.specs.declared.script.LineBody.TheVariants as body
 use Rattle.flat_places.specs.declared.kinds.FaultKind.TheVariants.{Limit, BadOrder}
 use Rattle.flat_places.specs.declared.script.Script.{Script}
 use Rattle.flat_places.specs.Forms.{Word, Reading, mapped, unless_kind, whole, give}
@@ -51,20 +51,20 @@ counts_open false d n is = grind (arith, nat_tests)
 pub open_is : (s : Script) (opened : Bool) (time : ℕ) → FramesKept s opened time → is_open s ≡ opened
 open_is s opened time kept = counts_open opened (dones s) (length (begin_times s)) kept.begun
 
-times_after : (s : Script) (n : ℕ) (a : Actor) (b : Body)
+times_after : (s : Script) (n : ℕ) (a : Actor) (b : LineBody)
     → begin_times (with_line s n a b) ≡ begin_times s ++ filter_map (λ (l : ScriptLine). time_begun l.body) (record { number = n; actor = a; body = b } ∷ [])
 times_after s n a b = filter_map-append (λ (l : ScriptLine). time_begun l.body) s.lines (record { number = n; actor = a; body = b } ∷ [])
 
-dones_after : (s : Script) (n : ℕ) (a : Actor) (b : Body) → dones (with_line s n a b) ≡ dones s + cond (ends_frame b) 1 0
+dones_after : (s : Script) (n : ℕ) (a : Actor) (b : LineBody) → dones (with_line s n a b) ≡ dones s + cond (ends_frame b) 1 0
 dones_after s n a b = sym (dones_more s.lines (s.lines ++ record { number = n; actor = a; body = b } ∷ []) (record { number = n; actor = a; body = b })
     (dones s) (cond (ends_frame b) 1 0) refl refl refl)
 
 -- a line that has nothing to do with frames
-abbrev Passes : Body → Type 0
+abbrev Passes : LineBody → Type 0
 Passes b = (opened : Bool) (time : ℕ) (n : ℕ) (a : Actor) (later : List ScriptLine)
     → frames_close opened time (record { number = n; actor = a; body = b } ∷ later) ≡ frames_close opened time later
 
-passed : (s : Script) (n : ℕ) (a : Actor) (b : Body) (opened : Bool) (time : ℕ) → time_begun b ≡ None → ends_frame b ≡ false → Passes b
+passed : (s : Script) (n : ℕ) (a : Actor) (b : LineBody) (opened : Bool) (time : ℕ) → time_begun b ≡ None → ends_frame b ≡ false → Passes b
     → FramesKept s opened time → FramesKept (with_line s n a b) opened time
 passed s n a b opened time none other passes kept =
     let x : ScriptLine = record { number = n; actor = a; body = b } in
@@ -80,7 +80,7 @@ passed s n a b opened time none other passes kept =
 begins : (s : Script) (n t : ℕ) (a : Actor) (time : ℕ) → nat_le time t ≡ true → FramesKept s false time
     → FramesKept (with_line s n a (body.Display (display.Begin t))) true t
 begins s n t a time least kept =
-    let b : Body = body.Display (display.Begin t) in
+    let b : LineBody = body.Display (display.Begin t) in
     let x : ScriptLine = record { number = n; actor = a; body = b } in
     let times : begin_times (with_line s n a b) ≡ begin_times s ++ t ∷ [] = times_after s n a b in
     let ended : dones (with_line s n a b) ≡ dones s + 0 = dones_after s n a b in
@@ -98,7 +98,7 @@ begins s n t a time least kept =
 -- a `done`
 ends : (s : Script) (n : ℕ) (a : Actor) (time : ℕ) → FramesKept s true time → FramesKept (with_line s n a (body.Display display.Done)) false time
 ends s n a time kept =
-    let b : Body = body.Display display.Done in
+    let b : LineBody = body.Display display.Done in
     let x : ScriptLine = record { number = n; actor = a; body = b } in
     let times : begin_times (with_line s n a b) ≡ begin_times s = times_after s n a b ∙ append-nil (begin_times s) in
     let ended : dones (with_line s n a b) ≡ dones s + 1 = dones_after s n a b in
@@ -165,10 +165,10 @@ display_frames s n a (display.Hit x y) opened time kept is =
 display_frames s n a (display.Dpr r) opened time kept is =
     record { opened = opened; time = time; kept = passed s n a (body.Display (display.Dpr r)) opened time refl refl (λ o t k c later. refl) kept }
 
-frames_at : (s : Script) (n : ℕ) (a : Actor) (b c : Body) → b ≡ c → FramesGoOn (with_line s n a b) → FramesGoOn (with_line s n a c)
-frames_at s n a b c e go = let P : Body → Type 0 = λ x. FramesGoOn (with_line s n a x) in subst P e go
+frames_at : (s : Script) (n : ℕ) (a : Actor) (b c : LineBody) → b ≡ c → FramesGoOn (with_line s n a b) → FramesGoOn (with_line s n a c)
+frames_at s n a b c e go = let P : LineBody → Type 0 = λ x. FramesGoOn (with_line s n a x) in subst P e go
 
-pub line_frames : (s : Script) (n : ℕ) (a : Actor) (words : List Word) (b : Body) (opened : Bool) (time : ℕ) → FramesKept s opened time
+pub line_frames : (s : Script) (n : ℕ) (a : Actor) (words : List Word) (b : LineBody) (opened : Bool) (time : ℕ) → FramesKept s opened time
     → actor_line s a words ≡ Ok b → FramesGoOn (with_line s n a b)
 line_frames s n Display words b opened time kept is =
     let m = mapped_ok body.Display (display_line s words) b is in

@@ -10,10 +10,10 @@ use Rattle.flat_base.specs.declared.ids.SessionNo.{SessionNo}
 use Rattle.flat_scene.specs.declared.calls.Call.{Call}
 use Rattle.flat_scene.specs.declared.calls.Call.TheVariants as call
 use Rattle.flat_scene.specs.declared.calls.PresentArgs.{PresentArgs}
-use Rattle.flat_scene.specs.declared.script.Body.{Body}
-use Rattle.flat_scene.specs.declared.script.Body.TheVariants as body
-use Rattle.flat_scene.specs.declared.script.Line.{Line}
-use Rattle.flat_scene.specs.declared.script.Line.TheVariants as line
+use Rattle.flat_scene.specs.declared.script.LineBody.{LineBody}
+use Rattle.flat_scene.specs.declared.script.LineBody.TheVariants as body
+use Rattle.flat_scene.specs.declared.script.SessionLine.{SessionLine}
+use Rattle.flat_scene.specs.declared.script.SessionLine.TheVariants as line
 use Rattle.flat_places.specs.declared.script.Script.{Script}
 use Rattle.flat_places.specs.Forms.{Word, Form, Reading, whole, ◌<$>◌, ◌<*>◌}
 use Rattle.flat_places.specs.Known.{knows}
@@ -62,7 +62,7 @@ call_early : (s : Script) (a : SessionNo) (c : Call) → s.version ≡ 1 → ses
 call_early s a (call.ReplaceChildren p ks) first is = absurd (let wrong = rw first at is in cc)
 call_early s a _ first is = refl
 
-session_early : (s : Script) (a : SessionNo) (l : Line) → s.version ≡ 1 → session_line s a (session_words s l) ≡ Ok l → is_early l ≡ true
+session_early : (s : Script) (a : SessionNo) (l : SessionLine) → s.version ≡ 1 → session_line s a (session_words s l) ≡ Ok l → is_early l ≡ true
 session_early s a (line.Call c) first is = call_early s a c first is
 session_early s a (line.Present p) first is = present_early s a p (decimal p.time ∷ unsquashable_word p.unsquashable ++ lists_words s p) first is
 session_early s a _ first is = refl
@@ -73,7 +73,7 @@ display_unscaled : (s : Script) (n : ℕ) (l : DisplayLine) → nat_lt s.version
 display_unscaled s n (display.Dpr r) early is = absurd (let wrong : true ≡ false = sym early ∙ (ratio_line s r (decimal r ∷ []) is).0 in cc)
 display_unscaled s n _ early is = refl
 
-pub line_unscaled : (s : Script) (n : ℕ) (a : Actor) (words : List Word) (b : Body) → nat_lt s.version RATIO_SINCE ≡ true → actor_line s a words ≡ Ok b
+pub line_unscaled : (s : Script) (n : ℕ) (a : Actor) (words : List Word) (b : LineBody) → nat_lt s.version RATIO_SINCE ≡ true → actor_line s a words ≡ Ok b
     → sets_no_ratio (record { number = n; actor = a; body = b }) ≡ true
 line_unscaled s n Display words b early is =
     let m = mapped_ok body.Display (display_line s words) b is in
@@ -86,7 +86,7 @@ line_unscaled s n (Probe p) words b early is =
     let m = mapped_ok body.Probe (probe_line s.version words) b is in
     ap (λ t. sets_no_ratio (record { number = n; actor = Probe p; body = t })) (sym m.value)
 
-pub line_early : (s : Script) (n : ℕ) (a : Actor) (words : List Word) (b : Body) → s.version ≡ 1 → actor_line s a words ≡ Ok b
+pub line_early : (s : Script) (n : ℕ) (a : Actor) (words : List Word) (b : LineBody) → s.version ≡ 1 → actor_line s a words ≡ Ok b
     → is_of_first_version (record { number = n; actor = a; body = b }) ≡ true
 line_early s n Display words b first is =
     let m = mapped_ok body.Display (display_line s words) b is in

@@ -20,18 +20,18 @@ use Rattle.flat_scene.specs.declared.calls.Call.{Call}
 use Rattle.flat_scene.specs.declared.calls.Call.TheVariants as call
 use Rattle.flat_scene.specs.declared.calls.Inset.{Inset}
 use Rattle.flat_scene.specs.declared.calls.PresentArgs.{PresentArgs}
-use Rattle.flat_scene.specs.declared.script.Line.{Line}
-use Rattle.flat_scene.specs.declared.script.Line.TheVariants as line
+use Rattle.flat_scene.specs.declared.script.SessionLine.{SessionLine}
+use Rattle.flat_scene.specs.declared.script.SessionLine.TheVariants as line
 use Rattle.flat_scene.specs.declared.script.DisplayLine.{DisplayLine}
 use Rattle.flat_scene.specs.declared.script.DisplayLine.TheVariants as display
-use Rattle.flat_scene.specs.declared.script.Body.{Body}
-use Rattle.flat_scene.specs.declared.script.Body.TheVariants as body
+use Rattle.flat_scene.specs.declared.script.LineBody.{LineBody}
+use Rattle.flat_scene.specs.declared.script.LineBody.TheVariants as body
 use Rattle.flat_scene.specs.declared.setup.PairDecl.{PairDecl}
 use Rattle.flat_scene.specs.declared.setup.Setup.{Setup}
 use Rattle.flat_scene.specs.declared.setup.BufferDecl.{BufferDecl}
 use Rattle.flat_scene.specs.declared.setup.FenceDecl.{FenceDecl}
-use Rattle.flat_scene.specs.declared.script.Cond.{Cond}
-use Rattle.flat_scene.specs.declared.script.Cond.TheVariants as asks
+use Rattle.flat_scene.specs.declared.script.WaitCondition.{WaitCondition}
+use Rattle.flat_scene.specs.declared.script.WaitCondition.TheVariants as asks
 use Rattle.flat_scene.specs.History.{is_display, is_session}
 use Rattle.flat_scene.specs.Setups.{is_within, is_declared, is_ratio}
 use Rattle.flat_scene.specs.Heads.{may_own}
@@ -185,7 +185,7 @@ gathered f a g b h c k d l e made first second third fourth fifth =
     ap (λ x. x b c d e) first ∙ ap (λ x. x c d e) second ∙ ap (λ x. x d e) third ∙ ap (λ x. x e) fourth ∙ fifth
 
 -- a call that stands for another in a line is it
-line_of : (made given : Call) (read : Line) → made ≡ given → line.Call given ≡ read → line.Call made ≡ read
+line_of : (made given : Call) (read : SessionLine) → made ≡ given → line.Call given ≡ read → line.Call made ≡ read
 line_of made given read same is = ap line.Call same ∙ is
 
 viewport_from : (setup : Setup) (a : SessionNo) (c d : ContentId) (p q : PairNo) (w h k n : ℕ) (i j : Inset)
@@ -392,7 +392,7 @@ wait_fence_played s a f words is =
     let e : g.0 ≡ f = cc in
     ap (owns_fence s.setup a) (sym e) ∙ tested_owned s a g.1.0 g.0 g.1.1.0
 
-wait_played : (s : Script) (a : SessionNo) (c : Cond) → session_line s a (session_words s (line.Wait c)) ≡ Ok (line.Wait c)
+wait_played : (s : Script) (a : SessionNo) (c : WaitCondition) → session_line s a (session_words s (line.Wait c)) ≡ Ok (line.Wait c)
     → is_played_condition s.setup a c ≡ true
 wait_played s a (asks.Frames n) is = refl
 wait_played s a (asks.Credits n) is = refl
@@ -401,7 +401,7 @@ wait_played s a (asks.Answers n) is = refl
 wait_played s a (asks.Fence f) is = wait_fence_played s a f (fence_name s f ∷ []) is
 wait_played s a (asks.Presents t n) is = absurd (cc)
 
-session_played : (s : Script) (a : SessionNo) (l : Line) → session_line s a (session_words s l) ≡ Ok l → is_played_line s.setup a l ≡ true
+session_played : (s : Script) (a : SessionNo) (l : SessionLine) → session_line s a (session_words s l) ≡ Ok l → is_played_line s.setup a l ≡ true
 session_played s a (line.Call c) is = call_played s a c is
 session_played s a (line.Present p) is = present_by s a p (decimal p.time ∷ unsquashable_word p.unsquashable ++ lists_words s p) is
 session_played s a (line.Get w) is = refl
@@ -433,7 +433,7 @@ display_wait_fence_played s f words is =
 presents_declared : (s : Script) (t : SessionNo) (n : ℕ) (words : List Word) → s.setup.sessions ≡ length s.sessions
     → mapped display.Wait (whole (presents_asked s) words) ≡ Ok (display.Wait (asks.Presents t n)) → is_declared s.setup t ≡ true
 presents_declared s t n words many is =
-    let h : SessionNo → ℕ → Cond = λ x k. asks.Presents x k in
+    let h : SessionNo → ℕ → WaitCondition = λ x k. asks.Presents x k in
     let m = mapped_ok display.Wait (whole (presents_asked s) words) (display.Wait (asks.Presents t n)) is in
     let second = apply_ok (h <$> session s) u32 words m.a [] (whole_ok (presents_asked s) words m.a m.given) in
     let first = map_ok h (session s) words second.g second.mid second.first in
@@ -476,7 +476,7 @@ display_played s (display.Hit x y) many is = refl
 display_played s (display.Dpr r) many is = ratio_played r (decimal r ∷ []) (ratio_line s r (decimal r ∷ []) is).1
 
 -- a line behind its actor
-pub line_played : (s : Script) (a : Actor) (words : List Word) (b : Body) → s.setup.sessions ≡ length s.sessions → may_act s.setup a ≡ true
+pub line_played : (s : Script) (a : Actor) (words : List Word) (b : LineBody) → s.setup.sessions ≡ length s.sessions → may_act s.setup a ≡ true
     → actor_line s a words ≡ Ok b → is_played s.setup a b ≡ true
 line_played s Display words b many may is =
     let m = mapped_ok body.Display (display_line s words) b is in

@@ -4,8 +4,8 @@ use Rattle.std.specs.List.{list_all}
 use Rattle.flat_base.specs.declared.ids.Actor.{Actor}
 use Rattle.flat_base.specs.declared.ids.Actor.TheVariants.{Display, Session, Probe}
 use Rattle.flat_base.specs.declared.limits.TheConstants.{SCRIPT_BYTES_MAX}
-use Rattle.flat_scene.specs.declared.script.Body.{Body}
-use Rattle.flat_scene.specs.declared.script.Body.TheVariants as body
+use Rattle.flat_scene.specs.declared.script.LineBody.{LineBody}
+use Rattle.flat_scene.specs.declared.script.LineBody.TheVariants as body
 use Rattle.flat_scene.specs.declared.script.DisplayLine.TheVariants as display
 use Rattle.flat_scene.specs.declared.script.ScriptLine.{ScriptLine}
 use Rattle.flat_scene.specs.declared.setup.Setup.{Setup}
@@ -21,7 +21,7 @@ rise_from n (next ∷ later) = nat_lt n next.number && rise_from next.number lat
 
 -- A frame begins only where none is open and at no lesser time than the one before, and is done only where one is
 -- open; what follows is tested by whether a frame is open then, and the last time.
-abbrev pub keeps_frames : Bool → ℕ → Body → (Bool → ℕ → Bool) → Bool
+abbrev pub keeps_frames : Bool → ℕ → LineBody → (Bool → ℕ → Bool) → Bool
 keeps_frames is_open time (body.Display (display.Begin t)) follows = not is_open && nat_le time t && follows true t
 keeps_frames is_open time (body.Display display.Done) follows = is_open && follows false time
 keeps_frames is_open time _ follows = follows is_open time
@@ -33,7 +33,7 @@ frames_close is_open time (next ∷ later) =
     keeps_frames is_open time next.body (λ open_then time_then. frames_close open_then time_then later)
 
 -- a line that is played, by whom
-abbrev pub is_played : Setup → Actor → Body → Bool
+abbrev pub is_played : Setup → Actor → LineBody → Bool
 is_played setup (Session s) (body.Session text) = is_declared setup s && is_played_line setup s text
 is_played setup Display (body.Display text) = is_played_display setup text
 is_played setup (Probe p) (body.Probe asked) = nat_lt p setup.probes

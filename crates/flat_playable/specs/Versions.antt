@@ -2,17 +2,17 @@
 use Rattle.std.specs.Prelude.{ℕ, Bool, true, false, not, List, ◌++◌, Option, codes, find}
 use Rattle.std.specs.Fmt.{decimal}
 use Rattle.flat_scene.specs.declared.calls.Call.TheVariants as call
-use Rattle.flat_scene.specs.declared.script.Body.{Body}
-use Rattle.flat_scene.specs.declared.script.Body.TheVariants as body
+use Rattle.flat_scene.specs.declared.script.LineBody.{LineBody}
+use Rattle.flat_scene.specs.declared.script.LineBody.TheVariants as body
 use Rattle.flat_scene.specs.declared.script.DisplayLine.TheVariants as display
-use Rattle.flat_scene.specs.declared.script.Line.{Line}
-use Rattle.flat_scene.specs.declared.script.Line.TheVariants as line
+use Rattle.flat_scene.specs.declared.script.SessionLine.{SessionLine}
+use Rattle.flat_scene.specs.declared.script.SessionLine.TheVariants as line
 use Rattle.flat_scene.specs.declared.script.ScriptLine.{ScriptLine}
 use Rattle.flat_text.specs.Pieces.{lines_of}
 use Rattle.flat_script.specs.Grammar.{is_skipped}
 
 -- neither a present that is unsquashable nor a call that replaces children
-abbrev pub is_early : Line → Bool
+abbrev pub is_early : SessionLine → Bool
 is_early (line.Present present) = not present.unsquashable
 is_early (line.Call (call.ReplaceChildren p children)) = false
 is_early _ = true
@@ -21,7 +21,7 @@ is_early _ = true
 abbrev pub is_of_first_version : ScriptLine → Bool
 is_of_first_version next = of next.body
   where
-    of : Body → Bool
+    of : LineBody → Bool
     of (body.Session text) = is_early text
     of _ = true
 
@@ -29,7 +29,7 @@ is_of_first_version next = of next.body
 abbrev pub sets_no_ratio : ScriptLine → Bool
 sets_no_ratio next = of next.body
   where
-    of : Body → Bool
+    of : LineBody → Bool
     of (body.Display (display.Dpr ratio)) = false
     of _ = true
 

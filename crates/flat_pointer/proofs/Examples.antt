@@ -13,7 +13,7 @@ use Rattle.flat_places.specs.Forms.{Word}
 use Rattle.flat_pointer.specs.declared.pointers.PointerAnswer.TheVariants as answer
 use Rattle.flat_pointer.specs.declared.text.PointerCall.{PointerCall}
 use Rattle.flat_pointer.specs.declared.text.PointerCall.TheVariants.{Down, Move, Up}
-use Rattle.flat_pointer.specs.declared.text.Touch.{Touch}
+use Rattle.flat_pointer.specs.declared.text.PointerTouch.{PointerTouch}
 use Rattle.flat_pointer.specs.Events.{frame, down, move, up, stream_after, cancel_at}
 use Rattle.flat_pointer.specs.Concerns.{answer_to, only, told}
 use Rattle.flat_pointer.specs.Laws.{ends, names}
@@ -72,10 +72,10 @@ nobody_names_no_session = refl
 abbrev shown : ℕ → List ViewNode → FrameOut
 shown n nodes = record { frame = record { 0 = n }; items = []; tree = record { nodes = nodes; apart = [] } }
 
-abbrev says : ℕ → ℕ → PointerCall → List Hit → Touch
+abbrev says : ℕ → ℕ → PointerCall → List Hit → PointerTouch
 says number pointer call hits = record { line = record { number = number; pointer = pointer; call = call }; hits = hits }
 
-abbrev text_lines : List Word → List ℕ → List FrameOut → List Touch → List (List ℕ)
+abbrev text_lines : List Word → List ℕ → List FrameOut → List PointerTouch → List (List ℕ)
 text_lines names dones frames touches = map line_of (all_lines (lines_at names) (λ one before. event_of one ∷ before) []
     (merged (λ touch. touch.line.number) dones frames touches) ++ end_line (length touches) ∷ [])
 

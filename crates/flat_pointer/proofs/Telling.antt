@@ -18,7 +18,7 @@ use Rattle.flat_page.proofs.lemmas.PageLemmas.{then_lines, same_lines}
 use Rattle.flat_page.proofs.lemmas.Telling.{lines-follow, lines-left, all-parted, all-merged}
 use Rattle.flat_pointer.specs.declared.text.PointerCall.{PointerCall}
 use Rattle.flat_pointer.specs.declared.text.PointerCall.TheVariants.{Down, Move, Up}
-use Rattle.flat_pointer.specs.declared.text.Touch.{Touch}
+use Rattle.flat_pointer.specs.declared.text.PointerTouch.{PointerTouch}
 use Rattle.flat_pointer.specs.Streams.{kept_in, cancelled_in}
 use Rattle.flat_pointer.specs.Steps.{Streams, no_streams, stream_of, with_stream, framed_below, framed, after_call, after, lines_with, ArePointers}
 use Rattle.flat_pointer.specs.Events.{PointerEvent}
@@ -73,52 +73,54 @@ all_cancels names number cancelled p end writes = same_lines (ap (λ k. flat_map
 
 -- ---- which pointers
 
-abbrev is_pointer : Touch → Bool
+abbrev is_pointer : PointerTouch → Bool
 is_pointer touch = nat_lt touch.line.pointer 16
 
-low : (touch : Touch) → is_pointer touch ≡ true → touch.line.pointer < 16
+low : (touch : PointerTouch) → is_pointer touch ≡ true → touch.line.pointer < 16
 low touch is = grind (arith, nat_tests)
 
-pub pointer_at : (touches : List Touch) (i : ℕ) (one : Touch) → i < length touches → one ≡ get_or touches i one → ArePointers touches → one.line.pointer < 16
+pub pointer_at : (touches : List PointerTouch) (i : ℕ) (one : PointerTouch) → i < length touches → one ≡ get_or touches i one → ArePointers touches
+    → one.line.pointer < 16
 pointer_at [] i one within at are = absurd (omega arith)
 pointer_at (touch ∷ touches) zero one within at are =
-    subst (λ (t : Touch). t.line.pointer < 16) (sym at) (low touch (and-left (is_pointer touch) (list_all is_pointer touches) are.all))
+    subst (λ (t : PointerTouch). t.line.pointer < 16) (sym at) (low touch (and-left (is_pointer touch) (list_all is_pointer touches) are.all))
 pointer_at (touch ∷ touches) (suc i) one within at are =
     pointer_at touches i one (omega arith) at (record { all = and-right (is_pointer touch) (list_all is_pointer touches) are.all })
 
-pub pointers_parted : (touches : List Touch) (n : ℕ) → ArePointers touches → ArePointers (take n touches) × ArePointers (drop n touches)
+pub pointers_parted : (touches : List PointerTouch) (n : ℕ) → ArePointers touches → ArePointers (take n touches) × ArePointers (drop n touches)
 pointers_parted touches n are = let both = all-parted is_pointer n touches are.all in (record { all = both.0 }, record { all = both.1 })
 
 -- ---- events
 
-abbrev is_one : Happening Touch → Bool
+abbrev is_one : Happening PointerTouch → Bool
 is_one (finished out) = true
 is_one (said touch) = is_pointer touch
 
-line-follows : (names : List Word) (before : List PointerEvent) (one : Happening Touch) → is_one one ≡ true
+line-follows : (names : List Word) (before : List PointerEvent) (one : Happening PointerTouch) → is_one one ≡ true
     → lines_with names (streams_after before) one ≡ lines_at names before one
 line-follows names before (finished out) is = refl
 line-follows names before (said touch) is =
     ap (λ (o : Option SessionNo). touch_line names touch.line (call_answer o touch.hits touch.line.call) ∷ [])
     (stream-here before touch.line.pointer (low touch is))
 
-call-follows : (before : List PointerEvent) (touch : Touch) (call : PointerCall) → touch.line.pointer < 16
+call-follows : (before : List PointerEvent) (touch : PointerTouch) (call : PointerCall) → touch.line.pointer < 16
     → after_call (streams_after before) touch.line.pointer touch.hits call ≡ streams_after (called touch.line.pointer touch.hits call ∷ before)
 call-follows before touch (Down x y) one = (calls-follow before).downs touch.line.pointer touch.hits one
 call-follows before touch (Move x y) one = (calls-follow before).moves touch.line.pointer
 call-follows before touch Up one = (calls-follow before).ups touch.line.pointer one
 
-after-follows : (before : List PointerEvent) (one : Happening Touch) → is_one one ≡ true
+after-follows : (before : List PointerEvent) (one : Happening PointerTouch) → is_one one ≡ true
     → after one (streams_after before) ≡ streams_after (event_of one ∷ before)
 after-follows before (finished out) is = (calls-follow before).frames out.tree.nodes
 after-follows before (said touch) is = call-follows before touch touch.line.call (low touch is)
 
-pub merged-follows : (names : List Word) (number : Touch → ℕ) (dones : List ℕ) (frames : List FrameOut) (touches : List Touch) → ArePointers touches
+pub merged-follows : (names : List Word) (number : PointerTouch → ℕ) (dones : List ℕ) (frames : List FrameOut) (touches : List PointerTouch)
+    → ArePointers touches
     → all_lines (lines_with names) after no_streams (merged number dones frames touches)
     ≡ all_lines (lines_at names) (λ one before. event_of one ∷ before) [] (merged number dones frames touches)
 merged-follows names number dones frames touches are =
     let none : no_streams ≡ streams_after [] = refl in
-    let all : List (Happening Touch) = merged number dones frames touches in
+    let all : List (Happening PointerTouch) = merged number dones frames touches in
     ap (λ (s : Streams). all_lines (lines_with names) after s all) none
     ∙ lines-follow (lines_with names) after (lines_at names) (λ one before. event_of one ∷ before) streams_after is_one (line-follows names) after-follows all
     []

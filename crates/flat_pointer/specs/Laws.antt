@@ -12,7 +12,7 @@ use Rattle.flat_pointer.specs.declared.pointers.PointerAnswer.TheVariants.{Down,
 use Rattle.flat_scene.specs.ViewTrees.{is_node}
 use Rattle.flat_page.specs.Steps.{without_items}
 use Rattle.flat_places.specs.Forms.{Word}
-use Rattle.flat_pointer.specs.declared.text.Touch.{Touch}
+use Rattle.flat_pointer.specs.declared.text.PointerTouch.{PointerTouch}
 use Rattle.flat_pointer.specs.Text.{pointer_text}
 use Rattle.flat_pointer.specs.Streams.{after_down, kept_in, cancelled_in}
 use Rattle.flat_pointer.specs.Steps.{no_streams, stream_of, with_stream, framed_below, framed}
@@ -92,7 +92,7 @@ OneSession = (p : ℕ) (s : SessionNo) (hits : List Hit) (before during : List P
 
 -- a text hangs on the numbers and the view trees of its frames alone: draw items play no part
 abbrev pub ItemsPlayNoPart : Type 0
-ItemsPlayNoPart = (names : List Word) (dones : List ℕ) (frames : List FrameOut) (touches : List Touch)
+ItemsPlayNoPart = (names : List Word) (dones : List ℕ) (frames : List FrameOut) (touches : List PointerTouch)
     → pointer_text names dones (map without_items frames) touches ≡ pointer_text names dones frames touches
 
 -- ---- one pointer

@@ -11,7 +11,7 @@ use Rattle.flat_page.specs.Happenings.{Happening, finished, said}
 use Rattle.flat_places.specs.Forms.{Word}
 use Rattle.flat_pointer.specs.declared.text.PointerCall.{PointerCall}
 use Rattle.flat_pointer.specs.declared.text.PointerCall.TheVariants.{Down, Move, Up}
-use Rattle.flat_pointer.specs.declared.text.Touch.{Touch}
+use Rattle.flat_pointer.specs.declared.text.PointerTouch.{PointerTouch}
 use Rattle.flat_pointer.specs.Events.{frame}
 use Rattle.flat_pointer.specs.Text.{call_answer, frame_lines, touch_line}
 
@@ -47,17 +47,17 @@ after_call streams p hits (Move x y) = streams
 after_call streams p hits Up = with_stream streams p None
 
 -- the streams after one thing more
-abbrev pub after : Happening Touch → Streams → Streams
+abbrev pub after : Happening PointerTouch → Streams → Streams
 after (finished out) streams = framed out.tree.nodes streams
 after (said touch) streams = after_call streams touch.line.pointer touch.hits touch.line.call
 
 -- what is written of one thing that happens, where these are the streams before it
-abbrev pub lines_with : List Word → Streams → Happening Touch → List (List Word)
+abbrev pub lines_with : List Word → Streams → Happening PointerTouch → List (List Word)
 lines_with names streams (finished out) =
     frame_lines names out.frame.0 (λ p. cancelled_in out.tree.nodes (stream_of streams p))
 lines_with names streams (said touch) = touch_line names touch.line
     (call_answer (stream_of streams touch.line.pointer) touch.hits touch.line.call) ∷ []
 
 -- each line is one of the sixteen pointers'
-pub record ArePointers (touches : List Touch) : Type 0 where
+pub record ArePointers (touches : List PointerTouch) : Type 0 where
   pub all : IsTrue (list_all (λ touch. nat_lt touch.line.pointer POINTERS) touches)

@@ -13,7 +13,7 @@ use Rattle.flat_pointer.specs.declared.pointers.PointerAnswer.TheVariants as ans
 use Rattle.flat_pointer.specs.declared.text.PointerCall.{PointerCall}
 use Rattle.flat_pointer.specs.declared.text.PointerCall.TheVariants.{Down, Move, Up}
 use Rattle.flat_pointer.specs.declared.text.PointerLine.{PointerLine}
-use Rattle.flat_pointer.specs.declared.text.Touch.{Touch}
+use Rattle.flat_pointer.specs.declared.text.PointerTouch.{PointerTouch}
 use Rattle.flat_pointer.specs.declared.pointers.TheConstants.{POINTERS}
 use Rattle.flat_pointer.specs.Streams.{down_answer, move_answer, up_answer}
 use Rattle.flat_pointer.specs.Events.{PointerEvent, frame, down, move, up, stream_after, cancel_at}
@@ -61,7 +61,7 @@ called p hits (Down x y) = down p hits
 called p hits (Move x y) = move p
 called p hits Up = up p
 
-abbrev pub event_of : Happening Touch → PointerEvent
+abbrev pub event_of : Happening PointerTouch → PointerEvent
 event_of (finished out) = frame out.tree.nodes
 event_of (said touch) = called touch.line.pointer touch.hits touch.line.call
 
@@ -72,13 +72,13 @@ call_answer stream hits (Move x y) = move_answer stream
 call_answer stream hits Up = up_answer stream
 
 -- what is written of one thing that happens, where these events were before, the newest first
-abbrev pub lines_at : List Word → List PointerEvent → Happening Touch → List (List Word)
+abbrev pub lines_at : List Word → List PointerEvent → Happening PointerTouch → List (List Word)
 lines_at names before (finished out) = frame_lines names out.frame.0 (λ p. cancel_at p before (frame out.tree.nodes))
 lines_at names before (said touch) =
     touch_line names touch.line (call_answer (stream_after touch.line.pointer before) touch.hits touch.line.call) ∷ []
 
 -- the text of finished frames, of the numbers of the lines that finished them, and of the pointers' lines
-abbrev pub pointer_text : List Word → List ℕ → List FrameOut → List Touch → List ℕ
+abbrev pub pointer_text : List Word → List ℕ → List FrameOut → List PointerTouch → List ℕ
 pointer_text names dones frames touches =
     text_of (all_lines (lines_at names) (λ one before. event_of one ∷ before) []
     (merged (λ touch. touch.line.number) dones frames touches) ++ end_line (length touches) ∷ [])

@@ -10,4 +10,4 @@ mod text;
 
 pub use laws::pointer_laws;
 pub use pointers::{POINTERS, PointerAnswer, Pointers};
-pub use text::{PointerCall, PointerLine, PointerLines, Touch, print_pointers};
+pub use text::{PointerCall, PointerLine, PointerLines, PointerTouch, print_pointers};

@@ -38,7 +38,7 @@ pub type PointerLines = Items<PointerLine>;
 
 /// A line of a pointer, and whom its point hits, where it goes down.
 #[derive(Drop)]
-pub struct Touch {
+pub struct PointerTouch {
     pub line: PointerLine,
     pub hits: HitList,
 }
@@ -205,7 +205,7 @@ fn push_title(page: &mut Page, frame: u32) -> Result<(), NoMemory>
 }
 
 /// What a pointer's line is answered.
-fn answer(pointers: &mut Pointers, touch: &Touch) -> PointerAnswer
+fn answer(pointers: &mut Pointers, touch: &PointerTouch) -> PointerAnswer
     requires { touch.now.line.pointer < POINTERS }
     ensures answer { result ≡ call_answer (stream_of pointers.old touch.now.line.pointer)
         touch.now.hits touch.now.line.call }
@@ -224,7 +224,7 @@ fn push_touch(
     page: &mut Page,
     names: &NameList,
     pointers: &mut Pointers,
-    one: &Touch,
+    one: &PointerTouch,
 ) -> Result<(), NoMemory>
     requires { one.now.line.pointer < POINTERS }
     ensures text { OnOk result (WritesLines (touch_line names.now one.now.line
@@ -242,7 +242,7 @@ fn push_touches(
     page: &mut Page,
     names: &NameList,
     pointers: &mut Pointers,
-    touches: &[Touch],
+    touches: &[PointerTouch],
 ) -> Result<(), NoMemory>
     requires { ArePointers touches.now }
     ensures text { OnOk result (WritesLines (all_lines (lines_with names.now) after pointers.old
@@ -277,7 +277,7 @@ fn push_done(
     page: &mut Page,
     names: &NameList,
     pointers: &mut Pointers,
-    early: &[Touch],
+    early: &[PointerTouch],
     frame: &FrameOut,
 ) -> Result<(), NoMemory>
     requires { ArePointers early.now }
@@ -292,7 +292,7 @@ fn push_done(
 }
 
 /// How many of the lines, from the first, stand before that of a number.
-fn count_before(touches: &[Touch], done: u32) -> usize
+fn count_before(touches: &[PointerTouch], done: u32) -> usize
     ensures { result ≡ count_before (λ touch. touch.line.number) done touches.now }
 {
     touches
@@ -308,7 +308,7 @@ fn push_happenings(
     pointers: &mut Pointers,
     dones: &[u32],
     frames: &[FrameOut],
-    touches: &[Touch],
+    touches: &[PointerTouch],
 ) -> Result<(), NoMemory>
     requires { ArePointers touches.now }
     ensures { OnOk result (WritesLines (all_lines (lines_with names.now) after pointers.old
@@ -333,7 +333,7 @@ fn push_text(
     names: &NameList,
     dones: &[u32],
     frames: &[FrameOut],
-    touches: &[Touch],
+    touches: &[PointerTouch],
 ) -> Result<(), NoMemory>
     requires { ArePointers touches.now }
     ensures { OnOk result (WritesLines (all_lines (lines_with names.now) after no_streams
@@ -354,7 +354,7 @@ pub fn print_pointers(
     names: &NameList,
     dones: &[u32],
     frames: &[FrameOut],
-    touches: &[Touch],
+    touches: &[PointerTouch],
 ) -> Result<Vec<u8>, NoMemory>
     requires { ArePointers touches.now }
     ensures { IfOk result (λ text. text.items ≡ pointer_text names.now dones.now frames.now

@@ -21,16 +21,16 @@ use Rattle.flat_scene.specs.declared.calls.Watch.{Watch}
 use Rattle.flat_scene.specs.declared.calls.Watch.TheVariants as watch
 use Rattle.flat_scene.specs.declared.calls.Call.{Call}
 use Rattle.flat_scene.specs.declared.calls.Call.TheVariants as call
-use Rattle.flat_scene.specs.declared.script.Cond.{Cond}
-use Rattle.flat_scene.specs.declared.script.Cond.TheVariants as cond
-use Rattle.flat_scene.specs.declared.script.Line.{Line}
-use Rattle.flat_scene.specs.declared.script.Line.TheVariants as line
+use Rattle.flat_scene.specs.declared.script.WaitCondition.{WaitCondition}
+use Rattle.flat_scene.specs.declared.script.WaitCondition.TheVariants as cond
+use Rattle.flat_scene.specs.declared.script.SessionLine.{SessionLine}
+use Rattle.flat_scene.specs.declared.script.SessionLine.TheVariants as line
 use Rattle.flat_scene.specs.declared.script.DisplayLine.{DisplayLine}
 use Rattle.flat_scene.specs.declared.script.DisplayLine.TheVariants as display
 use Rattle.flat_scene.specs.declared.script.ProbeLine.{ProbeLine}
 use Rattle.flat_scene.specs.declared.script.ProbeLine.TheVariants as probe
-use Rattle.flat_scene.specs.declared.script.Body.{Body}
-use Rattle.flat_scene.specs.declared.script.Body.TheVariants as body
+use Rattle.flat_scene.specs.declared.script.LineBody.{LineBody}
+use Rattle.flat_scene.specs.declared.script.LineBody.TheVariants as body
 use Rattle.flat_scene.specs.declared.script.ScriptLine.{ScriptLine}
 use Rattle.flat_scene.specs.declared.setup.PairDecl.{PairDecl}
 use Rattle.flat_scene.specs.declared.setup.BufferDecl.{BufferDecl}
@@ -215,7 +215,7 @@ abbrev pub present_words : Script → PresentArgs → List Word
 present_words s p = codes "Present" ∷ decimal p.time ∷ unsquashable_word p.unsquashable ++ lists_words s p
 
 -- what a Wait asks for
-abbrev pub condition_words : Script → Cond → List Word
+abbrev pub condition_words : Script → WaitCondition → List Word
 condition_words s (cond.Frames n) = codes "frames" ∷ numbers (n ∷ [])
 condition_words s (cond.Credits n) = codes "credits" ∷ numbers (n ∷ [])
 condition_words s (cond.Taken n) = codes "taken" ∷ numbers (n ∷ [])
@@ -230,7 +230,7 @@ get_words watch.Status = codes "GetStatus" ∷ []
 get_words (watch.Child c) = codes "GetChildStatus" ∷ numbers (c.0 ∷ [])
 
 -- a line of a session
-abbrev pub session_words : Script → Line → List Word
+abbrev pub session_words : Script → SessionLine → List Word
 session_words s (line.Call c) = call_words s c
 session_words s (line.Present p) = present_words s p
 session_words s (line.Get w) = get_words w
@@ -254,7 +254,7 @@ probe_words (probe.Hit x y) = codes "hit" ∷ signed_decimal x ∷ signed_decima
 probe_words (probe.Await n) = codes "await" ∷ numbers (n ∷ [])
 
 -- what stands behind an actor
-abbrev pub body_words : Script → Body → List Word
+abbrev pub body_words : Script → LineBody → List Word
 body_words s (body.Session l) = session_words s l
 body_words s (body.Display l) = display_words s l
 body_words s (body.Probe l) = probe_words l

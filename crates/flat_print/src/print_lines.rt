@@ -11,7 +11,9 @@ use crate::print_words::{fence_word, push_list, session_word};
 use flat_base::{ContentId, NoMemory, SessionNo};
 use flat_page::Page;
 use flat_places::Script;
-use flat_scene::{Body, Cond, DisplayLine, Line, PresentArgs, ProbeLine, Watch};
+use flat_scene::{
+    DisplayLine, LineBody, PresentArgs, ProbeLine, SessionLine, WaitCondition, Watch,
+};
 
 fn push_present(page: &mut Page, script: &Script, present: &PresentArgs) -> Result<(), NoMemory>
     ensures { OnOk result (Writes (present_words script.now present.now) page.old
@@ -43,17 +45,21 @@ fn push_lists(page: &mut Page, script: &Script, present: &PresentArgs) -> Result
     Ok(())
 }
 
-fn push_condition(page: &mut Page, script: &Script, condition: Cond) -> Result<(), NoMemory>
+fn push_condition(
+    page: &mut Page,
+    script: &Script,
+    condition: WaitCondition,
+) -> Result<(), NoMemory>
     ensures { OnOk result (Writes (condition_words script.now condition) page.old
         page.new) }
 {
     match condition {
-        Cond::Frames(n) => push_count(page, "frames", n),
-        Cond::Credits(n) => push_count(page, "credits", n),
-        Cond::Taken(n) => push_count(page, "taken", n),
-        Cond::Answers(n) => push_count(page, "answers", n),
-        Cond::Fence(f) => push_named(page, "fence", fence_word(script, f)),
-        Cond::Presents(a, n) => push_presents(page, script, a, n),
+        WaitCondition::Frames(n) => push_count(page, "frames", n),
+        WaitCondition::Credits(n) => push_count(page, "credits", n),
+        WaitCondition::Taken(n) => push_count(page, "taken", n),
+        WaitCondition::Answers(n) => push_count(page, "answers", n),
+        WaitCondition::Fence(f) => push_named(page, "fence", fence_word(script, f)),
+        WaitCondition::Presents(a, n) => push_presents(page, script, a, n),
     }
 }
 
@@ -106,7 +112,7 @@ fn push_child(page: &mut Page, c: ContentId) -> Result<(), NoMemory>
     Ok(())
 }
 
-fn push_wait(page: &mut Page, script: &Script, condition: Cond) -> Result<(), NoMemory>
+fn push_wait(page: &mut Page, script: &Script, condition: WaitCondition) -> Result<(), NoMemory>
     ensures { OnOk result (Writes (codes "Wait" ∷ condition_words script.now condition)
         page.old page.new) }
 {
@@ -132,17 +138,17 @@ fn push_time(page: &mut Page, time: u64) -> Result<(), NoMemory>
     Ok(())
 }
 
-fn push_session_line(page: &mut Page, script: &Script, line: &Line) -> Result<(), NoMemory>
+fn push_session_line(page: &mut Page, script: &Script, line: &SessionLine) -> Result<(), NoMemory>
     ensures { OnOk result (Writes (session_words script.now line.now) page.old page.new) }
 {
     match line {
-        Line::Call(call) => push_call(page, script, call),
-        Line::Present(present) => push_present(page, script, present),
-        Line::Get(watch) => push_get(page, *watch),
-        Line::Signal(f) => push_named(page, "Signal", fence_word(script, *f)),
-        Line::Poll => page.word(b"Poll"),
-        Line::Wait(condition) => push_wait(page, script, *condition),
-        Line::Disconnect => page.word(b"Disconnect"),
+        SessionLine::Call(call) => push_call(page, script, call),
+        SessionLine::Present(present) => push_present(page, script, present),
+        SessionLine::Get(watch) => push_get(page, *watch),
+        SessionLine::Signal(f) => push_named(page, "Signal", fence_word(script, *f)),
+        SessionLine::Poll => page.word(b"Poll"),
+        SessionLine::Wait(condition) => push_wait(page, script, *condition),
+        SessionLine::Disconnect => page.word(b"Disconnect"),
     }
 }
 
@@ -169,12 +175,12 @@ fn push_probe_line(page: &mut Page, line: ProbeLine) -> Result<(), NoMemory>
 }
 
 /// What stands behind an actor.
-pub fn push_body(page: &mut Page, script: &Script, body: &Body) -> Result<(), NoMemory>
+pub fn push_body(page: &mut Page, script: &Script, body: &LineBody) -> Result<(), NoMemory>
     ensures { OnOk result (Writes (body_words script.now body.now) page.old page.new) }
 {
     match body {
-        Body::Session(line) => push_session_line(page, script, line),
-        Body::Display(line) => push_display_line(page, script, *line),
-        Body::Probe(line) => push_probe_line(page, *line),
+        LineBody::Session(line) => push_session_line(page, script, line),
+        LineBody::Display(line) => push_display_line(page, script, *line),
+        LineBody::Probe(line) => push_probe_line(page, *line),
     }
 }

@@ -3,18 +3,18 @@ use Rattle.std.specs.Prelude.{⊤}
 use Rattle.std.proofs.Common.{◌≡◌, ◌||◌, ℕ, true, false, List, [], ◌∷◌, length, map, Option, None, Some, IsTrue, refl, sym, ap, ◌∙◌, subst, arith}
 use Rattle.flat_io.specs.Counts.{has_risen}
 use Rattle.flat_scene.specs.declared.frames.FrameOut.{FrameOut}
-use Rattle.flat_scene.specs.declared.frames.Lost.{Lost}
+use Rattle.flat_scene.specs.declared.frames.LostDisplay.{LostDisplay}
 use Rattle.std.proofs.lemmas.Bool.{eq-eqb}
 use Rattle.flat_display.specs.Had.{AreDriven, AreKept, HasHad}
 use Rattle.flat_display.specs.Lost.{is_lost}
-use Rattle.flat_words.specs.declared.form.Form.{Form}
+use Rattle.flat_words.specs.declared.service_word.ServiceWord.{ServiceWord}
 use Rattle.flat_run.specs.Promise.{IsAnswer, IsCutOff, IsTold, IsWhole}
 use Rattle.flat_run.specs.Serving.{Serves, SinkState, SourceState}
 use Rattle.flat_run.proofs.lemmas.Serving.{serves_nothing}
 use Rattle.flat_prog.specs.Status.{Says}
 
 -- a display whose count of faults is 0 is never lost
-never_lost : (lost : List Lost) (frames : List FrameOut) → AreDriven {D = ⊤} (λ _. None) (λ _. 0) lost frames (tt ∷ []) (tt ∷ []) → lost ≡ []
+never_lost : (lost : List LostDisplay) (frames : List FrameOut) → AreDriven {D = ⊤} (λ _. None) (λ _. 0) lost frames (tt ∷ []) (tt ∷ []) → lost ≡ []
 never_lost [] frames driven = refl
 never_lost (l ∷ ls) frames driven =
     let from = driven.lost_displays.0 in
@@ -30,7 +30,8 @@ said words source source' sink sink' status serves = record { serves = serves; u
 
 -- A display of any type whose count of faults is 0, before a call and after it.
 module _ {D : Type 0} (shown : D → Option (List FrameOut)) (faults : D → ℕ) (d d' : D) (none : faults d ≡ 0) (none' : faults d' ≡ 0) where
-  quiet_had : (lost : List Lost) (frames : List FrameOut) → HasHad shown faults lost frames 1 d d' → HasHad {D = ⊤} (λ _. None) (λ _. 0) lost frames 1 tt tt
+  quiet_had : (lost : List LostDisplay) (frames : List FrameOut) → HasHad shown faults lost frames 1 d d'
+      → HasHad {D = ⊤} (λ _. None) (λ _. 0) lost frames 1 tt tt
   quiet_had lost frames had = record {
     gains = tt;
     grows = omega arith;
@@ -42,7 +43,7 @@ module _ {D : Type 0} (shown : D → Option (List FrameOut)) (faults : D → ℕ
     steady = λ _. refl;
   }
 
-  quiet_driven : (lost : List Lost) (frames : List FrameOut) → AreDriven shown faults lost frames (d ∷ []) (d' ∷ [])
+  quiet_driven : (lost : List LostDisplay) (frames : List FrameOut) → AreDriven shown faults lost frames (d ∷ []) (d' ∷ [])
       → AreDriven {D = ⊤} (λ _. None) (λ _. 0) lost frames (tt ∷ []) (tt ∷ [])
   quiet_driven lost frames driven = record {
     have_had = (quiet_had lost frames driven.have_had.0, tt);

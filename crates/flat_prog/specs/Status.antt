@@ -1,7 +1,7 @@
 -- What the program answers, over any source and sink.
 use Rattle.std.specs.Prelude.{◌≡◌, ⊤, ℕ, List, [], ◌∷◌, drop, None, Result, Ok, Err}
 use Rattle.flat_scene.specs.declared.frames.FrameOut.{FrameOut}
-use Rattle.flat_scene.specs.declared.frames.Lost.{Lost}
+use Rattle.flat_scene.specs.declared.frames.LostDisplay.{LostDisplay}
 use Rattle.flat_display.specs.Had.{AreDriven}
 use Rattle.flat_run.specs.Serving.{Serves, SinkState, SourceState}
 
@@ -15,5 +15,5 @@ pub record Says (words : List (List ℕ)) (source source' : SourceState) (sink s
     (status : ℕ) : Type 0 where
   pub serves : Serves {D = ⊤} (λ _. None) (λ _. 0) {K = ⊤} (λ _. tt) words source source' sink sink' (tt ∷ [])
       (tt ∷ []) status
-  pub unlost : (lost : List Lost) (frames : List FrameOut)
+  pub unlost : (lost : List LostDisplay) (frames : List FrameOut)
       → AreDriven {D = ⊤} (λ _. None) (λ _. 0) lost frames (tt ∷ []) (tt ∷ []) → lost ≡ []

@@ -4,10 +4,10 @@ ghost use Rattle.std.specs.String.{string_bytes};
 ghost use Rattle.std.specs.Vec.Iter.{into_iter_items};
 ghost use Rattle.flat_prog.specs.Status.{Says, words_given};
 
-use flat_display::{Display, Tally};
+use flat_display::{CountingDisplay, Display};
 use flat_io::{Sink, Source};
 use flat_race::OpenGate;
-use flat_run::flatland;
+use flat_run::{RaceHost, flatland};
 use std::alloc::{AllocError, Global};
 use std::env::Args;
 use std::io;
@@ -59,16 +59,12 @@ fn answer<T: Threads + Wait + Sync, R: Source, W: Sink>(
     ensures sink { OnErr result (sink.new ≡ sink.old) }
 {
     let mut displays: Vec<Box<dyn Display>> = Vec::new(alloc);
-    displays.push(Box::new(alloc, Tally::new())?)?;
-    Ok(flatland(
-        threads,
-        alloc,
-        words,
-        source,
-        sink,
-        &mut displays,
-        &OpenGate,
-    ))
+    displays.push(Box::new(alloc, CountingDisplay::new())?)?;
+    let host = RaceHost {
+        rt: threads,
+        gate: &OpenGate,
+    };
+    Ok(flatland(&host, alloc, words, source, sink, &mut displays))
 }
 
 /// The status of a call with the words that are given, of which the first is the

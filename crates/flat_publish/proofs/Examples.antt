@@ -1,12 +1,12 @@
 -- The definitions, computed on small lists of frames.
 use Rattle.std.proofs.Common.{ℕ, ◌≡◌, refl, [], ◌∷◌, List, Option, None, Some, pos}
 use Rattle.flat_scene.specs.declared.frames.Hit.{Hit}
-use Rattle.flat_topology.specs.declared.Joined.{Joined}
+use Rattle.flat_topology.specs.declared.GlobalTopology.{GlobalTopology}
 use Rattle.flat_publish.specs.declared.frame.Frame.{Frame}
 use Rattle.flat_publish.specs.Frames.{last_of, last_number, frame_hits, frame}
 
 -- three frames, with one joined list each
-module _ (one two three : Joined) where
+module _ (one two three : GlobalTopology) where
   abbrev frames : List Frame
   frames = frame 1 one ∷ frame 4 two ∷ frame 7 three ∷ []
 

@@ -2,7 +2,7 @@
 use Rattle.std.specs.Prelude.{ℕ, ℤ, ◌<◌, List, [], ◌∷◌, Option, Some, None}
 use Rattle.flat_publish.specs.declared.frame.Frame.{Frame}
 use Rattle.flat_scene.specs.declared.frames.Hit.{Hit}
-use Rattle.flat_topology.specs.declared.Joined.{Joined}
+use Rattle.flat_topology.specs.declared.GlobalTopology.{GlobalTopology}
 use Rattle.flat_topology.specs.Hits.{hits_among}
 
 -- the last of these frames, or the one before them
@@ -38,5 +38,5 @@ frame_hits None x y = []
 frame_hits (Some frame) x y = hits_among frame.joined.nodes x y
 
 -- a frame of a number
-abbrev pub frame : ℕ → Joined → Frame
+abbrev pub frame : ℕ → GlobalTopology → Frame
 frame n joined = record { number = record { 0 = n }; joined = joined }

@@ -2,22 +2,22 @@
 //! proofs alone. Its one word holds the number of the last frame. The contracts of
 //! `left_right` can't say that two readers see one list; the book does, and costs no byte.
 use flat_base::FrameNo;
-use flat_hit::Touchable;
-use flat_topology::Joined;
+use flat_hit::HitIndex;
+use flat_topology::GlobalTopology;
 use logbook::{Gain, Plain, Play, Rule, Seen, Word};
 use std::sync::Arc;
 
 /// A frame as contracts see it. No value of it is made.
 pub struct Frame {
     pub number: FrameNo,
-    pub joined: Joined,
+    pub joined: GlobalTopology,
 }
 
 /// A frame as it is kept.
 #[derive(Drop)]
 pub struct Numbered {
     pub number: FrameNo,
-    pub joined: Arc<Touchable>,
+    pub joined: Arc<HitIndex>,
 }
 
 /// The rule of the book: its word is the number of the last frame, and the numbers rise.

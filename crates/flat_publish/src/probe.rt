@@ -6,7 +6,7 @@ ghost use Rattle.left_right.specs.Sides.{view};
 ghost use Rattle.flat_publish.specs.State.{newcomer};
 ghost use Rattle.flat_publish.specs.Frames.{last_of, last_number, IsRising, frame_hits};
 
-use crate::latest::Latest;
+use crate::latest_frame::LatestFrame;
 use crate::rule::{LatestReader, Looked};
 use flat_base::{FrameNo, NoMemory};
 use flat_scene::HitList;
@@ -19,7 +19,7 @@ use std::marker::Model;
 #[derive(Drop)]
 pub struct Probe {
     reader: Option<LatestReader>,
-    kept: Latest,
+    kept: LatestFrame,
 }
 
 impl Model for Probe {
@@ -35,7 +35,7 @@ impl Model for Probe {
 }
 
 impl Probe {
-    pub(crate) fn new(reader: LatestReader, kept: Latest) -> Probe
+    pub(crate) fn new(reader: LatestReader, kept: LatestFrame) -> Probe
         requires { view reader.place ≡ Some kept.home }
         ensures { result ≡ kept }
     {
@@ -66,7 +66,7 @@ impl Probe {
         }
     }
 
-    pub(crate) fn follow(&mut self, latest: &Latest) -> Result<(), NoMemory>
+    pub(crate) fn follow(&mut self, latest: &LatestFrame) -> Result<(), NoMemory>
         requires { latest.now.home ≡ self.old.home }
         ensures home { self.new.home ≡ self.old.home }
         ensures grows { IsPrefix self.old.frames self.new.frames }

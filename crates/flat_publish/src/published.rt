@@ -13,13 +13,13 @@ ghost use Rattle.std.specs.Arc.{arc_value};
 use crate::frame::{
     Frame, FrameAdded, FramesRise, FramesSeen, LastNumber, NothingGained, Numbered,
 };
-use crate::latest::Latest;
+use crate::latest_frame::LatestFrame;
 use crate::probe::Probe;
-use crate::rule::{HomeTold, LatestWriter, NextShown};
+use crate::rule::{BookIdentityTold, LatestWriter, NextShown};
 use crate::seats::ProbeSeats;
 use core::mem::replace_with;
 use flat_base::{FrameNo, NoMemory};
-use flat_hit::Touchable;
+use flat_hit::HitIndex;
 use left_right::writer::Writer;
 use logbook::{Offer, Seen, Start, Word};
 use std::alloc::Global;
@@ -32,7 +32,7 @@ fn add_frame(
     newest: &mut FramesSeen,
     old: u32,
     numbered: Numbered,
-) -> Result<Latest, NoMemory>
+) -> Result<LatestFrame, NoMemory>
     requires head { head.now ≡ head_of newest.old.book }
     requires old { old ≡ last_number newest.old.log }
     requires above { old < numbered.number.0 }
@@ -57,7 +57,7 @@ fn add_frame(
         return Err(NoMemory);
     }
     *newest = seen.again();
-    Ok(Latest::of(numbered, seen))
+    Ok(LatestFrame::of(numbered, seen))
 }
 
 // Shows what is pending. It waits for probes that still read the copy from before the
@@ -82,7 +82,7 @@ fn show<R: Wait>(writer: LatestWriter, rt: &R) -> (LatestWriter, Result<(), NoMe
 fn send<R: Wait>(
     mut writer: LatestWriter,
     rt: &R,
-    latest: Latest,
+    latest: LatestFrame,
 ) -> (LatestWriter, Result<(), NoMemory>)
     requires { latest.home ≡ writer.desk.shown.value.home }
     ensures shown { OnOk result.1 (result.0.desk.shown.value ≡ latest) }
@@ -107,8 +107,8 @@ fn seat(writer: &mut LatestWriter, seen: &FramesSeen) -> Result<Probe, NoMemory>
     let Ok(mut reader) = writer.factory().reader() else {
         return Err(NoMemory);
     };
-    reader.learn::<HomeTold>(writer.tell::<HomeTold>());
-    Ok(Probe::new(reader, Latest::none(seen.again())))
+    reader.learn::<BookIdentityTold>(writer.tell::<BookIdentityTold>());
+    Ok(Probe::new(reader, LatestFrame::none(seen.again())))
 }
 
 // So many of them.
@@ -186,7 +186,10 @@ impl Published {
     {
         let (newest, mut first, _second) = Seen::open(Start::alone(), 0, 0);
         let head = Word::tracked(0, &mut first);
-        let (one, other) = (Latest::none(newest.again()), Latest::none(newest.again()));
+        let (one, other) = (
+            LatestFrame::none(newest.again()),
+            LatestFrame::none(newest.again()),
+        );
         // There is room for one reader at least.
         let Ok(writer) = Writer::new(alloc, one, other, (probes as usize).max(1)) else {
             return Err(NoMemory);
@@ -231,7 +234,7 @@ impl Published {
         &mut self,
         rt: &R,
         number: FrameNo,
-        joined: Arc<Touchable>,
+        joined: Arc<HitIndex>,
     ) -> Result<(), NoMemory>
         requires above { self.old.given < number.0 }
         ensures home { (self.new.home ≡ self.old.home) × (self.new.given ≡ number.0) }

@@ -1,6 +1,6 @@
 //! The rule over the two copies: what each seat knows of their home. Nothing else says of a
 //! reader that has read that it is of its writer's table.
-use crate::latest::Latest;
+use crate::latest_frame::LatestFrame;
 use atomic_table::{Join, Split};
 use crossbeam_utils::rule::{Outcome, Protocol};
 use left_right::reader::Reader;
@@ -8,11 +8,11 @@ use left_right::writer::Writer;
 use std::marker::Model;
 
 /// Which book. No value of it is made.
-pub struct Home {
+pub struct BookIdentity {
     marker: (),
 }
 
-impl Model for Home {
+impl Model for BookIdentity {
     ghost use Rattle.logbook.specs.Pages.{Book};
 
     ghost Value = { Book };
@@ -20,9 +20,9 @@ impl Model for Home {
     ghost view = { λ _. record { number = 0; log_name = 0; cells_name = 0 } };
 }
 
-pub struct SameHome;
+pub struct SameBook;
 
-impl Protocol<Latest, Option<Home>> for SameHome {
+impl Protocol<LatestFrame, Option<BookIdentity>> for SameBook {
     ghost use Rattle.std.specs.Prelude.{None};
     ghost use Rattle.flat_publish.specs.Told.{KnowsHome};
 
@@ -33,7 +33,7 @@ impl Protocol<Latest, Option<Home>> for SameHome {
 
 pub struct Looked;
 
-impl Outcome<Latest, Option<Home>> for Looked {
+impl Outcome<LatestFrame, Option<BookIdentity>> for Looked {
     ghost use Rattle.flat_publish.specs.Told.{Looks};
 
     ghost then = { Looks };
@@ -41,22 +41,22 @@ impl Outcome<Latest, Option<Home>> for Looked {
 
 pub struct NextShown;
 
-impl Outcome<Latest, Option<Home>> for NextShown {
+impl Outcome<LatestFrame, Option<BookIdentity>> for NextShown {
     ghost use Rattle.flat_publish.specs.Told.{Shows};
 
     ghost then = { Shows };
 }
 
 /// The writer tells its home, and a reader takes it over.
-pub struct HomeTold;
+pub struct BookIdentityTold;
 
-impl Split<Option<Home>> for HomeTold {
+impl Split<Option<BookIdentity>> for BookIdentityTold {
     ghost left = { λ v. v };
 
     ghost right = { λ v. v };
 }
 
-impl Join<Option<Home>> for HomeTold {
+impl Join<Option<BookIdentity>> for BookIdentityTold {
     ghost use Rattle.std.specs.Prelude.{None};
 
     ghost both = { λ _ w. w };
@@ -64,6 +64,6 @@ impl Join<Option<Home>> for HomeTold {
     ghost spent = { None };
 }
 
-pub type LatestReader = Reader<Latest, Option<Home>, SameHome>;
+pub type LatestReader = Reader<LatestFrame, Option<BookIdentity>, SameBook>;
 
-pub type LatestWriter = Writer<Latest, Latest, Option<Home>, SameHome>;
+pub type LatestWriter = Writer<LatestFrame, LatestFrame, Option<BookIdentity>, SameBook>;

@@ -23,7 +23,7 @@ use Rattle.flat_report.specs.Report.{finished}
 use Rattle.flat_play.specs.Playing.{HasPlayed}
 use Rattle.flat_play.proofs.lemmas.Places.{all_to, drop_all}
 use Rattle.flat_play.proofs.lemmas.Starting.{is_numbered}
-use Rattle.flat_race.specs.declared.film.Film.{Film}
+use Rattle.flat_race.specs.declared.race_frames.RaceFrames.{RaceFrames}
 use Rattle.flat_race.specs.Ends.{HaveEnded}
 use Rattle.flat_race.specs.SessionThreads.{AreBack}
 use Rattle.flat_race.specs.Directing.{SeatStands}
@@ -113,7 +113,8 @@ module _ (script : Script) (view : StageView) (place : ℕ) (compositor : Displa
     }
 
 -- All came to their end.
-module _ (script : Script) (view : StageView) (compositor : DisplayView) (seats : SeatsView) (film : Film) (ended : HaveEnded view script compositor seats film)
+module _ (script : Script) (view : StageView) (compositor : DisplayView) (seats : SeatsView) (film : RaceFrames)
+    (ended : HaveEnded view script compositor seats film)
     (board : Machine) (closed : IsClosed compositor seats board) (setup : board.setup ≡ script.setup) (few : script.setup.sessions ≤ SESSIONS_MAX) where
   beside : IsBeside script.setup (history_of compositor.seen) board.history
   beside = same_display script view (length script.lines) compositor ended.directed seats true ended.back board closed setup few

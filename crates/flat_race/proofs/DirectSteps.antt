@@ -3,11 +3,11 @@ use Rattle.std.proofs.Common.{◌≡◌, ℕ, ◌+◌, Bool, false, List, [], �
 use Rattle.std.proofs.lemmas.Grind.{common_steps}
 use Rattle.flat_base.specs.declared.ids.Actor.TheVariants.{Display}
 use Rattle.flat_scene.specs.declared.journal.Entry.{Entry}
-use Rattle.flat_scene.specs.declared.journal.Kind.{Kind}
-use Rattle.flat_scene.specs.declared.journal.Kind.TheVariants.{Begin, Finish}
+use Rattle.flat_scene.specs.declared.journal.EntryKind.{EntryKind}
+use Rattle.flat_scene.specs.declared.journal.EntryKind.TheVariants.{Begin, Finish}
 use Rattle.flat_scene.specs.declared.journal.Reply.{Reply}
 use Rattle.flat_scene.specs.declared.journal.Reply.TheVariants.{Done}
-use Rattle.flat_scene.specs.declared.script.Body.TheVariants as body
+use Rattle.flat_scene.specs.declared.script.LineBody.TheVariants as body
 use Rattle.flat_scene.specs.declared.script.DisplayLine.{DisplayLine}
 use Rattle.flat_scene.specs.declared.script.DisplayLine.TheVariants as display
 use Rattle.flat_scene.specs.declared.script.ScriptLine.{ScriptLine}
@@ -36,13 +36,13 @@ pub record Enters (script : Script) (place : ℕ) (seat : DisplayView) (entry : 
 
 module _ (script : Script) (view : StageView) (place : ℕ) (x : ScriptLine) (at : At script place x) (is_setup : setup_of view ≡ script.setup)
     (seat seat' : DisplayView) (stands : SeatStands script view place seat) where
-  one_of : (kind : Kind) (reply : Reply) → DisplayEnters x.number kind reply seat seat'
+  one_of : (kind : EntryKind) (reply : Reply) → DisplayEnters x.number kind reply seat seat'
       → MakesOne script.setup 0 seat.seen seat.mine (entry_of Display x.number [] kind reply) seat'.seen seat'.mine
   one_of kind reply enters =
       let M : Setup → Type 0 = λ s. MakesOne s 0 seat.seen seat.mine (entry_of Display x.number [] kind reply) seat'.seen seat'.mine in
       subst M (ap setup_of stands.own ∙ is_setup) enters.one
 
-  pub enters_as : (kind : Kind) (reply : Reply) → DisplayEnters x.number kind reply seat seat'
+  pub enters_as : (kind : EntryKind) (reply : Reply) → DisplayEnters x.number kind reply seat seat'
       → Enters script place seat (entry_of Display x.number [] kind reply) seat'
   enters_as kind reply enters =
       let e : Entry = entry_of Display x.number [] kind reply in
@@ -58,7 +58,7 @@ module _ (script : Script) (view : StageView) (place : ℕ) (x : ScriptLine) (at
   lines_left actor = ap (lines_by 0) at.left ∙ ap (λ a. lines_by 0 ((record x { actor = a }) ∷ drop (place + 1) script.lines)) actor
       ∙ grind (arith, common_steps)
 
-  seat_more : (kind : Kind) (reply : Reply) → x.actor ≡ Display → (enters : DisplayEnters x.number kind reply seat seat')
+  seat_more : (kind : EntryKind) (reply : Reply) → x.actor ≡ Display → (enters : DisplayEnters x.number kind reply seat seat')
       → DisplayStands script (place + 1) ((enters_as kind reply enters).middle ▹ entry_of Display x.number [] kind reply)
       → SeatStands script view (place + 1) seat'
   seat_more kind reply actor enters display_then =
@@ -85,7 +85,7 @@ module _ (script : Script) (view : StageView) (place : ℕ) (x : ScriptLine) (at
   seat_finishes actor is enters = seat_more Finish Done actor enters
       (display_done script place x at is (enters_as Finish Done enters).middle (enters_as Finish Done enters).stood)
 
-  pub seat_beside : (text : DisplayLine) (kind : Kind) (reply : Reply) → x.actor ≡ Display → x.body ≡ body.Display text → entry_of_display text ≡ kind
+  pub seat_beside : (text : DisplayLine) (kind : EntryKind) (reply : Reply) → x.actor ≡ Display → x.body ≡ body.Display text → entry_of_display text ≡ kind
       → is_begin kind ≡ false → is_finish kind ≡ false
       → ((o : Bool) (t : ℕ) (follows : Bool → ℕ → Bool) → keeps_frames o t (body.Display text) follows ≡ follows o t)
       → DisplayEnters x.number kind reply seat seat' → SeatStands script view (place + 1) seat'

@@ -9,14 +9,14 @@ use Rattle.flat_base.specs.declared.ids.Actor.{Actor}
 use Rattle.flat_base.specs.declared.ids.Actor.TheVariants.{Display, Session, Probe}
 use Rattle.flat_base.specs.declared.limits.TheConstants.{SESSIONS_MAX}
 use Rattle.flat_scene.specs.declared.frames.FrameOut.{FrameOut}
-use Rattle.flat_scene.specs.declared.frames.Lost.{Lost}
+use Rattle.flat_scene.specs.declared.frames.LostDisplay.{LostDisplay}
 use Rattle.flat_scene.specs.declared.journal.Entry.{Entry}
-use Rattle.flat_scene.specs.declared.journal.Kind.{Kind}
-use Rattle.flat_scene.specs.declared.journal.Kind.TheVariants.{Begin, Finish}
+use Rattle.flat_scene.specs.declared.journal.EntryKind.{EntryKind}
+use Rattle.flat_scene.specs.declared.journal.EntryKind.TheVariants.{Begin, Finish}
 use Rattle.flat_scene.specs.declared.journal.Reply.{Reply}
 use Rattle.flat_scene.specs.declared.journal.Reply.TheVariants.{Done}
-use Rattle.flat_scene.specs.declared.script.Body.{Body}
-use Rattle.flat_scene.specs.declared.script.Body.TheVariants as body
+use Rattle.flat_scene.specs.declared.script.LineBody.{LineBody}
+use Rattle.flat_scene.specs.declared.script.LineBody.TheVariants as body
 use Rattle.flat_scene.specs.declared.script.DisplayLine.{DisplayLine}
 use Rattle.flat_scene.specs.declared.script.DisplayLine.TheVariants as display
 use Rattle.flat_scene.specs.declared.script.ScriptLine.{ScriptLine}
@@ -50,7 +50,7 @@ use Rattle.flat_display.specs.Lost.{Driven}
 use Rattle.flat_play.specs.Showing.{HaveSeen, IsShown}
 use Rattle.flat_play.proofs.lemmas.Starting.{by_at_most, few, first_display}
 use Rattle.flat_play.proofs.lemmas.Steps.{At}
-use Rattle.flat_race.specs.declared.film.Film.{Film}
+use Rattle.flat_race.specs.declared.race_frames.RaceFrames.{RaceFrames}
 use Rattle.flat_race.specs.Directing.{CompositorStands, FilmStands, HasLooked, SeatStands}
 use Rattle.flat_race.specs.Sessions.{IsStageOf}
 use Rattle.flat_base.proofs.lemmas.Tests.{and-left, and-right}
@@ -91,7 +91,7 @@ next_there script before middle same start old new finishes =
 
 module _ (script : Script) (view : StageView) (place : ℕ) where
   -- the compositor looked
-  pub looked_beside : (old new : CompositorView) (film : Film) → HasLooked script.setup old new → CompositorStands script view place old film
+  pub looked_beside : (old new : CompositorView) (film : RaceFrames) → HasLooked script.setup old new → CompositorStands script view place old film
       → IsBeside script.setup (history_of old.display.seen) (history_of new.display.seen)
   looked_beside old new film looks stands =
       let seen : List Entry = old.display.seen in
@@ -103,7 +103,7 @@ module _ (script : Script) (view : StageView) (place : ℕ) where
       ap (entries_of_seat 0) (sym looks.sees.longer.1) ∙ sym looks.whole ∙ mine ∙ stands.seat.mine in
       subst B (sym looks.sees.longer.1) (seen_beside script.setup seen more (subst L looks.sees.longer.1 looks.legal) own)
 
-  pub compositor_looks : (old new : CompositorView) (film : Film) → HasLooked script.setup old new → CompositorStands script view place old film
+  pub compositor_looks : (old new : CompositorView) (film : RaceFrames) → HasLooked script.setup old new → CompositorStands script view place old film
       → CompositorStands script view place new film
   compositor_looks old new film looks stands =
       let mine : new.display.mine ≡ old.display.mine = ap (λ (d : DisplayView). d.mine) looks.sees.rest in
@@ -134,8 +134,8 @@ module _ (script : Script) (view : StageView) (place : ℕ) where
         let was = stands.spent in
         subst V (sym stands.own) (subst S (sym of.shares) (omega (arith, was, left)))
 
-    module _ (old new : CompositorView) (film : Film) (stands : CompositorStands script view place old film) where
-      abbrev entered : (kind : Kind) (reply : Reply) → DisplayEnters x.number kind reply old.display new.display
+    module _ (old new : CompositorView) (film : RaceFrames) (stands : CompositorStands script view place old film) where
+      abbrev entered : (kind : EntryKind) (reply : Reply) → DisplayEnters x.number kind reply old.display new.display
           → Enters script place old.display (entry_of Display x.number [] kind reply) new.display
       entered kind reply enters = enters_as script view place x at of.setup old.display new.display stands.seat kind reply enters
 
@@ -159,7 +159,7 @@ module _ (script : Script) (view : StageView) (place : ℕ) where
           }
 
       -- what another line of the display leaves finished
-      pub finished_still : (kind : Kind) (reply : Reply) → is_finish kind ≡ false → DisplayEnters x.number kind reply old.display new.display
+      pub finished_still : (kind : EntryKind) (reply : Reply) → is_finish kind ≡ false → DisplayEnters x.number kind reply old.display new.display
           → (finished script.setup (history_of new.display.seen) ≡ finished script.setup (history_of old.display.seen))
           × FinishesOne script.setup (history_of old.display.seen) (history_of new.display.seen)
       finished_still kind reply no_finish enters =
@@ -170,7 +170,7 @@ module _ (script : Script) (view : StageView) (place : ℕ) where
           )
 
       -- a frame is finished
-      pub line_finishes : x.body ≡ body.Display display.Done → EndsFrame x.number old new → (film' : Film)
+      pub line_finishes : x.body ≡ body.Display display.Done → EndsFrame x.number old new → (film' : RaceFrames)
           → FinishesNext script (history_of old.display.seen) old.start film.store film'.store → CompositorStands script view (place + 1) new film'
       line_finishes is ends film' finishes =
           let en = entered Finish Done ends.enters in
@@ -197,7 +197,7 @@ module _ (script : Script) (view : StageView) (place : ℕ) where
           )
 
       -- a line that begins no frame and ends none
-      pub line_beside : (text : DisplayLine) → is_beside text ≡ true → x.body ≡ body.Display text → (reply : Reply) (film' : Film)
+      pub line_beside : (text : DisplayLine) → is_beside text ≡ true → x.body ≡ body.Display text → (reply : Reply) (film' : RaceFrames)
           → DisplayEnters x.number (entry_of_display text) reply old.display new.display → KeepsStart old new
           → AnswersLine script.setup x.number text film.store film'.store → CompositorStands script view (place + 1) new film'
       line_beside text beside is reply film' enters keeps answers =
@@ -230,13 +230,14 @@ module _ (script : Script) (view : StageView) (place : ℕ) where
         let le : begin_time h ≤ time = grind (arith, nat_tests) in
         omega (arith, le, told)
 
-    pub begins_closed : (time : ℕ) → x.body ≡ body.Display (display.Begin time) → (c : CompositorView) (film : Film)
+    pub begins_closed : (time : ℕ) → x.body ≡ body.Display (display.Begin time) → (c : CompositorView) (film : RaceFrames)
         → CompositorStands script view place c film → c.is_open ≡ false
     begins_closed time is c film stands =
         let h : List Entry = history_of c.display.seen in
         sym stands.opened ∙ closed_then (is_frame_open h) (and-left _ _ (begin_time_ok script place x at time is h stands.seat.display))
 
-    pub finishes_open : x.body ≡ body.Display display.Done → (c : CompositorView) (film : Film) → CompositorStands script view place c film → c.is_open ≡ true
+    pub finishes_open : x.body ≡ body.Display display.Done → (c : CompositorView) (film : RaceFrames) → CompositorStands script view place c film
+        → c.is_open ≡ true
     finishes_open is c film stands = sym stands.opened ∙ done_ok script place x at is (history_of c.display.seen) stands.seat.display
 
   -- the frames are no more than the display has lines
@@ -253,7 +254,7 @@ module _ (script : Script) (view : StageView) (place : ℕ) where
       omega (arith, made_is, most, spent, lines, all)
 
   -- a line of another actor leaves the compositor as it is
-  pub line_other : (x : ScriptLine) → At script place x → ((text : DisplayLine) → x.body ≡ body.Display text → ⊥) → (c : CompositorView) (film : Film)
+  pub line_other : (x : ScriptLine) → At script place x → ((text : DisplayLine) → x.body ≡ body.Display text → ⊥) → (c : CompositorView) (film : RaceFrames)
       → CompositorStands script view place c film → CompositorStands script view (place + 1) c film
   line_other x at other c film stands = by_body x.body refl
     where
@@ -275,7 +276,7 @@ module _ (script : Script) (view : StageView) (place : ℕ) where
         frames = stands.frames;
       }
 
-      by_body : (b : Body) → x.body ≡ b → CompositorStands script view (place + 1) c film
+      by_body : (b : LineBody) → x.body ≡ b → CompositorStands script view (place + 1) c film
       by_body (body.Display text) is = absurd (other text is)
       by_body (body.Session text) is = with_display (display_session script place x at text is _ _ (quiet.same refl) stands.seat.display)
       by_body (body.Probe text) is = with_display (display_probe script place x at text is _ stands.seat.display)
@@ -293,11 +294,11 @@ pub display_line_at : (script : Script) (place : ℕ) (x : ScriptLine) → At sc
 display_line_at script place x at here text is =
     let who : x.actor ≡ Display = actor_of script.setup x.actor text (ap (is_played script.setup x.actor) (sym is) ∙ at.played) in
     here ∙ ap (λ (a : Actor). let l : ScriptLine = record { number = x.number; actor = a; body = x.body } in Some l) who
-    ∙ ap (λ (b : Body). let l : ScriptLine = record { number = x.number; actor = Display; body = b } in Some l) is
+    ∙ ap (λ (b : LineBody). let l : ScriptLine = record { number = x.number; actor = Display; body = b } in Some l) is
 
 -- ---- before the first line, and behind the last
 
-pub stands_first : (script : Script) (view : StageView) (c : CompositorView) (film : Film) → is_playable script ≡ true → setup_of view ≡ script.setup
+pub stands_first : (script : Script) (view : StageView) (c : CompositorView) (film : RaceFrames) → is_playable script ≡ true → setup_of view ≡ script.setup
     → IsNewCompositor view c → FilmStands script [] film → CompositorStands script view 0 c film
 stands_first script view c film playable setup new kept =
     let H : DisplayView → List Entry = λ d. history_of d.seen in
@@ -310,7 +311,8 @@ stands_first script view c film playable setup new kept =
       frames = subst F (sym (ap H new.display)) (frames_none script c.start film.store (subst I setup new.start) kept);
     }
 
-pub seen_there : {D : Type 0} (told : D → Option (List FrameOut)) (count : D → ℕ) (setup : Setup) (h h' : List Entry) (lost : List Lost) (olds news : List D)
+pub seen_there : {D : Type 0} (told : D → Option (List FrameOut)) (count : D → ℕ) (setup : Setup) (h h' : List Entry) (lost : List LostDisplay)
+    (olds news : List D)
     → h ≡ h' → HaveSeen told count (finished setup h) h lost olds news → HaveSeen told count (finished setup h') h' lost olds news
 seen_there told count setup h h' lost olds news same seen = let P : List Entry → Type 0 =
     λ es. HaveSeen told count (finished setup es) es lost olds news in subst P same seen
@@ -326,11 +328,11 @@ shown_as told count old old' new new' set set' olds news old_is new_is shown =
 -- ---- once the last frame is published
 
 -- whatever was joined of the last frame
-pub stands_published : (script : Script) (view : StageView) (place : ℕ) (c : CompositorView) (film film' : Film)
+pub stands_published : (script : Script) (view : StageView) (place : ℕ) (c : CompositorView) (film film' : RaceFrames)
     → film' ≡ record film { store = record film.store { last = film'.store.last } }
     → StaysLast script.setup film.store.last film'.store.last → CompositorStands script view place c film → CompositorStands script view place c film'
 stands_published script view place c film film' rest stays stands =
-    let F : Film → Type 0 = CompositorStands script view place c in
+    let F : RaceFrames → Type 0 = CompositorStands script view place c in
     subst F (sym rest) (record {
       seat = stands.seat;
       opened = stands.opened;

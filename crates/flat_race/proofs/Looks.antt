@@ -3,7 +3,7 @@ use Rattle.std.proofs.Common.{◌≡◌, List, [], ◌++◌, refl, sym, ap, ◌�
 use Rattle.std.proofs.lemmas.List.{append_assoc}
 use Rattle.flat_base.specs.declared.ids.Actor.TheVariants.{Display}
 use Rattle.flat_scene.specs.declared.journal.Entry.{Entry}
-use Rattle.flat_scene.specs.declared.script.Cond.{Cond}
+use Rattle.flat_scene.specs.declared.script.WaitCondition.{WaitCondition}
 use Rattle.flat_scene.specs.declared.setup.Setup.{Setup}
 use Rattle.flat_scene.specs.Journals.{history_of}
 use Rattle.flat_core.specs.Machines.{MayLook}
@@ -38,7 +38,7 @@ looked_more setup a b c one sees legal whole keeps =
     }
 
 -- by the name of a stage
-pub may_look : (view : StageView) (stage_of : StageView) (c : Cond) → stage_of ≡ view → MayLook (setup_of view) Display c
+pub may_look : (view : StageView) (stage_of : StageView) (c : WaitCondition) → stage_of ≡ view → MayLook (setup_of view) Display c
     → MayLook (setup_of stage_of) Display c
 may_look view stage_of c same may = let P : StageView → Type 0 = λ v. MayLook (setup_of v) Display c in subst P (sym same) may
 

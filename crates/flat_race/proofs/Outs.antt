@@ -9,7 +9,7 @@ use Rattle.flat_places.specs.declared.script.Script.{Script}
 use Rattle.flat_play.proofs.lemmas.Slots.{got-other, got-same, set-length}
 use Rattle.flat_stage.specs.Homes.{AreFresh, fresh_view, seats_without, session_at}
 use Rattle.flat_stage.specs.Seats.{SessionView, StageView}
-use Rattle.flat_race.specs.declared.threads.Out.{Out}
+use Rattle.flat_race.specs.declared.threads.LentSeat.{LentSeat}
 use Rattle.flat_race.specs.declared.session.SessionBack.{SessionBack}
 use Rattle.flat_race.specs.SessionThreads.{AreBack, AreLeft, AreOut, IsOut}
 use Rattle.flat_race.specs.Sessions.{HasRun}
@@ -32,24 +32,24 @@ module _ {X : Type 0} where
 
 module _ (view : StageView) (script : Script) where
   -- one more is out
-  pub out-more : (out out' : List Out) (o : Out) (k : ℕ) → out' ≡ out ++ o ∷ [] → length out ≡ k → IsOut view script (record { 0 = k + 1 }) o
+  pub out-more : (out out' : List LentSeat) (o : LentSeat) (k : ℕ) → out' ≡ out ++ o ∷ [] → length out ≡ k → IsOut view script (record { 0 = k + 1 }) o
       → AreOut view script k out → AreOut view script (k + 1) out'
   out-more out out' o k e len is are = record {
     many = ap length e ∙ length-append out (o ∷ []) ∙ ap (λ n. n + 1) len;
-    each = λ i x got. elim (got-push out o i x (subst (λ (l : List Out). slice_get l i ≡ Some x) e got)) [
+    each = λ i x got. elim (got-push out o i x (subst (λ (l : List LentSeat). slice_get l i ≡ Some x) e got)) [
       | inl f ↦ are.each i x f
-      | inr f ↦ subst (λ (y : Out). IsOut view script (record { 0 = i + 1 }) y) (sym f.1)
+      | inr f ↦ subst (λ (y : LentSeat). IsOut view script (record { 0 = i + 1 }) y) (sym f.1)
           (subst (λ (j : ℕ). IsOut view script (record { 0 = j + 1 }) o) (sym (f.0 ∙ len)) is)
     ];
   }
 
   -- the last one is taken
-  pub out-last : (out out' : List Out) (o : Out) (k : ℕ) → out ≡ out' ++ o ∷ [] → length out' ≡ k → AreOut view script (length out) out
+  pub out-last : (out out' : List LentSeat) (o : LentSeat) (k : ℕ) → out ≡ out' ++ o ∷ [] → length out' ≡ k → AreOut view script (length out) out
       → IsOut view script (record { 0 = k + 1 }) o × AreOut view script k out'
   out-last out out' o k e len are = (
     subst (λ (j : ℕ). IsOut view script (record { 0 = j + 1 }) o) len
-        (are.each (length out') o (ap (λ (l : List Out). slice_get l (length out')) e ∙ got-last out' o)),
-    record { many = len; each = λ i x got. are.each i x (ap (λ (l : List Out). slice_get l i) e ∙ got-before out' o i x got) },
+        (are.each (length out') o (ap (λ (l : List LentSeat). slice_get l (length out')) e ∙ got-last out' o)),
+    record { many = len; each = λ i x got. are.each i x (ap (λ (l : List LentSeat). slice_get l i) e ∙ got-before out' o i x got) },
   )
 
   -- one more is back

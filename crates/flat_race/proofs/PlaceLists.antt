@@ -9,8 +9,8 @@ use Rattle.flat_base.specs.declared.ids.SessionNo.{SessionNo}
 use Rattle.flat_scene.specs.declared.script.ScriptLine.{ScriptLine}
 use Rattle.flat_scene.specs.History.{is_session}
 use Rattle.flat_places.specs.declared.script.Script.{Script}
-use Rattle.flat_scene.specs.declared.script.Body.{Body}
-use Rattle.flat_scene.specs.declared.script.Body.TheVariants as body
+use Rattle.flat_scene.specs.declared.script.LineBody.{LineBody}
+use Rattle.flat_scene.specs.declared.script.LineBody.TheVariants as body
 use Rattle.flat_scene.specs.declared.setup.Setup.{Setup}
 use Rattle.flat_scene.specs.Setups.{is_declared}
 use Rattle.flat_playable.specs.Playable.{is_playable, is_played}
@@ -129,7 +129,7 @@ placed-next lines k places other are = record {
 }
 
 -- the session of a line is declared
-declared-of : (setup : Setup) (s : SessionNo) (text : Body) → is_played setup (Session s) text ≡ true → is_declared setup s ≡ true
+declared-of : (setup : Setup) (s : SessionNo) (text : LineBody) → is_played setup (Session s) text ≡ true → is_declared setup s ≡ true
 declared-of setup s (body.Session line) played = and-left _ _ played
 declared-of setup s (body.Display line) played = absurd (let wrong : false ≡ true = played in cc)
 declared-of setup s (body.Probe line) played = absurd (let wrong : false ≡ true = played in cc)

@@ -5,8 +5,8 @@ use Rattle.std.proofs.lemmas.List.Elements.{filter-append}
 use mathlib.Core.List.{IsPrefix}
 use Rattle.flat_base.specs.declared.ids.Actor.{Actor}
 use Rattle.flat_base.specs.declared.ids.Actor.TheVariants.{Display, Session, Probe}
-use Rattle.flat_scene.specs.declared.script.Body.{Body}
-use Rattle.flat_scene.specs.declared.script.Body.TheVariants as body
+use Rattle.flat_scene.specs.declared.script.LineBody.{LineBody}
+use Rattle.flat_scene.specs.declared.script.LineBody.TheVariants as body
 use Rattle.flat_scene.specs.declared.script.ProbeLine.{ProbeLine}
 use Rattle.flat_scene.specs.declared.script.ScriptLine.{ScriptLine}
 use Rattle.flat_scene.specs.declared.setup.Setup.{Setup}
@@ -49,7 +49,7 @@ module _ (script : Script) (p place : ℕ) (x : ScriptLine) (at : At script plac
   probe-answers asked mine is old new answers answers' grows rise gained stands =
       let was = seen-more old.frames new.frames grows rise (probe_lines_of p (take place script.lines)) answers stands in
       let line : ScriptLine = record { number = x.number; actor = x.actor; body = body.Probe asked } in
-      let same : x ≡ line = ap (λ (b : Body). let l : ScriptLine = record { number = x.number; actor = x.actor; body = b } in l) is in
+      let same : x ≡ line = ap (λ (b : LineBody). let l : ScriptLine = record { number = x.number; actor = x.actor; body = b } in l) is in
       let lines : probe_lines_of p (take (place + 1) script.lines) ≡ probe_lines_of p (take place script.lines) ++ line ∷ [] =
       lines-by true mine ∙ ap (λ (l : ScriptLine). probe_lines_of p (take place script.lines) ++ l ∷ []) same in
       let P : List ScriptLine → Type 0 = λ ls. AreAnsweredBy (hits_of new.frames) (last_number new.frames) ls answers' in
@@ -71,7 +71,7 @@ probe-ends script p place probe answers all stands =
     subst P (take_all place script.lines all) stands
 
 -- a line of a probe asks it something
-pub no-other : (setup : Setup) (p : ℕ) (who : Actor) (text : Body) → is_probe p who ≡ true → is_played setup who text ≡ true
+pub no-other : (setup : Setup) (p : ℕ) (who : Actor) (text : LineBody) → is_probe p who ≡ true → is_played setup who text ≡ true
     → ((asked : ProbeLine) → text ≡ body.Probe asked → ⊥) → ⊥
 no-other setup p (Probe q) (body.Probe asked) mine played other = other asked refl
 no-other setup p (Probe q) (body.Session text) mine played other = cc

@@ -19,7 +19,7 @@ use Rattle.flat_publish.specs.State as publish
 use Rattle.flat_publish.specs.State.{Seen, newcomer}
 use Rattle.flat_publish.proofs.lemmas.Beginnings.{same_last}
 use Rattle.flat_play.proofs.lemmas.Starting.{limits_are}
-use Rattle.flat_race.specs.declared.probe_threads.ProbeOut.{ProbeOut}
+use Rattle.flat_race.specs.declared.probe_threads.LentProbe.{LentProbe}
 use Rattle.flat_report.specs.declared.probes.ProbeAnswer.{ProbeAnswer}
 use Rattle.flat_report.specs.Probes.{AreAnsweredBy, ProbesAnswered}
 use Rattle.flat_race.specs.ProbeThreads.{AreAnswered, AreProbesOut, IsProbeOut}
@@ -39,7 +39,7 @@ seen-published old new published grows meets rise last lines answers answered =
 
 -- ---- probes that are out, and come back
 
-out-behind : (script : Script) (book : Book) (first : ℕ) (outs : List ProbeOut) (out : ProbeOut) → AreProbesOut script book first outs
+out-behind : (script : Script) (book : Book) (first : ℕ) (outs : List LentProbe) (out : LentProbe) → AreProbesOut script book first outs
     → IsProbeOut script book (first + length outs) out → AreProbesOut script book first (outs ++ out ∷ [])
 out-behind script book first [] out are is = (subst (λ (n : ℕ). IsProbeOut script book n out) (omega arith) is, tt)
 out-behind script book first (o ∷ outs) out are is = (
@@ -48,14 +48,14 @@ out-behind script book first (o ∷ outs) out are is = (
 )
 
 -- one more is out
-pub probe-out : (script : Script) (book : Book) (outs outs' : List ProbeOut) (out : ProbeOut) (p : ℕ) → outs' ≡ outs ++ out ∷ [] → length outs ≡ p
+pub probe-out : (script : Script) (book : Book) (outs outs' : List LentProbe) (out : LentProbe) (p : ℕ) → outs' ≡ outs ++ out ∷ [] → length outs ≡ p
     → IsProbeOut script book p out → AreProbesOut script book 0 outs → AreProbesOut script book 0 outs'
 probe-out script book outs outs' out p longer many is are =
-    let P : List ProbeOut → Type 0 = AreProbesOut script book 0 in
+    let P : List LentProbe → Type 0 = AreProbesOut script book 0 in
     subst P (sym longer) (out-behind script book 0 outs out are (subst (λ (n : ℕ). IsProbeOut script book n out) (omega (arith, many)) is))
 
 -- the first one is taken
-pub probe-next : (script : Script) (book : Book) (p : ℕ) (outs outs' : List ProbeOut) (out : ProbeOut) → outs ≡ out ∷ outs' → AreProbesOut script book p outs
+pub probe-next : (script : Script) (book : Book) (p : ℕ) (outs outs' : List LentProbe) (out : LentProbe) → outs ≡ out ∷ outs' → AreProbesOut script book p outs
     → IsProbeOut script book p out × AreProbesOut script book (p + 1) outs'
 probe-next script book p outs outs' out is are = subst (AreProbesOut script book p) is are
 

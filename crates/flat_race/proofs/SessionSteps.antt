@@ -10,9 +10,9 @@ use Rattle.flat_base.specs.declared.ids.Actor.{Actor}
 use Rattle.flat_base.specs.declared.ids.Actor.TheVariants.{Display, Session, Probe}
 use Rattle.flat_base.specs.declared.ids.SessionNo.{SessionNo}
 use Rattle.flat_base.specs.declared.limits.TheConstants.{SCRIPT_BYTES_MAX}
-use Rattle.flat_scene.specs.declared.script.Body.{Body}
-use Rattle.flat_scene.specs.declared.script.Body.TheVariants as body
-use Rattle.flat_scene.specs.declared.script.Line.{Line}
+use Rattle.flat_scene.specs.declared.script.LineBody.{LineBody}
+use Rattle.flat_scene.specs.declared.script.LineBody.TheVariants as body
+use Rattle.flat_scene.specs.declared.script.SessionLine.{SessionLine}
 use Rattle.flat_scene.specs.declared.script.ScriptLine.{ScriptLine}
 use Rattle.flat_scene.specs.declared.setup.Setup.{Setup}
 use Rattle.flat_scene.specs.declared.journal.Entry.{Entry}
@@ -73,9 +73,9 @@ module _ (script : Script) (view : StageView) (s : SessionNo) (place : ℕ) (x :
   pub skips : session_line (is_session s x.actor) x.number x.body ≡ [] → (seat : SessionView) → SessionStands script view s place seat
       → SessionStands script view s (place + 1) seat
   skips none seat stands =
-      let R : List (ℕ × Line) → Type 0 = λ lines. SeatHasRead lines seat in
+      let R : List (ℕ × SessionLine) → Type 0 = λ lines. SeatHasRead lines seat in
       let same : session_lines s (take (place + 1) script.lines) ≡ session_lines s (take place script.lines) =
-      given_is ∙ ap (λ (ls : List (ℕ × Line)). session_lines s (take place script.lines) ++ (ls ++ [])) none
+      given_is ∙ ap (λ (ls : List (ℕ × SessionLine)). session_lines s (take place script.lines) ++ (ls ++ [])) none
       ∙ append-nil (session_lines s (take place script.lines)) in
       record {
         own = stands.own;
@@ -87,15 +87,15 @@ module _ (script : Script) (view : StageView) (s : SessionNo) (place : ℕ) (x :
       }
 
   -- its own line, of which this came
-  pub reads : (text : Line) → is_session s x.actor ≡ true → x.body ≡ body.Session text → (old new : SessionView) → SessionStands script view s place old
+  pub reads : (text : SessionLine) → is_session s x.actor ≡ true → x.body ≡ body.Session text → (old new : SessionView) → SessionStands script view s place old
       → GoesOn old new
       → SeatHasRead (session_lines s (take place script.lines) ++ (x.number, text) ∷ []) new → SessionStands script view s (place + 1) new
   reads text whose is old new stands on read =
-      let R : List (ℕ × Line) → Type 0 = λ lines. SeatHasRead lines new in
+      let R : List (ℕ × SessionLine) → Type 0 = λ lines. SeatHasRead lines new in
       let line : session_line (is_session s x.actor) x.number x.body ≡ (x.number, text) ∷ [] =
       ap (λ b. session_line b x.number x.body) whose ∙ ap (session_line true x.number) is in
       let given : session_lines s (take (place + 1) script.lines) ≡ session_lines s (take place script.lines) ++ (x.number, text) ∷ [] =
-      given_is ∙ ap (λ (ls : List (ℕ × Line)). session_lines s (take place script.lines) ++ (ls ++ [])) line in
+      given_is ∙ ap (λ (ls : List (ℕ × SessionLine)). session_lines s (take place script.lines) ++ (ls ++ [])) line in
       let mine : (seat_number x.actor == s.0) ≡ true = ap (λ a. seat_number a == s.0) (session_is s x.actor whose)
       ∙ (let same : (s.0 == s.0) ≡ true = grind (arith, nat_tests) in same) in
       let one : ◌≡◌ {A = ℕ} (cond (seat_number x.actor == s.0) 1 0) 1 = ap (λ b. cond b 1 0) mine in
@@ -110,7 +110,7 @@ module _ (script : Script) (view : StageView) (s : SessionNo) (place : ℕ) (x :
 
   -- ---- what a line asks for
 
-  pub owned : (text : Line) → is_session s x.actor ≡ true → x.body ≡ body.Session text
+  pub owned : (text : SessionLine) → is_session s x.actor ≡ true → x.body ≡ body.Session text
       → (is_played_line script.setup s text ≡ true) × (is_declared script.setup s ≡ true)
   owned text whose is =
       let played : is_played script.setup (Session s) (body.Session text) ≡ true =
@@ -128,11 +128,11 @@ room script view seat of own declared few =
     subst V (sym own) (subst S (sym of.shares) (omega (arith, few, share)))
 
 -- a line of another actor gives a session nothing
-pub no_line : (s : SessionNo) (who : Actor) (number : ℕ) (text : Body) → is_session s who ≡ false → session_line (is_session s who) number text ≡ []
+pub no_line : (s : SessionNo) (who : Actor) (number : ℕ) (text : LineBody) → is_session s who ≡ false → session_line (is_session s who) number text ≡ []
 no_line s who number text other = ap (λ b. session_line b number text) other
 
 -- nor does a line that isn't a session's
-pub no_text : (b : Bool) (number : ℕ) (text : Body) → ((line : Line) → text ≡ body.Session line → ⊥) → session_line b number text ≡ []
+pub no_text : (b : Bool) (number : ℕ) (text : LineBody) → ((line : SessionLine) → text ≡ body.Session line → ⊥) → session_line b number text ≡ []
 no_text true number (body.Session line) other = absurd (other line refl)
 no_text true number (body.Display line) other = refl
 no_text true number (body.Probe line) other = refl
@@ -141,13 +141,13 @@ no_text false number text other = refl
 -- ---- what a line asks of its seat
 
 module _ (script : Script) (view : StageView) (seat : SessionView) (place : ℕ) (x : ScriptLine) (at : At script place x) where
-  pub line_owned : IsStageOf view script → SessionStands script view seat.session place seat → (text : Line) → is_session seat.session x.actor ≡ true
+  pub line_owned : IsStageOf view script → SessionStands script view seat.session place seat → (text : SessionLine) → is_session seat.session x.actor ≡ true
       → x.body ≡ body.Session text → is_played_line (setup_of seat.stage) seat.session text ≡ true
   line_owned of stands text whose is =
       let P : Setup → Type 0 = λ setup. is_played_line setup seat.session text ≡ true in
       subst P (sym (ap setup_of stands.own ∙ of.setup)) (owned script view seat.session place x at text whose is).0
 
-  pub line_room : IsStageOf view script → SessionStands script view seat.session place seat → (text : Line) → is_session seat.session x.actor ≡ true
+  pub line_room : IsStageOf view script → SessionStands script view seat.session place seat → (text : SessionLine) → is_session seat.session x.actor ≡ true
       → x.body ≡ body.Session text → HasRoom seat
   line_room of stands text whose is =
       let whole = ap (lines_by seat.session.0) (take-append-drop place script.lines) in
@@ -179,7 +179,7 @@ module _ (script : Script) (view : StageView) (seat : SessionView) where
       room script view seat of stands.own (subst D (ap setup_of stands.own ∙ of.setup) declared) (omega (arith, whole, spent))
 
   pub end_reads : is_playable script ≡ true → IsStageOf view script → SessionStands script view seat.session (length script.lines) seat → (mine : List Entry)
-      → ((given : List (ℕ × Line)) (count : ℕ) → script.count + 1 ≡ count + 1 → Rise 0 given → SeatHasRead given seat
+      → ((given : List (ℕ × SessionLine)) (count : ℕ) → script.count + 1 ≡ count + 1 → Rise 0 given → SeatHasRead given seat
       → IsReading (setup_of seat.stage) count given (history_of mine))
       → IsReading script.setup script.count (session_lines seat.session script.lines) (history_of mine)
   end_reads playable of stands mine reading =
@@ -194,7 +194,7 @@ pub begun_at : (script : Script) (view : StageView) (s : SessionNo) (place : ℕ
     → SessionStands script view s place seat → (mine : List Entry) → mine ≡ seat.mine
     → Follows script.setup script.count (session_lines s script.lines) (history_of mine)
 begun_at script view s place seat playable of stands mine same =
-    let F : Setup → Type 0 = λ setup. (count : ℕ) (later : List (ℕ × Line)) → Rise 0 (session_lines s (take place script.lines) ++ later)
+    let F : Setup → Type 0 = λ setup. (count : ℕ) (later : List (ℕ × SessionLine)) → Rise 0 (session_lines s (take place script.lines) ++ later)
     → Follows setup count (session_lines s (take place script.lines) ++ later) (history_of seat.mine) in
     let M : List Entry → Type 0 = λ es. Follows script.setup script.count (session_lines s script.lines) (history_of es) in
     subst M (sym same) (follows-so-far script playable s place (history_of seat.mine) (subst F (ap setup_of stands.own ∙ of.setup) stands.reads.follows))

@@ -6,21 +6,21 @@ use Rattle.flat_places.specs.declared.script.Script.{Script}
 use Rattle.flat_stage.specs.Displays.{DisplayView, IsNewCompositor}
 use Rattle.flat_stage.specs.Homes.{AreFresh, SeatsView}
 use Rattle.flat_stage.specs.Seats.{StageView}
-use Rattle.flat_race.specs.declared.film.Film.{Film}
+use Rattle.flat_race.specs.declared.race_frames.RaceFrames.{RaceFrames}
 use Rattle.flat_report.specs.Probes.{ProbesAnswered}
 use Rattle.flat_report.specs.Report.{finished}
 use Rattle.flat_rules.specs.Legal.{frames}
-use Rattle.flat_play.specs.declared.whole.Played.{Played}
+use Rattle.flat_play.specs.declared.whole.FinishedPlay.{FinishedPlay}
 use Rattle.flat_play.specs.Keeping.{keeping_of}
 use Rattle.flat_play.specs.Playing.{HasPlayed}
 use Rattle.flat_play.specs.Showing.{HaveSeen}
 use Rattle.flat_playable.specs.Playable.{is_playable}
 use Rattle.flat_race.specs.Directing.{FilmStands, HasStopped, IsNewFilm, SeatStands}
 use Rattle.flat_race.specs.Sessions.{IsStageOf}
-use Rattle.flat_race.specs.declared.running.Halt.{Halt}
-use Rattle.flat_race.specs.declared.running.Halt.TheVariants.{Early, Late}
+use Rattle.flat_race.specs.declared.running.RaceHalt.{RaceHalt}
+use Rattle.flat_race.specs.declared.running.RaceHalt.TheVariants.{Early, Late}
 use Rattle.flat_race.specs.declared.running.RaceState.{RaceState}
-use Rattle.flat_race.specs.declared.running.Stopped.{Stopped}
+use Rattle.flat_race.specs.declared.running.StoppedRace.{StoppedRace}
 use Rattle.flat_race.specs.SessionThreads.{AreBack}
 
 -- A race of the script may start on its stage: no actor has made an entry, and there is no frame yet.
@@ -35,7 +35,7 @@ pub record MayRace (view : StageView) (script : Script) (displays : ℕ) (state 
 -- The compositor has read all its lines, and so has each session, which ended; and the lines of all probes
 -- are answered.
 pub record HaveEnded (view : StageView) (script : Script) (compositor : DisplayView) (seats : SeatsView)
-    (film : Film) : Type 0 where
+    (film : RaceFrames) : Type 0 where
   pub directed : SeatStands script view (length script.lines) compositor
   pub kept : FilmStands script (history_of compositor.seen) film
   pub own : seats.stage ≡ view
@@ -51,13 +51,14 @@ pub record AreAtRest (view : StageView) (script : Script) (compositor : DisplayV
   pub back : AreBack view script 0 are_whole seats.seats
 
 -- What a race hands out once its stage is closed.
-pub record IsHandedOut (script : Script) (compositor : DisplayView) (film : Film) (out : Played) : Type 0 where
-  pub played : HasPlayed script out.board out.kept out.answers
-  pub probes : ProbesAnswered script out.board.history out.probes.items
-  pub kept : out.kept ≡ film.store.kept
-  pub set : out.set ≡ film.set
-  pub finishes : finished script.setup out.board.history ≡ finished script.setup (history_of compositor.seen)
-  pub as_many : frames out.board.history ≡ frames (history_of compositor.seen)
+pub record IsHandedOut (script : Script) (compositor : DisplayView) (film : RaceFrames) (out : FinishedPlay) : Type 0
+  where
+    pub played : HasPlayed script out.board out.kept out.answers
+    pub probes : ProbesAnswered script out.board.history out.probes.items
+    pub kept : out.kept ≡ film.store.kept
+    pub set : out.set ≡ film.set
+    pub finishes : finished script.setup out.board.history ≡ finished script.setup (history_of compositor.seen)
+    pub as_many : frames out.board.history ≡ frames (history_of compositor.seen)
 
 -- Displays of a type tell these frames, and have these counts of faults.
 module _ {D : Type 0} (told : D → Option (List FrameOut)) (count : D → ℕ) (view : StageView) (script : Script)
@@ -76,11 +77,11 @@ module _ {D : Type 0} (told : D → Option (List FrameOut)) (count : D → ℕ) 
     pub stopped : HasStopped told count script view compositor olds news
 
   -- Once the compositor had begun, all actors stopped so; before that, nothing was shown.
-  abbrev pub StopsAt : DisplayView → SeatsView → Halt → Type 0
+  abbrev pub StopsAt : DisplayView → SeatsView → RaceHalt → Type 0
   StopsAt compositor seats Early = news ≡ olds
   StopsAt compositor seats Late = HaveStopped compositor seats
 
   -- the same of what they leave
-  abbrev pub IsStopped : Option Stopped → Type 0
+  abbrev pub IsStopped : Option StoppedRace → Type 0
   IsStopped None = news ≡ olds
   IsStopped (Some stopped) = HaveStopped stopped.compositor.display stopped.seats

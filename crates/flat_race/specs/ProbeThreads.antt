@@ -5,21 +5,21 @@ use Rattle.flat_places.specs.declared.script.Script.{Script}
 use Rattle.flat_publish.specs.Frames.{last_number}
 use Rattle.flat_publish.specs.State.{Seen}
 use Rattle.flat_report.specs.Report.{probe_lines_of}
-use Rattle.flat_race.specs.declared.probe_threads.ProbeOut.{ProbeOut}
-use Rattle.flat_race.specs.declared.probe_threads.ProbeOut.TheVariants.{Thread, Here}
+use Rattle.flat_race.specs.declared.probe_threads.LentProbe.{LentProbe}
+use Rattle.flat_race.specs.declared.probe_threads.LentProbe.TheVariants.{Thread, Here}
 use Rattle.flat_report.specs.declared.probes.ProbeAnswer.{ProbeAnswer}
 use Rattle.flat_report.specs.Probes.{AreAnsweredBy}
 use Rattle.flat_race.specs.Publishing.{hits_of}
 use Rattle.flat_race.specs.Probing.{HasAsked}
 
 -- a probe is out: with a thread that promises to hand it back, or it came back here
-abbrev pub IsProbeOut : Script → Book → ℕ → ProbeOut → Type 0
+abbrev pub IsProbeOut : Script → Book → ℕ → LentProbe → Type 0
 IsProbeOut script book p (Thread handle) =
     (handle.promise.script.now ≡ script) × (handle.promise.home ≡ book) × (handle.promise.probe ≡ p)
 IsProbeOut script book p (Here back) = HasAsked script book p back
 
 -- probes are out, in order, of which the first has this number
-abbrev pub AreProbesOut : Script → Book → ℕ → List ProbeOut → Type 0
+abbrev pub AreProbesOut : Script → Book → ℕ → List LentProbe → Type 0
 AreProbesOut script book first [] = Unit {0}
 AreProbesOut script book first (out ∷ later) =
     IsProbeOut script book first out × AreProbesOut script book (first + 1) later

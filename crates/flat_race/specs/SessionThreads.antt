@@ -6,20 +6,20 @@ use Rattle.flat_scene.specs.Interleave.{Follows, IsReading, session_lines}
 use Rattle.flat_places.specs.declared.script.Script.{Script}
 use Rattle.flat_stage.specs.Homes.{fresh_view}
 use Rattle.flat_stage.specs.Seats.{SessionView, StageView}
-use Rattle.flat_race.specs.declared.threads.Out.{Out}
-use Rattle.flat_race.specs.declared.threads.Out.TheVariants.{Thread, Here}
+use Rattle.flat_race.specs.declared.threads.LentSeat.{LentSeat}
+use Rattle.flat_race.specs.declared.threads.LentSeat.TheVariants.{Thread, Here}
 use Rattle.flat_race.specs.Sessions.{HasRun}
 
 -- a session's seat is out: with a thread that promises to hand it back, or it came back here
-abbrev pub IsOut : StageView → Script → SessionNo → Out → Type 0
+abbrev pub IsOut : StageView → Script → SessionNo → LentSeat → Type 0
 IsOut view script s (Thread handle) =
     (handle.promise.stage.now ≡ view) × (handle.promise.script.now ≡ script) × (handle.promise.session ≡ s)
 IsOut view script s (Here back) = HasRun view script s back
 
 -- the first sessions are out, in order
-pub record AreOut (view : StageView) (script : Script) (count : ℕ) (out : List Out) : Type 0 where
+pub record AreOut (view : StageView) (script : Script) (count : ℕ) (out : List LentSeat) : Type 0 where
   pub many : length out ≡ count
-  pub each : (i : ℕ) (o : Out) → slice_get out i ≡ Some o → IsOut view script (record { 0 = i + 1 }) o
+  pub each : (i : ℕ) (o : LentSeat) → slice_get out i ≡ Some o → IsOut view script (record { 0 = i + 1 }) o
 
 -- The seats of the first sessions are away, and those of the others at home, and read no line.
 pub record AreLeft (view : StageView) (sessions taken : ℕ) (seats : List (Option SessionView)) : Type 0 where

@@ -1,8 +1,8 @@
 -- The sessions of a race: how a seat stands at a place of the script, and what of it comes back.
 use Rattle.std.specs.Prelude.{◌≡◌, ℕ, ◌≤◌, Bool, true, false, length, take}
 use Rattle.flat_base.specs.declared.ids.SessionNo.{SessionNo}
-use Rattle.flat_scene.specs.declared.script.Line.{Line}
-use Rattle.flat_scene.specs.declared.script.Line.TheVariants as line
+use Rattle.flat_scene.specs.declared.script.SessionLine.{SessionLine}
+use Rattle.flat_scene.specs.declared.script.SessionLine.TheVariants as line
 use Rattle.flat_scene.specs.Journals.{history_of}
 use Rattle.flat_scene.specs.Interleave.{Follows, IsReading, session_lines}
 use Rattle.flat_rules.specs.Legal.{is_link}
@@ -21,7 +21,7 @@ pub record IsStageOf (view : StageView) (script : Script) : Type 0 where
 -- ---- one session
 
 -- a line that makes an entry of each session that is open: all do but calls of its own draft
-abbrev pub makes_entry : Line → Bool
+abbrev pub makes_entry : SessionLine → Bool
 makes_entry (line.Call call) = is_link call
 makes_entry _ = true
 

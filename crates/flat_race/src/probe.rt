@@ -16,8 +16,8 @@ use flat_base::{Actor, FrameNo, NoMemory};
 use flat_places::Script;
 use flat_publish::Probe;
 use flat_report::{ProbeAnswer, ProbeAnswers};
-use flat_scene::{Body, HitList, ProbeLine, Reply};
-use flat_waits::Waits;
+use flat_scene::{HitList, LineBody, ProbeLine, Reply};
+use flat_waits::SharedWaits;
 use std::alloc::Global;
 use std::thread;
 
@@ -33,16 +33,16 @@ pub struct ProbeBack {
 /// What a probe's thread is lent: memory, the script that is run, the gate, and what says
 /// that no frame comes any more; with the number of the probe.
 #[derive(Drop)]
-pub struct Asking<'a, G> {
+pub struct ProbeContext<'a, G> {
     pub alloc: Global,
     pub script: &'a Script,
     pub gate: &'a G,
-    pub waits: &'a Waits,
+    pub waits: &'a SharedWaits,
     pub probe: u32,
 }
 
 /// The number of a probe among the actors: they come after the sessions.
-fn actor_of<G>(asking: &Asking<G>) -> u32 {
+fn actor_of<G>(asking: &ProbeContext<G>) -> u32 {
     asking
         .script
         .setup
@@ -55,7 +55,7 @@ fn actor_of<G>(asking: &Asking<G>) -> u32 {
 /// often as a Wait may look, and answers the number of the frame that it saw last. The gate
 /// is asked before each look, with one budget of the line.
 fn look_again<G: Gate>(
-    asking: &Asking<G>,
+    asking: &ProbeContext<G>,
     probe: &mut Probe,
     number: u32,
     wanted: u32,
@@ -83,7 +83,7 @@ fn look_again<G: Gate>(
 /// What a line asks is answered by the frame that the probe saw last: its number, and
 /// who is hit.
 fn look<G: Gate>(
-    asking: &Asking<G>,
+    asking: &ProbeContext<G>,
     probe: &mut Probe,
     number: u32,
     asked: ProbeLine,
@@ -110,7 +110,7 @@ fn look<G: Gate>(
 
 /// Answers one line of the probe. The gate hears of it.
 fn answer_line<G: Gate>(
-    asking: &Asking<G>,
+    asking: &ProbeContext<G>,
     probe: &mut Probe,
     answers: &mut ProbeAnswers,
     number: u32,
@@ -147,7 +147,7 @@ fn is_probe(probe: u32, actor: Actor) -> bool
 
 /// Answers the line at a place of the script, where it is the probe's.
 fn answer_next<G: Gate>(
-    asking: &Asking<G>,
+    asking: &ProbeContext<G>,
     probe: &mut Probe,
     answers: &mut ProbeAnswers,
     place: usize,
@@ -165,7 +165,7 @@ fn answer_next<G: Gate>(
         return Ok(());
     }
     match line.body {
-        Body::Probe(asked) => {
+        LineBody::Probe(asked) => {
             answer_line(asking, probe, answers, line.number, line.actor, asked)?;
             Ok(())
         }
@@ -175,7 +175,7 @@ fn answer_next<G: Gate>(
 
 /// Answers all lines of the probe.
 fn answer_all<G: Gate>(
-    asking: &Asking<G>,
+    asking: &ProbeContext<G>,
     probe: &mut Probe,
     answers: &mut ProbeAnswers,
 ) -> Result<(), NoMemory>
@@ -195,7 +195,7 @@ fn answer_all<G: Gate>(
 /// Runs a probe: each of its lines is answered by the frame that it saw last. It waits for
 /// the gate alone. Where it finds no memory, it answers no further line, and says so by
 /// `is_whole`; the probe comes back in any case.
-pub fn run_probe<G: Gate>(asking: &Asking<G>, mut probe: Probe) -> ProbeBack
+pub fn run_probe<G: Gate>(asking: &ProbeContext<G>, mut probe: Probe) -> ProbeBack
     requires playable { is_playable asking.now.script.now ≡ true }
     ensures { HasAsked asking.now.script.now probe.home asking.now.probe result }
 {

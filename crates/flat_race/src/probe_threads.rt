@@ -14,9 +14,9 @@ ghost use Rattle.flat_race.specs.Publishing.{hits_of};
 ghost use Rattle.flat_race.specs.ProbeThreads.{AreAnswered, AreProbesOut, IsProbeOut};
 ghost use Rattle.flat_race.specs.Settling.{LastIsPublished};
 
+use crate::actor_context::ActorContext;
 use crate::gate::Gate;
-use crate::lent::Lent;
-use crate::probe::{Asking, ProbeBack, run_probe};
+use crate::probe::{ProbeBack, ProbeContext, run_probe};
 use crate::settling::settle;
 use flat_base::NoMemory;
 use flat_places::Script;
@@ -30,13 +30,13 @@ use std::thread::{Promise, PromisedHandle, Scope, Threads};
 
 /// What a probe's thread promises of what it hands back.
 #[derive(Drop)]
-pub(crate) struct Asked<'a> {
+pub(crate) struct ProbePromise<'a> {
     script: &'a Script,
     home: BookMark,
     probe: u32,
 }
 
-impl<'a> Promise<ProbeBack> for Asked<'a> {
+impl<'a> Promise<ProbeBack> for ProbePromise<'a> {
     ghost use Rattle.flat_race.specs.Probing.{HasAsked};
 
     ghost kept_by = { λ p r. HasAsked p.script.now p.home p.probe r };
@@ -44,12 +44,12 @@ impl<'a> Promise<ProbeBack> for Asked<'a> {
 
 /// A probe that is out: a thread has it, or it was run here.
 #[derive(Drop)]
-pub(crate) enum ProbeOut<'a> {
-    Thread(PromisedHandle<ProbeBack, Asked<'a>>),
+pub(crate) enum LentProbe<'a> {
+    Thread(PromisedHandle<ProbeBack, ProbePromise<'a>>),
     Here(ProbeBack),
 }
 
-impl<'a> ProbeOut<'a> {
+impl<'a> LentProbe<'a> {
     /// Waits until the probe's run is over.
     fn wait<R: Threads>(
         self,
@@ -62,8 +62,8 @@ impl<'a> ProbeOut<'a> {
         ensures { HasAsked script.now published.now.home probe result }
     {
         match self {
-            ProbeOut::Thread(handle) => handle.join(rt),
-            ProbeOut::Here(back) => back,
+            LentProbe::Thread(handle) => handle.join(rt),
+            LentProbe::Here(back) => back,
         }
     }
 }
@@ -71,18 +71,18 @@ impl<'a> ProbeOut<'a> {
 /// Runs a probe on a thread of its own, or here where none can be started.
 fn start<'s, E, R, G: Gate>(
     scope: &Scope<'s, E>,
-    lent: &Lent<'s, R, G>,
+    context: &ActorContext<'s, R, G>,
     home: BookMark,
     seat: Probe,
     probe: u32,
-) -> ProbeOut<'s>
-    requires playable { is_playable lent.now.script.now ≡ true }
+) -> LentProbe<'s>
+    requires playable { is_playable context.now.script.now ≡ true }
     requires home { seat.home ≡ home }
-    ensures { IsProbeOut lent.now.script.now home probe result }
+    ensures { IsProbeOut context.now.script.now home probe result }
 {
-    let (alloc, script, gate, waits) = (lent.alloc, lent.script, lent.gate, lent.waits);
+    let (alloc, script, gate, waits) = (context.alloc, context.script, context.gate, context.waits);
     match scope.spawn_with(
-        Asked {
+        ProbePromise {
             script,
             home,
             probe,
@@ -91,7 +91,7 @@ fn start<'s, E, R, G: Gate>(
             requires { is_playable script.now ≡ true }
             ensures { HasAsked script.entry.now seat.home probe result }
         {
-            let asking = Asking {
+            let asking = ProbeContext {
                 alloc,
                 script,
                 gate,
@@ -101,32 +101,32 @@ fn start<'s, E, R, G: Gate>(
             run_probe(&asking, seat)
         },
     ) {
-        Ok(handle) => ProbeOut::Thread(handle),
-        Err(refused) => ProbeOut::Here((refused.value)()),
+        Ok(handle) => LentProbe::Thread(handle),
+        Err(refused) => LentProbe::Here((refused.value)()),
     }
 }
 
 /// Starts each probe, the first one first.
 pub(crate) fn start_probes<'s, E, R: Threads, G: Gate>(
     scope: &Scope<'s, E>,
-    lent: &Lent<'s, R, G>,
+    context: &ActorContext<'s, R, G>,
     published: &Published,
     probes: &mut ProbeSeats,
-) -> Result<VecDeque<ProbeOut<'s>>, NoMemory>
-    requires playable { is_playable lent.now.script.now ≡ true }
-    requires fresh { probes.old ≡ replicate lent.now.script.now.setup.probes
+) -> Result<VecDeque<LentProbe<'s>>, NoMemory>
+    requires playable { is_playable context.now.script.now ≡ true }
+    requires fresh { probes.old ≡ replicate context.now.script.now.setup.probes
         (Some (newcomer published.now.home)) }
-    ensures out { IfOk result (λ out. AreProbesOut lent.now.script.now published.now.home 0
+    ensures out { IfOk result (λ out. AreProbesOut context.now.script.now published.now.home 0
         out.items) }
-    ensures many { IfOk result (λ out. length out.items ≡ lent.now.script.now.setup.probes) }
+    ensures many { IfOk result (λ out. length out.items ≡ context.now.script.now.setup.probes) }
 {
-    let count = lent.script.setup.probes;
-    let mut out = VecDeque::with_capacity(lent.alloc, count as usize)?;
+    let count = context.script.setup.probes;
+    let mut out = VecDeque::with_capacity(context.alloc, count as usize)?;
     for probe in 0..count {
         let Some(seat) = probes.take(probe) else {
             unreachable!()
         };
-        let started = start(scope, lent, published.home(), seat, probe);
+        let started = start(scope, context, published.home(), seat, probe);
         out.push_back_reserved(started);
     }
     Ok(out)
@@ -198,7 +198,7 @@ pub(crate) fn meet_each<'s, R: Threads>(
     script: &Script,
     published: &mut Published,
     last: &mut LastFrame,
-    mut out: VecDeque<ProbeOut<'s>>,
+    mut out: VecDeque<LentProbe<'s>>,
 ) -> Result<Vec<ProbeAnswers>, NoMemory>
     requires playable { is_playable script.now ≡ true }
     requires is { IsLast script.now.setup last.old }

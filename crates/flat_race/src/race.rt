@@ -11,17 +11,17 @@ ghost use Rattle.flat_play.specs.Beginning.{AreBegun};
 ghost use Rattle.flat_play.specs.Keeping.{keeping_of};
 ghost use Rattle.flat_play.specs.Runs.{HasRun};
 ghost use Rattle.flat_race.specs.Directing.{IsNewFilm};
-ghost use Rattle.flat_race.specs.declared.running.Stopped.{Stopped};
+ghost use Rattle.flat_race.specs.declared.running.StoppedRace.{StoppedRace};
 ghost use Rattle.flat_race.specs.Ends.{AreAtRest, HaveEnded, IsHandedOut, MayRace};
 ghost use Rattle.flat_race.specs.Sessions.{IsStageOf};
 
-use crate::film::Film;
 use crate::gate::Gate;
-use crate::running::{RaceContext, RaceState, Raced, Stopped, on_threads};
+use crate::race_frames::RaceFrames;
+use crate::running::{RaceContext, RaceState, Raced, StoppedRace, on_threads};
 use flat_base::NoMemory;
 use flat_display::{Display, DisplaySet};
 use flat_places::Script;
-use flat_play::{FrameStore, Keeping, Played, let_go, open_board};
+use flat_play::{FinishedPlay, FrameStore, FramesToKeep, let_go, open_board};
 use flat_rules::{journals_keep_seats, seats_tell_actors};
 use flat_stage::{Compositor, SessionSeats, Stage};
 use std::alloc::Global;
@@ -33,16 +33,16 @@ use std::thread::Threads;
 fn new_film(
     alloc: Global,
     script: &Script,
-    keeping: Keeping,
+    keeping: FramesToKeep,
     displays: u32,
-) -> Result<Film, NoMemory>
+) -> Result<RaceFrames, NoMemory>
     requires playable { is_playable script.now ≡ true }
     ensures new { IfOk result (IsNewFilm script.now displays) }
     ensures keeping { IfOk result (λ film. keeping_of film.store.kept ≡ keeping) }
 {
     let set = DisplaySet::new(alloc, displays)?;
     let store = FrameStore::new(alloc, script, keeping)?;
-    Ok(Film {
+    Ok(RaceFrames {
         store,
         set,
         probes: Vec::new(alloc),
@@ -62,7 +62,7 @@ fn new_stage(alloc: Global, script: &Script) -> Result<(Stage, Compositor, Sessi
 }
 
 /// Ends a race: all seats are handed back, and the board out.
-fn close(stage: Stage, script: &Script, ended: RaceState) -> Played
+fn close(stage: Stage, script: &Script, ended: RaceState) -> FinishedPlay
     requires playable { is_playable script.now ≡ true }
     requires of { IsStageOf stage script.now }
     requires ended { HaveEnded stage script.now ended.compositor.display ended.seats ended.film }
@@ -78,13 +78,13 @@ fn close(stage: Stage, script: &Script, ended: RaceState) -> Played
         film,
     } = ended;
     let board = stage.close(compositor, seats);
-    let Film { store, set, probes } = film;
+    let RaceFrames { store, set, probes } = film;
     let FrameStore {
         kept,
         last: _,
         answers,
     } = store;
-    Played {
+    FinishedPlay {
         board,
         kept,
         answers,
@@ -94,17 +94,17 @@ fn close(stage: Stage, script: &Script, ended: RaceState) -> Played
 }
 
 /// Ends a race in which an actor found no memory. What was done by then begins the script.
-fn close_stopped(stage: Stage, script: &Script, stopped: Option<Stopped>)
+fn close_stopped(stage: Stage, script: &Script, stopped: Option<StoppedRace>)
     requires playable { is_playable script.now ≡ true }
     requires of { IsStageOf stage script.now }
-    requires rest { (one : Stopped) → stopped ≡ Some one →
+    requires rest { (one : StoppedRace) → stopped ≡ Some one →
         AreAtRest stage script.now one.compositor.display one.seats }
-    ensures { (one : Stopped) → stopped ≡ Some one → AreBegun script.now
+    ensures { (one : StoppedRace) → stopped ≡ Some one → AreBegun script.now
         (finished script.now.setup (history_of one.compositor.display.seen)) }
 {
     seats_tell_actors();
     journals_keep_seats();
-    let Some(Stopped { compositor, seats }) = stopped else {
+    let Some(StoppedRace { compositor, seats }) = stopped else {
         return;
     };
     // proof: what each actor did is known of a stage that is closed.
@@ -117,7 +117,7 @@ fn race_on<T: Threads + Wait + Sync, G: Gate>(
     stage: Stage,
     state: RaceState,
     displays: &mut Vec<Box<dyn Display>>,
-) -> Result<Played, NoMemory>
+) -> Result<FinishedPlay, NoMemory>
     requires may { MayRace stage context.now.script.now (length displays.old.items) state }
     ensures run { IfOk result (HasRun (λ d. shown d) (λ d. faults d) context.now.script.now
         displays.old.items displays.new.items (keeping_of state.film.store.kept)) }
@@ -154,10 +154,10 @@ pub fn race_script<T: Threads + Wait + Sync, G: Gate>(
     rt: &T,
     alloc: Global,
     script: &Script,
-    keeping: Keeping,
+    keeping: FramesToKeep,
     displays: &mut Vec<Box<dyn Display>>,
     gate: &G,
-) -> Result<Played, NoMemory>
+) -> Result<FinishedPlay, NoMemory>
     requires playable { is_playable script.now ≡ true }
     requires few { length displays.old.items < 2 ^ 32 }
     ensures run { IfOk result (HasRun (λ d. shown d) (λ d. faults d) script.now displays.old.items

@@ -4,17 +4,17 @@ ghost use Rattle.std.specs.Prelude.{◌≡◌, ◌<◌, [], length, map, replica
 ghost use Rattle.flat_publish.specs.State.{newcomer};
 ghost use Rattle.flat_race.specs.Ends.{HaveRaced, IsStopped, MayRace, StopsAt};
 
+use crate::actor_context::ActorContext;
 use crate::director::direct;
-use crate::film::Film;
 use crate::gate::Gate;
-use crate::lent::Lent;
 use crate::probe_threads::{meet_each, start_probes};
+use crate::race_frames::RaceFrames;
 use crate::threads::{COMPOSITOR, put_back, start_each};
 use flat_display::Display;
 use flat_places::Script;
 use flat_publish::{ProbeSeats, Published};
 use flat_stage::{Compositor, SessionSeats, Stage};
-use flat_waits::Waits;
+use flat_waits::SharedWaits;
 use std::alloc::Global;
 use std::sync::Wait;
 use std::thread;
@@ -36,19 +36,19 @@ pub(crate) struct RaceContext<'a, T, G> {
 pub(crate) struct RaceState {
     pub(crate) compositor: Compositor,
     pub(crate) seats: SessionSeats,
-    pub(crate) film: Film,
+    pub(crate) film: RaceFrames,
 }
 
 /// What comes back if an actor ran out of memory once the compositor had begun.
 #[derive(Drop)]
-pub(crate) struct Stopped {
+pub(crate) struct StoppedRace {
     pub(crate) compositor: Compositor,
     pub(crate) seats: SessionSeats,
 }
 
 /// When a race found no memory, and ends before its script does.
 #[derive(Clone, Copy)]
-pub(crate) enum Halt {
+pub(crate) enum RaceHalt {
     /// Before the compositor began. Seats of sessions may be away, and no display was shown
     /// anything.
     Early,
@@ -56,72 +56,72 @@ pub(crate) enum Halt {
     Late,
 }
 
-/// What comes back from a race: the displays, and the state or what [`Stopped`] keeps of it. If an
+/// What comes back from a race: the displays, and the state or what [`StoppedRace`] keeps of it. If an
 /// actor ran out of memory before the compositor began, the displays alone come back.
 #[derive(Drop)]
 pub(crate) struct Raced {
     pub(crate) displays: Vec<Box<dyn Display>>,
-    pub(crate) ended: Result<RaceState, Option<Stopped>>,
+    pub(crate) ended: Result<RaceState, Option<StoppedRace>>,
 }
 
 /// Runs the sessions and the probes beside the compositor, and puts the seats of all
 /// sessions back.
 fn run_beside<'s, E, T: Threads + Wait + Sync, G: Gate>(
     scope: &Scope<'s, E>,
-    lent: &Lent<'s, T, G>,
+    context: &ActorContext<'s, T, G>,
     state: &mut RaceState,
     displays: &mut Vec<Box<dyn Display>>,
     published: &mut Published,
     probes: &mut ProbeSeats,
-) -> Result<(), Halt>
-    requires may { MayRace lent.now.stage.now lent.now.script.now (length displays.old.items)
+) -> Result<(), RaceHalt>
+    requires may { MayRace context.now.stage.now context.now.script.now (length displays.old.items)
         state.old }
     requires unpublished { published.old
         ≡ record { home = published.old.home; frames = []; refused = []; given = 0 } }
-    requires probes { probes.old ≡ replicate lent.now.script.now.setup.probes
+    requires probes { probes.old ≡ replicate context.now.script.now.setup.probes
         (Some (newcomer published.old.home)) }
-    ensures raced { OnOk result (HaveRaced (λ d. shown d) (λ d. faults d) lent.now.stage.now
-        lent.now.script.now displays.old.items displays.new.items state.old state.new) }
+    ensures raced { OnOk result (HaveRaced (λ d. shown d) (λ d. faults d) context.now.stage.now
+        context.now.script.now displays.old.items displays.new.items state.old state.new) }
     ensures stopped { IfErr result (StopsAt (λ d. shown d) (λ d. faults d)
-        lent.now.stage.now lent.now.script.now displays.old.items displays.new.items
+        context.now.stage.now context.now.script.now displays.old.items displays.new.items
         state.new.compositor.display state.new.seats) }
     ensures kinds { map (λ d. d.vtable) displays.new.items
         ≡ map (λ d. d.vtable) displays.old.items }
 {
-    let Ok(out) = start_each(scope, lent, &mut state.seats) else {
-        return Err(Halt::Early);
+    let Ok(out) = start_each(scope, context, &mut state.seats) else {
+        return Err(RaceHalt::Early);
     };
-    let Ok(asked) = start_probes(scope, lent, published, probes) else {
-        lent.waits.end_frames();
+    let Ok(asked) = start_probes(scope, context, published, probes) else {
+        context.waits.end_frames();
         drop(out);
-        return Err(Halt::Early);
+        return Err(RaceHalt::Early);
     };
     let directed = direct(
-        lent,
+        context,
         &mut state.compositor,
         &mut state.film,
         displays,
         published,
     );
-    lent.waits.end_frames();
-    let are_whole = put_back(lent, &mut state.seats, out);
+    context.waits.end_frames();
+    let are_whole = put_back(context, &mut state.seats, out);
     let Ok(()) = directed else {
         drop(asked);
-        return Err(Halt::Late);
+        return Err(RaceHalt::Late);
     };
     if !are_whole {
         drop(asked);
-        return Err(Halt::Late);
+        return Err(RaceHalt::Late);
     }
     let Ok(answers) = meet_each(
-        lent.rt,
-        lent.alloc,
-        lent.script,
+        context.rt,
+        context.alloc,
+        context.script,
         published,
         &mut state.film.store.last,
         asked,
     ) else {
-        return Err(Halt::Late);
+        return Err(RaceHalt::Late);
     };
     state.film.probes = answers;
     Ok(())
@@ -131,53 +131,54 @@ fn run_beside<'s, E, T: Threads + Wait + Sync, G: Gate>(
 /// probes is let go at the end.
 fn run_all<'s, E, T: Threads + Wait + Sync, G: Gate>(
     scope: &Scope<'s, E>,
-    lent: &Lent<'s, T, G>,
+    context: &ActorContext<'s, T, G>,
     state: &mut RaceState,
     displays: &mut Vec<Box<dyn Display>>,
-) -> Result<(), Halt>
-    requires may { MayRace lent.now.stage.now lent.now.script.now (length displays.old.items)
+) -> Result<(), RaceHalt>
+    requires may { MayRace context.now.stage.now context.now.script.now (length displays.old.items)
         state.old }
-    ensures raced { OnOk result (HaveRaced (λ d. shown d) (λ d. faults d) lent.now.stage.now
-        lent.now.script.now displays.old.items displays.new.items state.old state.new) }
+    ensures raced { OnOk result (HaveRaced (λ d. shown d) (λ d. faults d) context.now.stage.now
+        context.now.script.now displays.old.items displays.new.items state.old state.new) }
     ensures stopped { IfErr result (StopsAt (λ d. shown d) (λ d. faults d)
-        lent.now.stage.now lent.now.script.now displays.old.items displays.new.items
+        context.now.stage.now context.now.script.now displays.old.items displays.new.items
         state.new.compositor.display state.new.seats) }
     ensures kinds { map (λ d. d.vtable) displays.new.items
         ≡ map (λ d. d.vtable) displays.old.items }
 {
     let Ok((mut published, mut probes)) = Published::new(
-        lent.rt,
-        lent.alloc,
-        lent.script.setup.probes,
+        context.rt,
+        context.alloc,
+        context.script.setup.probes,
     ) else {
-        return Err(Halt::Early);
+        return Err(RaceHalt::Early);
     };
-    let run = run_beside(scope, lent, state, displays, &mut published, &mut probes);
-    published.close(lent.rt);
+    let run = run_beside(scope, context, state, displays, &mut published, &mut probes);
+    published.close(context.rt);
     run
 }
 
 /// Runs the sessions beside the compositor, and answers what all of them leave.
 fn run_in<'s, E, T: Threads + Wait + Sync, G: Gate>(
     scope: &Scope<'s, E>,
-    lent: &Lent<'s, T, G>,
+    context: &ActorContext<'s, T, G>,
     mut state: RaceState,
     mut displays: Vec<Box<dyn Display>>,
 ) -> Raced
-    requires may { MayRace lent.now.stage.now lent.now.script.now (length displays.items) state }
+    requires may { MayRace context.now.stage.now context.now.script.now (length displays.items)
+        state }
     ensures raced { IfOk result.ended (λ e. HaveRaced (λ d. shown d) (λ d. faults d)
-        lent.now.stage.now lent.now.script.now displays.items result.displays.items state e) }
+        context.now.stage.now context.now.script.now displays.items result.displays.items state e) }
     ensures stopped { IfErr result.ended (λ stopped. IsStopped (λ d. shown d) (λ d. faults d)
-        lent.now.stage.now lent.now.script.now displays.items result.displays.items stopped) }
+        context.now.stage.now context.now.script.now displays.items result.displays.items stopped) }
     ensures kinds { map (λ d. d.vtable) result.displays.items
         ≡ map (λ d. d.vtable) displays.items }
 {
-    match run_all(scope, lent, &mut state, &mut displays) {
+    match run_all(scope, context, &mut state, &mut displays) {
         Ok(()) => Raced {
             displays,
             ended: Ok(state),
         },
-        Err(Halt::Late) => {
+        Err(RaceHalt::Late) => {
             let RaceState {
                 compositor,
                 seats,
@@ -186,10 +187,10 @@ fn run_in<'s, E, T: Threads + Wait + Sync, G: Gate>(
             drop(film);
             Raced {
                 displays,
-                ended: Err(Some(Stopped { compositor, seats })),
+                ended: Err(Some(StoppedRace { compositor, seats })),
             }
         }
-        Err(Halt::Early) => {
+        Err(RaceHalt::Early) => {
             drop(state);
             Raced {
                 displays,
@@ -215,7 +216,7 @@ pub(crate) fn on_threads<T: Threads + Wait + Sync, G: Gate>(
         ≡ map (λ d. d.vtable) displays.items }
 {
     let (rt, alloc, script, gate) = (context.rt, context.alloc, context.script, context.gate);
-    let waits = Waits::new(script.setup.sessions.saturating_add(COMPOSITOR));
+    let waits = SharedWaits::new(script.setup.sessions.saturating_add(COMPOSITOR));
     let waits = &waits;
     thread::scope(
         thread::scope_env(),
@@ -229,7 +230,7 @@ pub(crate) fn on_threads<T: Threads + Wait + Sync, G: Gate>(
                 × (map (λ d. d.vtable) result.displays.items ≡ map (λ d. d.vtable)
                 displays.items) }
         {
-            let lent = Lent {
+            let context = ActorContext {
                 rt,
                 alloc,
                 stage,
@@ -237,7 +238,7 @@ pub(crate) fn on_threads<T: Threads + Wait + Sync, G: Gate>(
                 gate,
                 waits,
             };
-            run_in(scope, &lent, state, displays)
+            run_in(scope, &context, state, displays)
         },
     )
 }

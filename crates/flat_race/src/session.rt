@@ -3,7 +3,7 @@
 ghost use Rattle.std.specs.Prelude.{◌≡◌, ◌+◌, ◌<◌, ◌≤◌, ◌^◌, ℕ, List, [], ◌∷◌, ◌++◌, Bool, true, ◌&&◌, false, length};
 ghost use Rattle.std.specs.Prelude.{Some, slice_get, IsTrue, OnErr, OnOk};
 ghost use Rattle.flat_base.specs.declared.ids.Actor.TheVariants.{Session};
-ghost use Rattle.flat_scene.specs.declared.script.Line.{Line};
+ghost use Rattle.flat_scene.specs.declared.script.SessionLine.{SessionLine};
 ghost use Rattle.flat_scene.specs.declared.script.ScriptLine.{ScriptLine};
 ghost use Rattle.flat_scene.specs.History.{closes, is_session};
 ghost use Rattle.flat_scene.specs.Journals.{history_of};
@@ -18,12 +18,12 @@ ghost use Rattle.flat_stage.specs.Seats.{GoesOn, HasRoom, is_ended, setup_of};
 ghost use Rattle.flat_race.specs.OwnLines.{own_places};
 ghost use Rattle.flat_race.specs.Sessions.{makes_entry, HasRun, IsSame, IsStageOf, SessionStands};
 
+use crate::actor_context::ActorContext;
 use crate::gate::{ASKS, Gate, LOOKS, ask};
-use crate::lent::Lent;
 use flat_base::{NoMemory, SessionNo, TryCopy};
 use flat_core::asked_of;
-use flat_scene::{Body, Call, Cond, Line};
-use flat_session::Edit;
+use flat_scene::{Call, LineBody, SessionLine, WaitCondition};
+use flat_session::EditOutcome;
 use flat_stage::{SessionSeat, new_seats_have_read};
 use flat_waits::Waiter;
 use std::sync::Wait;
@@ -46,24 +46,24 @@ pub fn both(first: bool, second: bool) -> bool
 
 /// Whether a line of an open session always makes an entry: all do but calls of its
 /// own draft.
-fn makes_entry(text: &Line) -> bool
+fn makes_entry(text: &SessionLine) -> bool
     ensures { result ≡ makes_entry text.now }
 {
     match text {
-        Line::Call(Call::CreateView { .. } | Call::CreateViewport { .. }) => true,
-        Line::Call(_) => false,
+        SessionLine::Call(Call::CreateView { .. } | Call::CreateViewport { .. }) => true,
+        SessionLine::Call(_) => false,
         _ => true,
     }
 }
 
 /// Looks at a condition if there is news, and answers whether its value was enough.
 fn look_once<R: Wait, G: Gate>(
-    lent: &Lent<R, G>,
+    context: &ActorContext<R, G>,
     seat: &mut SessionSeat,
     waiter: &mut Waiter<'_>,
-    c: Cond,
+    c: WaitCondition,
 ) -> bool
-    requires own { seat.old.stage ≡ lent.now.stage.now }
+    requires own { seat.old.stage ≡ context.now.stage.now }
     requires may { MayLook (setup_of seat.old.stage) (Session seat.old.session) c }
     ensures same { IsSame seat.old seat.new }
     ensures met { IsTrue result → asked_of c ≤ value_of (setup_of seat.old.stage)
@@ -72,7 +72,7 @@ fn look_once<R: Wait, G: Gate>(
     if !waiter.has_news() {
         return false;
     }
-    if asked_of(c) <= seat.look(lent.rt, lent.stage, c) {
+    if asked_of(c) <= seat.look(context.rt, context.stage, c) {
         return true;
     }
     waiter.found_too_little();
@@ -83,12 +83,12 @@ fn look_once<R: Wait, G: Gate>(
 /// answers whether it was enough. It looks again once something was entered, at most so
 /// often as a Wait may look. The gate is asked each time, with one budget of the line.
 fn look_again<R: Wait, G: Gate>(
-    lent: &Lent<R, G>,
+    context: &ActorContext<R, G>,
     seat: &mut SessionSeat,
     number: u32,
-    c: Cond,
+    c: WaitCondition,
 ) -> bool
-    requires own { seat.old.stage ≡ lent.now.stage.now }
+    requires own { seat.old.stage ≡ context.now.stage.now }
     requires owned { is_played_condition (setup_of seat.old.stage) seat.old.session c ≡ true }
     ensures same { IsSame seat.old seat.new }
     ensures met { IsTrue result → asked_of c ≤ value_of (setup_of seat.old.stage)
@@ -96,10 +96,10 @@ fn look_again<R: Wait, G: Gate>(
 {
     let SessionNo(actor) = seat.session();
     let mut left = ASKS;
-    let mut waiter = Waiter::new(lent.waits);
+    let mut waiter = Waiter::new(context.waits);
     for _ in 0..LOOKS {
-        left = ask(lent.gate, actor, number, left);
-        if look_once(lent, seat, &mut waiter, c) {
+        left = ask(context.gate, actor, number, left);
+        if look_once(context, seat, &mut waiter, c) {
             return true;
         }
         if waiter.is_over() {
@@ -113,18 +113,23 @@ fn look_again<R: Wait, G: Gate>(
 }
 
 /// Asks the gate as is due before a line of an open session.
-fn pause<R: Wait, G: Gate>(lent: &Lent<R, G>, seat: &mut SessionSeat, number: u32, text: &Line)
-    requires own { seat.old.stage ≡ lent.now.stage.now }
+fn pause<R: Wait, G: Gate>(
+    context: &ActorContext<R, G>,
+    seat: &mut SessionSeat,
+    number: u32,
+    text: &SessionLine,
+)
+    requires own { seat.old.stage ≡ context.now.stage.now }
     requires owned { is_played_line (setup_of seat.old.stage) seat.old.session text.now ≡ true }
     ensures { IsSame seat.old seat.new }
 {
     match text {
-        Line::Wait(c) => {
-            look_again(lent, seat, number, *c);
+        SessionLine::Wait(c) => {
+            look_again(context, seat, number, *c);
         }
         _ => {
             if makes_entry(text) {
-                ask(lent.gate, seat.session().0, number, ASKS);
+                ask(context.gate, seat.session().0, number, ASKS);
             }
         }
     }
@@ -132,74 +137,75 @@ fn pause<R: Wait, G: Gate>(lent: &Lent<R, G>, seat: &mut SessionSeat, number: u3
 
 /// Reads a line of the session that may make an entry. The gate hears of the entry.
 fn enter_line<R: Wait, G: Gate>(
-    lent: &Lent<R, G>,
+    context: &ActorContext<R, G>,
     seat: &mut SessionSeat,
     number: u32,
-    text: Line,
+    text: SessionLine,
 ) -> Result<(), NoMemory>
-    requires own { seat.old.stage ≡ lent.now.stage.now }
+    requires own { seat.old.stage ≡ context.now.stage.now }
     requires unended { is_ended seat.old.mine ≡ false }
     requires owned { is_played_line (setup_of seat.old.stage) seat.old.session text ≡ true }
     requires room { HasRoom seat.old }
     requires few { seat.old.refused + 1 < 2 ^ 32 }
     ensures goes_on { GoesOn seat.old seat.new }
     ensures kept { OnErr result (seat.new.mine ≡ seat.old.mine) }
-    ensures follows { (given : List (ℕ × Line)) → SeatHasRead given seat.old →
+    ensures follows { (given : List (ℕ × SessionLine)) → SeatHasRead given seat.old →
         OnOk result (SeatHasRead (given ++ (number, text) ∷ []) seat.new) }
 {
-    pause(lent, seat, number, &text);
-    let reply = seat.call(lent.rt, lent.stage, number, text)?;
-    lent.waits.enter();
-    lent.gate.passed(seat.session().0, number, &reply);
+    pause(context, seat, number, &text);
+    let reply = seat.call(context.rt, context.stage, number, text)?;
+    context.waits.enter();
+    context.gate.passed(seat.session().0, number, &reply);
     Ok(())
 }
 
 /// Reads one line of the session. It waits only before a line that makes an entry.
 fn read_line<R: Wait, G: Gate>(
-    lent: &Lent<R, G>,
+    context: &ActorContext<R, G>,
     seat: &mut SessionSeat,
     number: u32,
-    text: &Line,
+    text: &SessionLine,
 ) -> Result<(), NoMemory>
-    requires own { seat.old.stage ≡ lent.now.stage.now }
+    requires own { seat.old.stage ≡ context.now.stage.now }
     requires unended { is_ended seat.old.mine ≡ false }
     requires owned { is_played_line (setup_of seat.old.stage) seat.old.session text.now ≡ true }
     requires room { HasRoom seat.old }
     requires few { seat.old.refused + 1 < 2 ^ 32 }
     ensures goes_on { GoesOn seat.old seat.new }
     ensures kept { OnErr result (seat.new.mine ≡ seat.old.mine) }
-    ensures follows { (given : List (ℕ × Line)) → SeatHasRead given seat.old →
+    ensures follows { (given : List (ℕ × SessionLine)) → SeatHasRead given seat.old →
         OnOk result (SeatHasRead (given ++ (number, text.now) ∷ []) seat.new) }
 {
-    let line = text.copy(lent.alloc)?;
+    let line = text.copy(context.alloc)?;
     match seat.edit(line)? {
-        Edit::Read(_) => Ok(()),
-        Edit::Unread(line) => enter_line(lent, seat, number, line),
+        EditOutcome::Read(_) => Ok(()),
+        EditOutcome::Unread(line) => enter_line(context, seat, number, line),
     }
 }
 
 /// Reads the session's line at a place of the script.
 fn read_next<R: Wait, G: Gate>(
-    lent: &Lent<R, G>,
+    context: &ActorContext<R, G>,
     seat: &mut SessionSeat,
     place: usize,
 ) -> Result<(), NoMemory>
-    requires place { place < length lent.now.script.now.lines }
-    requires mine { (next : ScriptLine) → slice_get lent.now.script.now.lines place ≡ Some next →
+    requires place { place < length context.now.script.now.lines }
+    requires mine { (next : ScriptLine) → slice_get context.now.script.now.lines place ≡ Some next →
         is_session seat.old.session next.actor ≡ true }
-    requires playable { is_playable lent.now.script.now ≡ true }
-    requires of { IsStageOf lent.now.stage.now lent.now.script.now }
-    requires stands { SessionStands lent.now.script.now lent.now.stage.now seat.old.session place
+    requires playable { is_playable context.now.script.now ≡ true }
+    requires of { IsStageOf context.now.stage.now context.now.script.now }
+    requires stands { SessionStands context.now.script.now context.now.stage.now seat.old.session
+        place
         seat.old }
-    ensures stands { OnOk result (SessionStands lent.now.script.now lent.now.stage.now
+    ensures stands { OnOk result (SessionStands context.now.script.now context.now.stage.now
         seat.old.session (place + 1) seat.new) }
     ensures kept { OnErr result (seat.new.mine ≡ seat.old.mine) }
     ensures same { (seat.new.stage ≡ seat.old.stage) × (seat.new.session ≡ seat.old.session) }
 {
-    let line = lent.script.lines.at(place);
+    let line = context.script.lines.at(place);
     match &line.body {
-        Body::Session(text) => {
-            read_line(lent, seat, line.number, text)?;
+        LineBody::Session(text) => {
+            read_line(context, seat, line.number, text)?;
             Ok(())
         }
         _ => Ok(()),
@@ -207,44 +213,44 @@ fn read_next<R: Wait, G: Gate>(
 }
 
 /// Ends the session.
-fn finish<R: Wait, G: Gate>(lent: &Lent<R, G>, seat: &mut SessionSeat)
-    requires playable { is_playable lent.now.script.now ≡ true }
-    requires of { IsStageOf lent.now.stage.now lent.now.script.now }
-    requires stands { SessionStands lent.now.script.now lent.now.stage.now seat.old.session
-        (length lent.now.script.now.lines) seat.old }
+fn finish<R: Wait, G: Gate>(context: &ActorContext<R, G>, seat: &mut SessionSeat)
+    requires playable { is_playable context.now.script.now ≡ true }
+    requires of { IsStageOf context.now.stage.now context.now.script.now }
+    requires stands { SessionStands context.now.script.now context.now.stage.now seat.old.session
+        (length context.now.script.now.lines) seat.old }
     ensures same { (seat.new.stage ≡ seat.old.stage) × (seat.new.session ≡ seat.old.session) }
-    ensures read { IsReading lent.now.script.now.setup lent.now.script.now.count
-        (session_lines seat.old.session lent.now.script.now.lines) (history_of seat.new.mine) }
+    ensures read { IsReading context.now.script.now.setup context.now.script.now.count
+        (session_lines seat.old.session context.now.script.now.lines) (history_of seat.new.mine) }
 {
     let SessionNo(actor) = seat.session();
-    let number = lent.script.count + 1;
-    ask(lent.gate, actor, number, ASKS);
-    let reply = seat.end(lent.rt, lent.stage, number);
-    lent.waits.enter();
-    lent.gate.passed(actor, number, &reply);
+    let number = context.script.count + 1;
+    ask(context.gate, actor, number, ASKS);
+    let reply = seat.end(context.rt, context.stage, number);
+    context.waits.enter();
+    context.gate.passed(actor, number, &reply);
 }
 
 /// Reads all lines of the session, which stand at these places, and ends it.
 fn read_all<R: Wait, G: Gate>(
-    lent: &Lent<R, G>,
+    context: &ActorContext<R, G>,
     seat: &mut SessionSeat,
     places: &[usize],
 ) -> Result<(), NoMemory>
-    requires places { places.now ≡ own_places seat.old.session lent.now.script.now.lines }
-    requires playable { is_playable lent.now.script.now ≡ true }
-    requires of { IsStageOf lent.now.stage.now lent.now.script.now }
-    requires fresh { seat.old ≡ fresh_view lent.now.stage.now seat.old.session }
+    requires places { places.now ≡ own_places seat.old.session context.now.script.now.lines }
+    requires playable { is_playable context.now.script.now ≡ true }
+    requires of { IsStageOf context.now.stage.now context.now.script.now }
+    requires fresh { seat.old ≡ fresh_view context.now.stage.now seat.old.session }
     ensures same { (seat.new.stage ≡ seat.old.stage) × (seat.new.session ≡ seat.old.session) }
-    ensures read { OnOk result (IsReading lent.now.script.now.setup lent.now.script.now.count
-        (session_lines seat.old.session lent.now.script.now.lines) (history_of seat.new.mine)) }
-    ensures begun { Follows lent.now.script.now.setup lent.now.script.now.count
-        (session_lines seat.old.session lent.now.script.now.lines) (history_of seat.new.mine) }
+    ensures read { OnOk result (IsReading context.now.script.now.setup context.now.script.now.count
+        (session_lines seat.old.session context.now.script.now.lines) (history_of seat.new.mine)) }
+    ensures begun { Follows context.now.script.now.setup context.now.script.now.count
+        (session_lines seat.old.session context.now.script.now.lines) (history_of seat.new.mine) }
 {
     new_seats_have_read();
     for i in 0..places.len() {
-        read_next(lent, seat, places[i])?;
+        read_next(context, seat, places[i])?;
     }
-    finish(lent, seat);
+    finish(context, seat);
     Ok(())
 }
 
@@ -252,17 +258,17 @@ fn read_all<R: Wait, G: Gate>(
 /// ends. Where it finds no memory, it makes no further entry, and says so by `is_whole`. The
 /// seat comes back in any case: its stage can't be closed without it.
 pub fn run_session<R: Wait, G: Gate>(
-    lent: &Lent<R, G>,
+    context: &ActorContext<R, G>,
     mut seat: SessionSeat,
     places: &[usize],
 ) -> SessionBack
-    requires places { places.now ≡ own_places seat.session lent.now.script.now.lines }
-    requires playable { is_playable lent.now.script.now ≡ true }
-    requires of { IsStageOf lent.now.stage.now lent.now.script.now }
-    requires fresh { seat ≡ fresh_view lent.now.stage.now seat.session }
-    ensures { HasRun lent.now.stage.now lent.now.script.now seat.session result }
+    requires places { places.now ≡ own_places seat.session context.now.script.now.lines }
+    requires playable { is_playable context.now.script.now ≡ true }
+    requires of { IsStageOf context.now.stage.now context.now.script.now }
+    requires fresh { seat ≡ fresh_view context.now.stage.now seat.session }
+    ensures { HasRun context.now.stage.now context.now.script.now seat.session result }
 {
-    let is_whole = read_all(lent, &mut seat, places).is_ok();
-    lent.waits.leave();
+    let is_whole = read_all(context, &mut seat, places).is_ok();
+    context.waits.leave();
     SessionBack { seat, is_whole }
 }

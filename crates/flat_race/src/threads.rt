@@ -9,8 +9,8 @@ ghost use Rattle.flat_race.specs.Sessions.{HasRun, IsStageOf};
 ghost use Rattle.flat_race.specs.PlaceLists.{ArePlaces};
 ghost use Rattle.flat_race.specs.SessionThreads.{AreBack, AreLeft, AreOut, IsOut};
 
+use crate::actor_context::ActorContext;
 use crate::gate::Gate;
-use crate::lent::Lent;
 use crate::own_lines::{PlaceList, places_by_session};
 use crate::session::{SessionBack, both, run_session};
 use flat_base::{NoMemory, SessionNo};
@@ -26,13 +26,13 @@ pub(crate) const COMPOSITOR: u32 = 1;
 
 /// What a session's thread promises of the seat that it hands back.
 #[derive(Drop)]
-pub(crate) struct Promised<'a> {
+pub(crate) struct SeatPromise<'a> {
     stage: &'a Stage,
     script: &'a Script,
     session: SessionNo,
 }
 
-impl<'a> Promise<SessionBack> for Promised<'a> {
+impl<'a> Promise<SessionBack> for SeatPromise<'a> {
     ghost use Rattle.flat_race.specs.Sessions.{HasRun};
 
     ghost kept_by = { λ p r. HasRun p.stage.now p.script.now p.session r };
@@ -40,20 +40,20 @@ impl<'a> Promise<SessionBack> for Promised<'a> {
 
 /// A seat that is out: a thread has it, or its session was run here.
 #[derive(Drop)]
-pub(crate) enum Out<'a> {
-    Thread(PromisedHandle<SessionBack, Promised<'a>>),
+pub(crate) enum LentSeat<'a> {
+    Thread(PromisedHandle<SessionBack, SeatPromise<'a>>),
     Here(SessionBack),
 }
 
-impl<'a> Out<'a> {
+impl<'a> LentSeat<'a> {
     /// Waits until the session's run is over.
-    fn wait<R: Threads, G>(self, lent: &Lent<R, G>, session: SessionNo) -> SessionBack
-        requires { IsOut lent.now.stage.now lent.now.script.now session self }
-        ensures { HasRun lent.now.stage.now lent.now.script.now session result }
+    fn wait<R: Threads, G>(self, context: &ActorContext<R, G>, session: SessionNo) -> SessionBack
+        requires { IsOut context.now.stage.now context.now.script.now session self }
+        ensures { HasRun context.now.stage.now context.now.script.now session result }
     {
         match self {
-            Out::Thread(handle) => handle.join(lent.rt),
-            Out::Here(back) => back,
+            LentSeat::Thread(handle) => handle.join(context.rt),
+            LentSeat::Here(back) => back,
         }
     }
 }
@@ -62,21 +62,21 @@ impl<'a> Out<'a> {
 /// where none can be started. Those that weren't started yet enter nothing meanwhile.
 fn start<'s, E, R: Threads + Wait + Sync, G: Gate>(
     scope: &Scope<'s, E>,
-    lent: &Lent<'s, R, G>,
+    context: &ActorContext<'s, R, G>,
     seat: SessionSeat,
     places: PlaceList,
-) -> Out<'s>
-    requires playable { is_playable lent.now.script.now ≡ true }
-    requires of { IsStageOf lent.now.stage.now lent.now.script.now }
-    requires fresh { seat ≡ fresh_view lent.now.stage.now seat.session }
-    requires places { places ≡ own_places seat.session lent.now.script.now.lines }
-    ensures { IsOut lent.now.stage.now lent.now.script.now seat.session result }
+) -> LentSeat<'s>
+    requires playable { is_playable context.now.script.now ≡ true }
+    requires of { IsStageOf context.now.stage.now context.now.script.now }
+    requires fresh { seat ≡ fresh_view context.now.stage.now seat.session }
+    requires places { places ≡ own_places seat.session context.now.script.now.lines }
+    ensures { IsOut context.now.stage.now context.now.script.now seat.session result }
 {
     let session = seat.session();
-    let (rt, alloc, stage, script) = (lent.rt, lent.alloc, lent.stage, lent.script);
-    let (gate, waits) = (lent.gate, lent.waits);
+    let (rt, alloc, stage, script) = (context.rt, context.alloc, context.stage, context.script);
+    let (gate, waits) = (context.gate, context.waits);
     match scope.spawn_with(
-        Promised {
+        SeatPromise {
             stage,
             script,
             session,
@@ -87,7 +87,7 @@ fn start<'s, E, R: Threads + Wait + Sync, G: Gate>(
                 × (places ≡ own_places seat.session script.now.lines) }
             ensures { HasRun stage.entry.now script.entry.now seat.session result }
         {
-            let lent = Lent {
+            let context = ActorContext {
                 rt,
                 alloc,
                 stage,
@@ -95,16 +95,16 @@ fn start<'s, E, R: Threads + Wait + Sync, G: Gate>(
                 gate,
                 waits,
             };
-            run_session(&lent, seat, places.as_slice())
+            run_session(&context, seat, places.as_slice())
         },
     ) {
-        Ok(handle) => Out::Thread(handle),
+        Ok(handle) => LentSeat::Thread(handle),
         Err(refused) => {
             let later = script.setup.sessions.saturating_sub(session.0);
             waits.sit_out(later + COMPOSITOR);
             let back = (refused.value)();
             waits.sit_in(later + COMPOSITOR);
-            Out::Here(back)
+            LentSeat::Here(back)
         }
     }
 }
@@ -113,56 +113,58 @@ fn start<'s, E, R: Threads + Wait + Sync, G: Gate>(
 /// out.
 fn start_next<'s, E, R: Threads + Wait + Sync, G: Gate>(
     scope: &Scope<'s, E>,
-    lent: &Lent<'s, R, G>,
+    context: &ActorContext<'s, R, G>,
     seats: &mut SessionSeats,
     places: &mut Vec<PlaceList>,
     before: u32,
-) -> Out<'s>
-    requires playable { is_playable lent.now.script.now ≡ true }
-    requires of { IsStageOf lent.now.stage.now lent.now.script.now }
-    requires own { seats.old.stage ≡ lent.now.stage.now }
-    requires next { before < lent.now.script.now.setup.sessions }
-    requires left { AreLeft lent.now.stage.now lent.now.script.now.setup.sessions before
+) -> LentSeat<'s>
+    requires playable { is_playable context.now.script.now ≡ true }
+    requires of { IsStageOf context.now.stage.now context.now.script.now }
+    requires own { seats.old.stage ≡ context.now.stage.now }
+    requires next { before < context.now.script.now.setup.sessions }
+    requires left { AreLeft context.now.stage.now context.now.script.now.setup.sessions before
         seats.old.seats }
-    requires places { ArePlaces lent.now.script.now.lines before places.old.items }
-    requires many { length places.old.items ≡ lent.now.script.now.setup.sessions }
-    ensures out { IsOut lent.now.stage.now lent.now.script.now (record { 0 = before + 1 }) result }
+    requires places { ArePlaces context.now.script.now.lines before places.old.items }
+    requires many { length places.old.items ≡ context.now.script.now.setup.sessions }
+    ensures out { IsOut context.now.stage.now context.now.script.now (record { 0 = before + 1 })
+        result }
     ensures own { seats.new.stage ≡ seats.old.stage }
-    ensures left { AreLeft lent.now.stage.now lent.now.script.now.setup.sessions (before + 1)
+    ensures left { AreLeft context.now.stage.now context.now.script.now.setup.sessions (before + 1)
         seats.new.seats }
-    ensures places { ArePlaces lent.now.script.now.lines (before + 1) places.new.items }
+    ensures places { ArePlaces context.now.script.now.lines (before + 1) places.new.items }
     ensures many { length places.new.items ≡ length places.old.items }
 {
     let Some(seat) = seats.take(SessionNo(before + 1)) else {
         unreachable!()
     };
-    let own = mem::replace(&mut places[before as usize], PlaceList::new(lent.alloc));
-    start(scope, lent, seat, own)
+    let own = mem::replace(&mut places[before as usize], PlaceList::new(context.alloc));
+    start(scope, context, seat, own)
 }
 
 /// Starts each session. The seats are handed out, the first session's first.
 pub(crate) fn start_each<'s, E, R: Threads + Wait + Sync, G: Gate>(
     scope: &Scope<'s, E>,
-    lent: &Lent<'s, R, G>,
+    context: &ActorContext<'s, R, G>,
     seats: &mut SessionSeats,
-) -> Result<Vec<Out<'s>>, NoMemory>
-    requires playable { is_playable lent.now.script.now ≡ true }
-    requires of { IsStageOf lent.now.stage.now lent.now.script.now }
-    requires own { seats.old.stage ≡ lent.now.stage.now }
-    requires fresh { AreFresh lent.now.stage.now lent.now.script.now.setup.sessions
+) -> Result<Vec<LentSeat<'s>>, NoMemory>
+    requires playable { is_playable context.now.script.now ≡ true }
+    requires of { IsStageOf context.now.stage.now context.now.script.now }
+    requires own { seats.old.stage ≡ context.now.stage.now }
+    requires fresh { AreFresh context.now.stage.now context.now.script.now.setup.sessions
         seats.old.seats }
-    ensures out { IfOk result (λ out. AreOut lent.now.stage.now lent.now.script.now
-        lent.now.script.now.setup.sessions out.items) }
+    ensures out { IfOk result (λ out. AreOut context.now.stage.now context.now.script.now
+        context.now.script.now.setup.sessions out.items) }
     ensures own { seats.new.stage ≡ seats.old.stage }
     ensures count { length seats.new.seats ≡ length seats.old.seats }
 {
-    let mut places = places_by_session(lent.alloc, lent.script)?;
-    let Ok(mut out) = Vec::with_capacity(lent.alloc, lent.script.setup.sessions as usize) else {
+    let mut places = places_by_session(context.alloc, context.script)?;
+    let Ok(mut out) = Vec::with_capacity(context.alloc, context.script.setup.sessions as usize)
+    else {
         drop(places);
         return Err(NoMemory);
     };
-    for before in 0..lent.script.setup.sessions {
-        let started = start_next(scope, lent, seats, &mut places, before);
+    for before in 0..context.script.setup.sessions {
+        let started = start_next(scope, context, seats, &mut places, before);
         out.push_reserved(started);
     }
     Ok(out)
@@ -171,22 +173,23 @@ pub(crate) fn start_each<'s, E, R: Threads + Wait + Sync, G: Gate>(
 /// Waits for each session, the last first, and puts its seat back. Whether all came
 /// to their End.
 pub(crate) fn put_back<'s, R: Threads, G>(
-    lent: &Lent<R, G>,
+    context: &ActorContext<R, G>,
     seats: &mut SessionSeats,
-    mut out: Vec<Out<'s>>,
+    mut out: Vec<LentSeat<'s>>,
 ) -> bool
-    requires playable { is_playable lent.now.script.now ≡ true }
-    requires out { AreOut lent.now.stage.now lent.now.script.now lent.now.script.now.setup.sessions
+    requires playable { is_playable context.now.script.now ≡ true }
+    requires out { AreOut context.now.stage.now context.now.script.now
+        context.now.script.now.setup.sessions
         out.items }
-    requires own { seats.old.stage ≡ lent.now.stage.now }
-    requires count { length seats.old.seats ≡ lent.now.script.now.setup.sessions }
+    requires own { seats.old.stage ≡ context.now.stage.now }
+    requires count { length seats.old.seats ≡ context.now.script.now.setup.sessions }
     ensures own { seats.new.stage ≡ seats.old.stage }
-    ensures back { AreBack lent.now.stage.now lent.now.script.now 0 result seats.new.seats }
+    ensures back { AreBack context.now.stage.now context.now.script.now 0 result seats.new.seats }
 {
     let mut are_whole = true;
     while let Some(last) = out.pop() {
         let session = SessionNo(out.len() as u32 + 1);
-        let SessionBack { seat, is_whole } = last.wait(lent, session);
+        let SessionBack { seat, is_whole } = last.wait(context, session);
         are_whole = both(are_whole, is_whole);
         seats.put(seat);
     }

@@ -14,7 +14,7 @@ use Rattle.flat_tile.specs.Tiles.{x_at, y_at, pixels_of, IsTile}
 use Rattle.flat_render.specs.Grids.{tile_of, tile_bytes, tile_count, grid_bytes, IsGrid}
 use Rattle.flat_render.specs.Stored.{stored_x, stored_y, drawn_at}
 use Rattle.flat_ink.specs.declared.area.Area.{Area}
-use Rattle.flat_render.specs.declared.grid.Grid.{Grid}
+use Rattle.flat_render.specs.declared.tile_grid.TileGrid.{TileGrid}
 use Rattle.flat_tile.specs.declared.tile.Tile.{Tile}
 use Rattle.flat_render.proofs.Chunks.{redrawn}
 use Rattle.flat_render.proofs.Places.{tile-is, some-pixel, some-byte}
@@ -28,13 +28,13 @@ y-small t m is some =
     let inner : m % pixels_of t < pixels_of t = mod_below m (pixels_of t) some in
     omega (arith, div_below (m % pixels_of t) t.width t.height is.width (omega (arith, inner)), is.bottom)
 
-tile-of-stored : (g : Grid) (i : ℕ) → IsGrid g → i < grid_bytes g → IsTile (tile_of g (i / tile_bytes g))
+tile-of-stored : (g : TileGrid) (i : ℕ) → IsGrid g → i < grid_bytes g → IsTile (tile_of g (i / tile_bytes g))
 tile-of-stored g i is small = tile-is g (i / tile_bytes g) is (div_below i (tile_bytes g) (tile_count g) (some-byte g is) small)
 
-pub stored-x-small : (g : Grid) (i : ℕ) → IsGrid g → i < grid_bytes g → stored_x g i < 2 ^ 29
+pub stored-x-small : (g : TileGrid) (i : ℕ) → IsGrid g → i < grid_bytes g → stored_x g i < 2 ^ 29
 stored-x-small g i is small = x-small (tile_of g (i / tile_bytes g)) (i % tile_bytes g) (tile-of-stored g i is small)
 
-pub stored-y-small : (g : Grid) (i : ℕ) → IsGrid g → i < grid_bytes g → stored_y g i < 2 ^ 29
+pub stored-y-small : (g : TileGrid) (i : ℕ) → IsGrid g → i < grid_bytes g → stored_y g i < 2 ^ 29
 stored-y-small g i is small = y-small (tile_of g (i / tile_bytes g)) (i % tile_bytes g) (tile-of-stored g i is small) (some-pixel g is)
 
 any-snoc : {X : Type 0} (p : X → Bool) (xs : List X) (x : X) → list_any p (xs ++ x ∷ []) ≡ (list_any p xs || p x)
@@ -60,7 +60,8 @@ either-test true false p o = refl
 either-test false true p o = refl
 either-test false false p o = refl
 
-pub rect-step : (items : List DrawItem) (g : Grid) (rects : List Rect) (j : ℕ) (d : Rect) (area : Area) (old bytes later : List ℕ) → IsGrid g → j < length rects
+pub rect-step : (items : List DrawItem) (g : TileGrid) (rects : List Rect) (j : ℕ) (d : Rect) (area : Area) (old bytes later : List ℕ) → IsGrid g
+    → j < length rects
     → length old ≡ grid_bytes g → length bytes ≡ length old
     → ((px py : ℕ) → px < 2 ^ 29 → py < 2 ^ 29 → has_pixel area px py ≡ has_point (get_or rects j d) (centre px) (centre py))
     → ((i : ℕ) → i < length old → get_or bytes i 0 ≡ redrawn items g (is_in_any (take j rects)) i (get_or old i 0))

@@ -14,7 +14,7 @@ use Rattle.flat_tile.specs.Chosen.{drawn_in}
 use Rattle.flat_render.specs.Stored.{drawn_at}
 use Rattle.flat_tile.specs.Tiles.{channel_at, x_at, y_at, tile_area, IsTile}
 use Rattle.flat_ink.specs.declared.area.Area.{Area}
-use Rattle.flat_render.specs.declared.grid.Grid.{Grid}
+use Rattle.flat_render.specs.declared.tile_grid.TileGrid.{TileGrid}
 use Rattle.flat_tile.specs.declared.tile.Tile.{Tile}
 use Rattle.flat_tile.proofs.lemmas.Items.{after-more, tile-has-byte}
 use Rattle.flat_tile.proofs.lemmas.Planes.{some-pixels}
@@ -69,7 +69,7 @@ module _ (area : Area) (all seen : List DrawItem) (item : DrawItem) where
   }
 
 -- the bytes of a tile in its row
-module _ (g : Grid) (is : IsGrid g) (row n : ℕ) (column : n < g.across) where
+module _ (g : TileGrid) (is : IsGrid g) (row n : ℕ) (column : n < g.across) where
   pub tile-of-row : (items : List DrawItem) (m : ℕ) → m < tile_bytes g
       → drawn_in (tile_of g (row * g.across + n)) items m ≡ drawn_at g items (row * band_bytes g + (n * tile_bytes g + m))
   tile-of-row items m small =
@@ -85,34 +85,34 @@ pub seen-drawn-in : (tile : Tile) (items seen : List DrawItem) (m : ℕ) → IsT
 seen-drawn-in tile items seen m is seen_is = seen_is.same (channel_at tile m) (x_at tile m) (y_at tile m) 0 (tile-has-byte tile m is (some-pixels tile is))
 
 -- how many bytes a row of tiles has, and how many rows there are
-pub band-most : (g : Grid) → IsGrid g → band_bytes g < 2 ^ 36
+pub band-most : (g : TileGrid) → IsGrid g → band_bytes g < 2 ^ 36
 band-most g is =
     let most : (g.across * g.tile_w) * g.tile_h ≤ 2 ^ 28 * 64 = mul-le (g.across * g.tile_w) g.tile_h (2 ^ 28) 64 (omega (arith, is.most_right)) is.low in
     let all : band_bytes g ≡ 3 * ((g.across * g.tile_w) * g.tile_h) = grind arith in
     omega (arith, most, all)
 
-pub whole-bands : (g : Grid) → grid_bytes g ≡ g.down * band_bytes g
+pub whole-bands : (g : TileGrid) → grid_bytes g ≡ g.down * band_bytes g
 whole-bands g = grind arith
 
-pub tile-of-band : (g : Grid) (row n : ℕ) → row < g.down → n < g.across → row * g.across + n < tile_count g
+pub tile-of-band : (g : TileGrid) (row n : ℕ) → row < g.down → n < g.across → row * g.across + n < tile_count g
 tile-of-band g row n low column = omega (arith, mul-add-lt row g.across n g.down low column)
 
 -- the bytes of a tile end within those of its row, which a number holds
-pub tile-in-band : (g : Grid) (n s all : ℕ) → IsGrid g → n < g.across → s ≡ tile_bytes g → all ≡ band_bytes g → (n * s + s ≤ all) × (all < 2 ^ 36)
+pub tile-in-band : (g : TileGrid) (n s all : ℕ) → IsGrid g → n < g.across → s ≡ tile_bytes g → all ≡ band_bytes g → (n * s + s ≤ all) × (all < 2 ^ 36)
 tile-in-band g n s all is column size whole =
     let fits : n * s + s ≤ g.across * s = row_fits n s g.across s column (omega arith) in
     let same : g.across * s ≡ band_bytes g = ap (λ (m : ℕ). g.across * m) size in
     (omega (arith, fits, same), omega (arith, band-most g is))
 
 -- the same of all that is stored
-pub tile-in-grid : (g : Grid) (n s all : ℕ) → IsGrid g → n < tile_count g → s ≡ tile_bytes g → all ≡ grid_bytes g → (n * s + s ≤ all) × (all < 2 ^ 28)
+pub tile-in-grid : (g : TileGrid) (n s all : ℕ) → IsGrid g → n < tile_count g → s ≡ tile_bytes g → all ≡ grid_bytes g → (n * s + s ≤ all) × (all < 2 ^ 28)
 tile-in-grid g n s all is there size whole =
     let fits : n * s + s ≤ tile_count g * s = row_fits n s (tile_count g) s there (omega arith) in
     let same : tile_count g * s ≡ grid_bytes g = ap (λ (m : ℕ). tile_count g * m) size in
     (omega (arith, fits, same), omega (arith, is.most))
 
 -- the bytes of a row of tiles end within those that are stored, which a number holds
-pub band-in-grid : (g : Grid) (row size all : ℕ) → IsGrid g → row < g.down → size ≡ band_bytes g → all ≡ grid_bytes g
+pub band-in-grid : (g : TileGrid) (row size all : ℕ) → IsGrid g → row < g.down → size ≡ band_bytes g → all ≡ grid_bytes g
     → (row * size + size ≤ all) × (all < 2 ^ 28)
 band-in-grid g row size all is there size_is whole =
     let fits : row * size + size ≤ g.down * size = row_fits row size g.down size there (omega arith) in

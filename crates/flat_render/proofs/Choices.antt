@@ -18,7 +18,7 @@ use Rattle.flat_render.specs.Grids.{tile_of}
 use Rattle.flat_ink.specs.Pixels.{covers}
 use Rattle.flat_tile.specs.Tiles.{tile_area}
 use Rattle.flat_ink.specs.declared.area.Area.{Area}
-use Rattle.flat_render.specs.declared.grid.Grid.{Grid}
+use Rattle.flat_render.specs.declared.tile_grid.TileGrid.{TileGrid}
 use Rattle.flat_render.proofs.Bands.{seen-both, seen-first, seen-more, seen-past}
 use Rattle.flat_ink.proofs.lemmas.Ranges.{among, among-low, among-high, either}
 use Rattle.flat_tile.proofs.lemmas.Lists.{one-there}
@@ -66,14 +66,14 @@ choice-past area items places n d small unseen is = record {
 }
 
 -- where a tile of a row begins
-tile-left : (g : Grid) (row c : ℕ) → c < g.across → (tile_of g (row * g.across + c)).left ≡ c * g.tile_w
+tile-left : (g : TileGrid) (row c : ℕ) → c < g.across → (tile_of g (row * g.across + c)).left ≡ c * g.tile_w
 tile-left g row c small = ap (λ (n : ℕ). n * g.tile_w) (mod-mul-add row g.across c small)
 
-tile-top : (g : Grid) (row c : ℕ) → c < g.across → (tile_of g (row * g.across + c)).top ≡ row * g.tile_h
+tile-top : (g : TileGrid) (row c : ℕ) → c < g.across → (tile_of g (row * g.across + c)).top ≡ row * g.tile_h
 tile-top g row c small = ap (λ (n : ℕ). n * g.tile_h) (div-mul-add row g.across c small)
 
 -- an item that covers no pixel of a tile's columns and rows covers none of the tile
-tile-unseen : (g : Grid) (row c : ℕ) (item : DrawItem) → c < g.across
+tile-unseen : (g : TileGrid) (row c : ℕ) (item : DrawItem) → c < g.across
     → ((px py : ℕ) → c * g.tile_w ≤ px → px < c * g.tile_w + g.tile_w → row * g.tile_h ≤ py → py < row * g.tile_h + g.tile_h → covers item px py ≡ false)
     → (px py : ℕ) → has_pixel (tile_area (tile_of g (row * g.across + c))) px py ≡ true → covers item px py ≡ false
 tile-unseen g row c item column others px py has =
@@ -106,7 +106,7 @@ part-past area items all places p d small unseen is = record {
 }
 
 -- one number more for all tiles of a row
-pub parts-more : (g : Grid) (row p from upto : ℕ) (items : List DrawItem) (all : List ℕ) (old lists : List (Vec ℕ Global)) (d : DrawItem) → p < length items
+pub parts-more : (g : TileGrid) (row p from upto : ℕ) (items : List DrawItem) (all : List ℕ) (old lists : List (Vec ℕ Global)) (d : DrawItem) → p < length items
     → IsDrawable (get_or items p d)
     → ((c px py : ℕ) → c < g.across → c * g.tile_w ≤ px → px < c * g.tile_w + g.tile_w → row * g.tile_h ≤ py → py < row * g.tile_h + g.tile_h
     → is_among from upto c ≡ false → covers (get_or items p d) px py ≡ false)
@@ -129,7 +129,7 @@ parts-more g row p from upto items all old lists d small drawable others were no
       (were.serve c e column))
 
 -- one item more for all rows
-pub rows-more : (g : Grid) (n from upto : ℕ) (items : List DrawItem) (old lists : List (Vec ℕ Global)) (d : DrawItem) → n < length items
+pub rows-more : (g : TileGrid) (n from upto : ℕ) (items : List DrawItem) (old lists : List (Vec ℕ Global)) (d : DrawItem) → n < length items
     → IsDrawable (get_or items n d)
     → ((row c px py : ℕ) → row < length old → c < g.across → px < c * g.tile_w + g.tile_w → row * g.tile_h ≤ py → py < row * g.tile_h + g.tile_h
     → is_among from upto row ≡ false → covers (get_or items n d) px py ≡ false)
@@ -150,11 +150,11 @@ rows-more g n from upto items old lists d small drawable others were noted =
           (were row e there c column))
 
 -- lists without numbers, for no items
-pub rows-none : (g : Grid) (count : ℕ) (items : List DrawItem) (lists : List (Vec ℕ Global)) → AreEmpty count lists → AreRows g items lists 0
+pub rows-none : (g : TileGrid) (count : ℕ) (items : List DrawItem) (lists : List (Vec ℕ Global)) → AreEmpty count lists → AreRows g items lists 0
 rows-none g count items lists are = λ row d there c column.
     none-chosen (tile_area (tile_of g (row * g.across + c))) items (get_or lists row d).items (are.empty row d (omega (arith, are.count, there)))
 
-pub parts-none : (g : Grid) (row : ℕ) (items : List DrawItem) (lists : List (Vec ℕ Global)) → AreEmpty g.across lists → AreParts g row items [] lists
+pub parts-none : (g : TileGrid) (row : ℕ) (items : List DrawItem) (lists : List (Vec ℕ Global)) → AreEmpty g.across lists → AreParts g row items [] lists
 parts-none g row items lists are = record {
   count = are.count;
   serve = λ c d small.
@@ -165,7 +165,7 @@ parts-none g row items lists are = record {
 }
 
 -- numbers that give each tile what those of a row give it serve where these do
-pub parts-serve : (g : Grid) (row n : ℕ) (items : List DrawItem) (all : List ℕ) (lists : List (Vec ℕ Global)) → ServesRow g row items all n
+pub parts-serve : (g : TileGrid) (row n : ℕ) (items : List DrawItem) (all : List ℕ) (lists : List (Vec ℕ Global)) → ServesRow g row items all n
     → AreParts g row items all lists → AreChoices g row items lists n
 parts-serve g row n items all lists serves are = record {
   count = are.count;

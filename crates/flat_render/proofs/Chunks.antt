@@ -9,7 +9,7 @@ use Rattle.flat_render.specs.Grids.{tile_of, tile_bytes}
 use Rattle.flat_render.specs.Stored.{stored_x, stored_y, drawn_at}
 use Rattle.flat_tile.specs.Chosen.{drawn_in}
 use Rattle.flat_tile.specs.Tiles.{x_at, y_at}
-use Rattle.flat_render.specs.declared.grid.Grid.{Grid}
+use Rattle.flat_render.specs.declared.tile_grid.TileGrid.{TileGrid}
 use Rattle.flat_tile.specs.declared.tile.Tile.{Tile}
 use Rattle.flat_ink.proofs.lemmas.Ranges.{either, put-before, put-inside, put-after}
 use Rattle.flat_ink.proofs.lemmas.Ranges.{part-there}
@@ -52,7 +52,7 @@ pub tile-part : (s : ℕ) (pixels : List ℕ) (n z : ℕ) → n * s + s ≤ leng
 tile-part s pixels n z fits same = simp (length-take, length-drop) (omega arith)
 
 -- a byte, drawn anew where a test holds of its pixel
-abbrev pub redrawn : List DrawItem → Grid → (ℕ → ℕ → Bool) → ℕ → ℕ → ℕ
+abbrev pub redrawn : List DrawItem → TileGrid → (ℕ → ℕ → Bool) → ℕ → ℕ → ℕ
 redrawn items g test i old = if test (stored_x g i) (stored_y g i) then drawn_at g items i else old
 
 -- the same in a tile
@@ -60,14 +60,14 @@ abbrev pub redrawn_in : List DrawItem → Tile → (ℕ → ℕ → Bool) → �
 redrawn_in items tile test m old = if test (x_at tile m) (y_at tile m) then drawn_in tile items m else old
 
 -- the n-th tile, drawn anew, is its part of what is stored
-tile-redrawn : (items : List DrawItem) (g : Grid) (test : ℕ → ℕ → Bool) (n m old : ℕ) → m < tile_bytes g
+tile-redrawn : (items : List DrawItem) (g : TileGrid) (test : ℕ → ℕ → Bool) (n m old : ℕ) → m < tile_bytes g
     → redrawn_in items (tile_of g n) test m old ≡ redrawn items g test (n * tile_bytes g + m) old
 tile-redrawn items g test n m old small =
     ap (λ (k : ℕ). redrawn_in items (tile_of g k) test m old) (sym (div-mul-add n (tile_bytes g) m small))
     ∙ ap (λ (k : ℕ). redrawn_in items (tile_of g ((n * tile_bytes g + m) / tile_bytes g)) test k old) (sym (mod-mul-add n (tile_bytes g) m small))
 
 -- the same of a tile that was drawn as a part of what is stored
-pub tile-drawn : (items : List DrawItem) (g : Grid) (test : ℕ → ℕ → Bool) (n s z : ℕ) (t : Tile) (bytes part : List ℕ) → s ≡ tile_bytes g → z ≡ s
+pub tile-drawn : (items : List DrawItem) (g : TileGrid) (test : ℕ → ℕ → Bool) (n s z : ℕ) (t : Tile) (bytes part : List ℕ) → s ≡ tile_bytes g → z ≡ s
     → t ≡ tile_of g n → n * s + s ≤ length bytes
     → ((m : ℕ) → m < length (take z (drop (n * s) bytes)) → get_or part m 0 ≡ redrawn_in items t test m (get_or (take z (drop (n * s) bytes)) m 0))
     → (m : ℕ) → m < s → get_or part m 0 ≡ redrawn items g test (n * s + m) (get_or bytes (n * s + m) 0)

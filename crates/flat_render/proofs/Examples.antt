@@ -1,7 +1,7 @@
 -- The definitions, computed.
 use Rattle.std.proofs.Common.{◌-◌, ◌≡◌, refl, true, [], ◌∷◌, ◌++◌}
 use Rattle.std.specs.Prelude.{pos}
-use Rattle.flat_render.specs.declared.grid.Grid.{Grid}
+use Rattle.flat_render.specs.declared.tile_grid.TileGrid.{TileGrid}
 use Rattle.flat_render.specs.Damaged.{is_in_any}
 use Rattle.flat_render.specs.Grids.{tile_of, tile_bytes, band_bytes, grid_bytes, place_of}
 use Rattle.flat_ink.specs.Pixels.{pixel}
@@ -14,7 +14,7 @@ use Rattle.std.specs.Fmt.{digits}
 -- ---- tiles of a picture
 
 -- a picture of 65 by 2 pixels: two tiles side by side, each of 128 pixels in three planes
-abbrev a_grid : Grid
+abbrev a_grid : TileGrid
 a_grid = record { width = 65; height = 2; tile_w = 64; tile_h = 2; across = 2; down = 1 }
 
 all_bytes : grid_bytes a_grid ≡ 768

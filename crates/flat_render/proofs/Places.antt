@@ -7,10 +7,10 @@ use Rattle.flat_ink.specs.Channels.{channel_after}
 use Rattle.flat_render.specs.Grids.{tile_size, tile_bytes, tile_count, grid_bytes, tile_of, tile_with, place_in_tile, run_of, place_of, IsGrid}
 use Rattle.flat_render.specs.Stored.{stored_x, stored_y, drawn_at}
 use Rattle.flat_tile.specs.Tiles.{channel_at, IsTile}
-use Rattle.flat_render.specs.declared.grid.Grid.{Grid}
+use Rattle.flat_render.specs.declared.tile_grid.TileGrid.{TileGrid}
 
 -- a place by tile, channel, row and column, read back
-module _ (g : Grid) (is : IsGrid g) (c px py : ℕ) (channel : c < 3) (x : px < g.width) (y : py < g.height) where
+module _ (g : TileGrid) (is : IsGrid g) (c px py : ℕ) (channel : c < 3) (x : px < g.width) (y : py < g.height) where
   column : px / g.tile_w < g.across
   column = div_below px g.tile_w g.across is.tile_w (omega (arith, is.right))
 
@@ -72,7 +72,7 @@ positive zero b n h = absurd (omega arith)
 positive (suc a) b n h = omega arith
 
 -- each tile of a grid is one that is not too far out
-pub tile-is : (g : Grid) (n : ℕ) → IsGrid g → n < tile_count g → IsTile (tile_of g n)
+pub tile-is : (g : TileGrid) (n : ℕ) → IsGrid g → n < tile_count g → IsTile (tile_of g n)
 tile-is g n is there =
     let some : 0 < g.across = positive g.across g.down n there in
     let column : n % g.across < g.across = mod_below n g.across some in
@@ -87,7 +87,7 @@ tile-is g n is there =
     }
 
 -- there are no more tiles than bytes
-pub count-most : (g : Grid) → IsGrid g → tile_count g < 2 ^ 28
+pub count-most : (g : TileGrid) → IsGrid g → tile_count g < 2 ^ 28
 count-most g is =
     let one_pixel : 1 * 1 ≤ tile_size g = mul-le 1 1 g.tile_w g.tile_h (omega (arith, is.tile_w)) (omega (arith, is.tile_h)) in
     let most : tile_count g * 1 ≤ tile_count g * tile_bytes g =
@@ -107,7 +107,7 @@ tiled-by w t a some low within up =
     let times : (w ≤ a * t) × (a * t < w + t) = rw up (div_ceil_times w t some) in
     (times.0, omega (arith, times.1))
 
-pub grid-is : (g : Grid) → 0 < g.width → 0 < g.height → g.width * g.height ≤ 4194304 → g.width < 2 ^ 23 → g.height < 2 ^ 23
+pub grid-is : (g : TileGrid) → 0 < g.width → 0 < g.height → g.width * g.height ≤ 4194304 → g.width < 2 ^ 23 → g.height < 2 ^ 23
     → g.tile_w ≡ min g.width 64 → 0 < g.tile_h → g.tile_h ≤ 64 → g.tile_h ≤ g.height
     → g.across ≡ g.width / g.tile_w + min 1 (g.width % g.tile_w) → g.down ≡ g.height / g.tile_h + min 1 (g.height % g.tile_h) → IsGrid g
 grid-is g w h most w_most h_most tw some low within across down =
@@ -134,14 +134,14 @@ grid-is g w h most w_most h_most tw some low within across down =
 pub side-most : (w h n : ℕ) → 0 < h → w * h ≤ n → w ≤ n
 side-most w h n some most = omega (arith, mul-le w 1 w h (omega arith) (omega arith))
 
-pub some-pixel : (g : Grid) → IsGrid g → 0 < tile_size g
+pub some-pixel : (g : TileGrid) → IsGrid g → 0 < tile_size g
 some-pixel g is = omega (arith, mul-le 1 1 g.tile_w g.tile_h (omega (arith, is.tile_w)) (omega (arith, is.tile_h)))
 
-pub some-byte : (g : Grid) → IsGrid g → 0 < tile_bytes g
+pub some-byte : (g : TileGrid) → IsGrid g → 0 < tile_bytes g
 some-byte g is = omega (arith, some-pixel g is)
 
 -- the n-th tile from the left, on a row of the picture
-module _ (g : Grid) (is : IsGrid g) (n py : ℕ) (column : n < g.across) (y : py < g.height) where
+module _ (g : TileGrid) (is : IsGrid g) (n py : ℕ) (column : n < g.across) (y : py < g.height) where
   pub run-tile : py / g.tile_h * g.across + n < tile_count g
   run-tile = omega (arith, mul-add-lt (py / g.tile_h) g.across n g.down (div_below py g.tile_h g.down is.tile_h (omega (arith, is.bottom))) column)
 

@@ -8,11 +8,11 @@ use Rattle.flat_ink.specs.Channels.{channel_after}
 use Rattle.flat_render.specs.Grids.{grid_bytes, place_of, IsGrid}
 use Rattle.flat_ink.specs.Pixels.{pixel}
 use Rattle.flat_render.specs.Stored.{drawn_at}
-use Rattle.flat_render.specs.declared.grid.Grid.{Grid}
+use Rattle.flat_render.specs.declared.tile_grid.TileGrid.{TileGrid}
 use Rattle.flat_render.proofs.Channels.{pixel-channels}
 use Rattle.flat_render.proofs.Places.{place-there, drawn-place}
 
-module _ (g : Grid) (is : IsGrid g) (items drawn : List DrawItem) (same : drawn ≡ items) (bytes : Vec ℕ Global) (old new : List ℕ)
+module _ (g : TileGrid) (is : IsGrid g) (items drawn : List DrawItem) (same : drawn ≡ items) (bytes : Vec ℕ Global) (old new : List ℕ)
     (size : length old ≡ grid_bytes g) (kept : length new ≡ bytes.len) (are : (i : ℕ) → i < length old → get_or new i 0 ≡ drawn_at g drawn i) where
   channel : (n x y : ℕ) → n < 3 → x < g.width → y < g.height → get_or (with_items bytes new).items (place_of g n x y) 0 ≡ channel_after n items x y 0
   channel n x y low wide high =

@@ -9,17 +9,17 @@ use Rattle.flat_ink.specs.Pixels.{pixel}
 use Rattle.flat_render.specs.Ppm.{row_bytes}
 use Rattle.flat_render.specs.Rows.{band_of, colour_in, rows_bytes}
 use Rattle.flat_render.specs.Stored.{drawn_at}
-use Rattle.flat_render.specs.declared.grid.Grid.{Grid}
+use Rattle.flat_render.specs.declared.tile_grid.TileGrid.{TileGrid}
 use Rattle.flat_render.proofs.Bands.{whole-bands}
 use Rattle.flat_render.proofs.lemmas.Bytes.{pieces-same, run-more}
 use Rattle.flat_render.proofs.Channels.{pixel-channels}
 use Rattle.flat_render.proofs.Places.{drawn-place, place-there}
 
 -- a row of tiles has as many bytes as its grid
-pub band-bytes : (g : Grid) (n : ℕ) → grid_bytes (band_of g n) ≡ band_bytes g
+pub band-bytes : (g : TileGrid) (n : ℕ) → grid_bytes (band_of g n) ≡ band_bytes g
 band-bytes g n = let e : g.across * 1 ≡ g.across = omega arith in ap (λ (m : ℕ). m * tile_bytes g) e
 
-pub band-is : (g : Grid) (n : ℕ) → IsGrid g → n < g.down → IsGrid (band_of g n)
+pub band-is : (g : TileGrid) (n : ℕ) → IsGrid g → n < g.down → IsGrid (band_of g n)
 band-is g n is there =
     let fits : n * band_bytes g + band_bytes g ≤ g.down * band_bytes g = row_fits n (band_bytes g) g.down (band_bytes g) there (omega arith) in
     record {
@@ -46,7 +46,7 @@ spread : (n a k t z : ℕ) → (n * a + k) * t + z ≡ n * (a * t) + ((0 * a + k
 spread n a k t z = grind arith
 
 -- where a row of tiles has a pixel, its bytes begin at a place of all bytes
-pub band-place : (g : Grid) (n c x y : ℕ) → y < g.tile_h → place_of g c x (n * g.tile_h + y) ≡ n * band_bytes g + place_of (band_of g n) c x y
+pub band-place : (g : TileGrid) (n c x y : ℕ) → y < g.tile_h → place_of g c x (n * g.tile_h + y) ≡ n * band_bytes g + place_of (band_of g n) c x y
 band-place g n c x y low =
     let t : ℕ = g.tile_h in
     ap (λ (q : ℕ). (q * g.across + x / g.tile_w) * tile_bytes g + (c * tile_size g + ((n * t + y) % t * g.tile_w + x % g.tile_w))) (div-mul-add n t y low)
@@ -57,7 +57,7 @@ band-place g n c x y low =
     ∙ ap (λ (r : ℕ). n * band_bytes g + ((y / t * g.across + x / g.tile_w) * tile_bytes g + (c * tile_size g + (r * g.tile_w + x % g.tile_w))))
     (sym (small-mod y t low))
 
-module _ (g : Grid) (is : IsGrid g) (n x y : ℕ) (there : n < g.down) (wide : x < g.width) (high : y < min g.tile_h (g.height - n * g.tile_h)) where
+module _ (g : TileGrid) (is : IsGrid g) (n x y : ℕ) (there : n < g.down) (wide : x < g.width) (high : y < min g.tile_h (g.height - n * g.tile_h)) where
   low : y < g.tile_h
   low = omega (arith, high)
 
@@ -95,7 +95,7 @@ module _ (g : Grid) (is : IsGrid g) (n x y : ℕ) (there : n < g.down) (wide : x
           ∙ ap (λ (k : ℕ). get_or bytes k 0) (sym (band-place g n c x y low))
 
 -- the rows of one row of tiles more
-pub rows-more : (g : Grid) (colour of : ℕ → ℕ → List ℕ) (n : ℕ) (before was now : List ℕ)
+pub rows-more : (g : TileGrid) (colour of : ℕ → ℕ → List ℕ) (n : ℕ) (before was now : List ℕ)
     → was ≡ before ++ rows_bytes colour g.width (min (n * g.tile_h) g.height)
     → ((x y : ℕ) → x < g.width → y < min g.tile_h (g.height - n * g.tile_h) → of x y ≡ colour x (n * g.tile_h + y))
     → now ≡ was ++ rows_bytes of g.width (min g.tile_h (g.height - n * g.tile_h))
@@ -110,7 +110,7 @@ rows-more g colour of n before was now so_far same more =
     more
 
 -- all rows, when the rows of tiles are done
-pub rows-done : (g : Grid) (colour : ℕ → ℕ → List ℕ) (n : ℕ) (before now : List ℕ) → IsGrid g → n ≡ g.down
+pub rows-done : (g : TileGrid) (colour : ℕ → ℕ → List ℕ) (n : ℕ) (before now : List ℕ) → IsGrid g → n ≡ g.down
     → now ≡ before ++ rows_bytes colour g.width (min (n * g.tile_h) g.height)
     → now ≡ before ++ rows_bytes colour g.width g.height
 rows-done g colour n before now is all so_far =

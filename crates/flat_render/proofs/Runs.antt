@@ -3,7 +3,7 @@ use Rattle.std.proofs.Common.{ℕ, ◌+◌, ◌*◌, ◌<◌, ◌≡◌, ap, ◌
 use Rattle.flat_render.specs.Grids.{tile_size, run_of, place_of, IsGrid}
 use Rattle.flat_render.specs.Pictures.{pixel_of}
 use Rattle.flat_render.specs.Rows.{colour_in}
-use Rattle.flat_render.specs.declared.grid.Grid.{Grid}
+use Rattle.flat_render.specs.declared.tile_grid.TileGrid.{TileGrid}
 use Rattle.flat_render.specs.declared.picture.Picture.{Picture}
 use Rattle.flat_render.proofs.Places.{run-place}
 
@@ -17,7 +17,7 @@ blue-place : (r s i : ℕ) → r + 2 * s + i ≡ r + (2 * s + i)
 blue-place r s i = omega arith
 
 -- the i-th pixel of a run
-pub run-colour : (g : Grid) → IsGrid g → (bytes : List ℕ) (first size n i y x : ℕ) → first ≡ run_of g n y → size ≡ tile_size g
+pub run-colour : (g : TileGrid) → IsGrid g → (bytes : List ℕ) (first size n i y x : ℕ) → first ≡ run_of g n y → size ≡ tile_size g
     → n < g.across → y < g.height → i < g.tile_w → x ≡ n * g.tile_w + i
     → get_or bytes (first + i) 0 ∷ get_or bytes (first + size + i) 0 ∷ get_or bytes (first + 2 * size + i) 0 ∷ [] ≡ colour_in g bytes x y
 run-colour g is bytes first size n i y x f s column row small at =

@@ -2,7 +2,7 @@
 use Rattle.std.proofs.Common.{ℕ, ◌+◌, ◌-◌, ◌*◌, ◌<◌, ◌≤◌, ◌≡◌, refl, ap, ◌∙◌, List, ◌++◌, length, get_or, arith}
 use Rattle.std.proofs.lemmas.Bool.{cases_lt}
 use Rattle.std.proofs.lemmas.List.{get_or_append_left, get_or-append_right}
-use Rattle.flat_render.specs.declared.grid.Grid.{Grid}
+use Rattle.flat_render.specs.declared.tile_grid.TileGrid.{TileGrid}
 use Rattle.flat_render.specs.Grids.{IsGrid}
 use Rattle.flat_ink.proofs.lemmas.Ranges.{either}
 
@@ -24,7 +24,7 @@ spans-joined f b from cut front back order size first second i small =
     get_or-append_right front back (length front) i 0 refl past ∙ second (i - length front) rest ∙ ap f at)
 
 -- a picture with pixels has a row of tiles
-pub some-rows : (g : Grid) → IsGrid g → 0 < g.height → 0 < g.down
+pub some-rows : (g : TileGrid) → IsGrid g → 0 < g.height → 0 < g.down
 some-rows g is high =
     either _ _ (cases_lt 0 g.down) (λ some. some)
     (λ none.

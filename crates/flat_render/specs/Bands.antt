@@ -6,7 +6,7 @@ use Rattle.std.specs.declared.alloc.Global.{Global}
 use Rattle.flat_drawable.specs.Drawable.{IsDrawable}
 use Rattle.flat_scene.specs.declared.frames.DrawItem.{DrawItem}
 use Rattle.flat_ink.specs.declared.area.Area.{Area}
-use Rattle.flat_render.specs.declared.grid.Grid.{Grid}
+use Rattle.flat_render.specs.declared.tile_grid.TileGrid.{TileGrid}
 use Rattle.flat_ink.specs.Areas.{is_among, has_pixel}
 use Rattle.flat_ink.specs.Channels.{channel_after}
 use Rattle.flat_render.specs.Grids.{tile_of}
@@ -19,19 +19,19 @@ pub record IsChoice (area : Area) (items : List DrawItem) (places : List ℕ) (n
   pub seen : IsSeenIn area (take n items) (chosen items places)
 
 -- a list of such numbers for each tile of a row
-pub record AreChoices (grid : Grid) (row : ℕ) (items : List DrawItem) (lists : List (Vec ℕ Global)) (n : ℕ) : Type 0
+pub record AreChoices (grid : TileGrid) (row : ℕ) (items : List DrawItem) (lists : List (Vec ℕ Global)) (n : ℕ) : Type 0
   where
     pub count : length lists ≡ grid.across
     pub serve : (c : ℕ) (d : Vec ℕ Global) → c < grid.across
         → IsChoice (tile_area (tile_of grid (row * grid.across + c))) items (slice_index_or lists c d).items n
 
 -- numbers that serve all tiles of a row
-abbrev pub ServesRow : Grid → ℕ → List DrawItem → List ℕ → ℕ → Type 0
+abbrev pub ServesRow : TileGrid → ℕ → List DrawItem → List ℕ → ℕ → Type 0
 ServesRow grid row items places n = (c : ℕ) → c < grid.across
     → IsChoice (tile_area (tile_of grid (row * grid.across + c))) items places n
 
 -- a list of such numbers for each of some rows
-abbrev pub AreRows : Grid → List DrawItem → List (Vec ℕ Global) → ℕ → Type 0
+abbrev pub AreRows : TileGrid → List DrawItem → List (Vec ℕ Global) → ℕ → Type 0
 AreRows grid items lists n = (row : ℕ) (d : Vec ℕ Global) → row < length lists
     → ServesRow grid row items (slice_index_or lists row d).items n
 
@@ -41,7 +41,7 @@ pub record IsPart (area : Area) (items : List DrawItem) (all places : List ℕ) 
   pub seen : IsSeenIn area (chosen items all) (chosen items places)
 
 -- a list of such numbers for each tile of a row
-pub record AreParts (grid : Grid) (row : ℕ) (items : List DrawItem) (all : List ℕ)
+pub record AreParts (grid : TileGrid) (row : ℕ) (items : List DrawItem) (all : List ℕ)
     (lists : List (Vec ℕ Global)) : Type 0 where
   pub count : length lists ≡ grid.across
   pub serve : (c : ℕ) (d : Vec ℕ Global) → c < grid.across

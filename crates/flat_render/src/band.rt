@@ -8,16 +8,22 @@ ghost use Rattle.flat_render.specs.Stored.{drawn_at};
 ghost use Rattle.flat_tile.specs.Chosen.{drawn_in};
 ghost use Rattle.flat_tile.specs.Tiles.{pixels_of, tile_area, IsTile};
 
-use crate::grid::{Grid, bytes_of_tiles, tile};
-use crate::plan::Plan;
+use crate::picture_plan::PicturePlan;
 use crate::sorting::sorted;
+use crate::tile_grid::{TileGrid, bytes_of_tiles, tile};
 use flat_scene::DrawItem;
 use flat_tile::chosen::{draw, draw_chosen};
-use flat_tile::prepared::Prepared;
+use flat_tile::prepared_item::PreparedItem;
 use flat_tile::tile::Tile;
 
 /// Draws a tile by the items with some numbers, which are those that may be seen there.
-fn draw_tile(items: &[DrawItem], list: &[Prepared], places: &[usize], tile: Tile, bytes: &mut [u8])
+fn draw_tile(
+    items: &[DrawItem],
+    list: &[PreparedItem],
+    places: &[usize],
+    tile: Tile,
+    bytes: &mut [u8],
+)
     requires items { All IsDrawable items.now }
     requires prepared { ArePrepared items.now list.now }
     requires tile { IsTile tile }
@@ -29,7 +35,13 @@ fn draw_tile(items: &[DrawItem], list: &[Prepared], places: &[usize], tile: Tile
 }
 
 /// Draws a row of tiles, each by all of the items.
-fn draw_each(items: &[DrawItem], list: &[Prepared], grid: &Grid, row: usize, bytes: &mut [u8])
+fn draw_each(
+    items: &[DrawItem],
+    list: &[PreparedItem],
+    grid: &TileGrid,
+    row: usize,
+    bytes: &mut [u8],
+)
     requires items { All IsDrawable items.now }
     requires prepared { ArePrepared items.now list.now }
     requires grid { IsGrid grid.now }
@@ -54,9 +66,9 @@ fn draw_each(items: &[DrawItem], list: &[Prepared], grid: &Grid, row: usize, byt
 /// Draws a row of tiles, each by the items that may be seen there.
 fn draw_picked(
     items: &[DrawItem],
-    list: &[Prepared],
+    list: &[PreparedItem],
     lists: &[Vec<usize>],
-    grid: &Grid,
+    grid: &TileGrid,
     row: usize,
     bytes: &mut [u8],
 )
@@ -80,7 +92,7 @@ fn draw_picked(
 
 /// Draws a row of tiles, from black. Of many items it looks twice at those alone that may be seen
 /// on a tile, if memory is there for their numbers.
-pub fn draw_band(plan: &Plan<'_>, row: usize, bytes: &mut [u8])
+pub fn draw_band(plan: &PicturePlan<'_>, row: usize, bytes: &mut [u8])
     requires plan { IsPlan plan.now }
     requires row { row < plan.now.grid.down }
     requires size { length bytes.old ≡ band_bytes plan.now.grid }

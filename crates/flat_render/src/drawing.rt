@@ -7,14 +7,14 @@ ghost use Rattle.flat_render.specs.Damaged.{is_in_any};
 ghost use Rattle.flat_render.specs.Grids.{grid_bytes, IsGrid};
 ghost use Rattle.flat_render.specs.Stored.{stored_x, stored_y, drawn_at};
 
-use crate::grid::{Grid, bytes_of_tiles, count_of_tiles, tile};
+use crate::tile_grid::{TileGrid, bytes_of_tiles, count_of_tiles, tile};
 use flat_base::Rect;
 use flat_ink::area::{Area, area_of};
 use flat_scene::DrawItem;
 use flat_tile::tile::draw_anew;
 
 /// Draws what is in a window anew, on all tiles.
-fn redraw_tiles(items: &[DrawItem], grid: &Grid, window: Area, bytes: &mut [u8])
+fn redraw_tiles(items: &[DrawItem], grid: &TileGrid, window: Area, bytes: &mut [u8])
     requires items { All IsDrawable items.now }
     requires grid { IsGrid grid.now }
     requires size { length bytes.old ≡ grid_bytes grid.now }
@@ -31,7 +31,7 @@ fn redraw_tiles(items: &[DrawItem], grid: &Grid, window: Area, bytes: &mut [u8])
 }
 
 /// Draws what is in any of some rectangles anew.
-pub fn redraw_rects(items: &[DrawItem], grid: &Grid, rects: &[Rect], bytes: &mut [u8])
+pub fn redraw_rects(items: &[DrawItem], grid: &TileGrid, rects: &[Rect], bytes: &mut [u8])
     requires items { All IsDrawable items.now }
     requires grid { IsGrid grid.now }
     requires size { length bytes.old ≡ grid_bytes grid.now }

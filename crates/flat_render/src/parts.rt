@@ -6,7 +6,7 @@ ghost use Rattle.std.specs.Thread.{IsSync};
 ghost use Rattle.flat_render.specs.Plans.{IsPlan};
 ghost use Rattle.flat_render.specs.Strips.{rows_above, HasStrips};
 
-use crate::plan::{Plan, Span, cut_of, first_share};
+use crate::picture_plan::{PicturePlan, TileRowSpan, cut_of, first_share};
 use crate::strips::{Strip, draw_strips};
 use flat_base::NoMemory;
 use std::thread::{Threads, join};
@@ -25,13 +25,13 @@ fn joined(mut strips: Vec<Strip>, mut more: Vec<Strip>) -> Part
 
 /// The strips of a span, for which at most its number of threads are started.
 #[cycle(parts)]
-fn span_strips<R: Threads + Sync>(rt: &R, plan: &Plan<'_>, span: Span) -> Part
+fn span_strips<R: Threads + Sync>(rt: &R, plan: &PicturePlan<'_>, span: TileRowSpan) -> Part
     requires plan { IsPlan plan.now }
     requires order { span.from ≤ span.upto }
     requires there { span.upto ≤ plan.now.grid.down }
     ensures { HasStrips plan.now span result }
 {
-    let Span {
+    let TileRowSpan {
         from,
         upto,
         threads,
@@ -41,12 +41,12 @@ fn span_strips<R: Threads + Sync>(rt: &R, plan: &Plan<'_>, span: Span) -> Part
     }
     let low = first_share(threads);
     let cut = cut_of(plan.works, span, low);
-    let before = Span {
+    let before = TileRowSpan {
         from,
         upto: cut,
         threads: 0,
     };
-    let after = Span {
+    let after = TileRowSpan {
         from: cut,
         upto,
         threads: threads - low,
@@ -68,12 +68,12 @@ fn span_strips<R: Threads + Sync>(rt: &R, plan: &Plan<'_>, span: Span) -> Part
 }
 
 /// All strips, for which at most so many threads are started.
-pub fn all_strips<R: Threads + Sync>(rt: &R, plan: &Plan<'_>, threads: usize) -> Part
+pub fn all_strips<R: Threads + Sync>(rt: &R, plan: &PicturePlan<'_>, threads: usize) -> Part
     requires { IsPlan plan.now }
     ensures { IfOk result (λ strips. rows_above plan.now.items.now plan.now.grid plan.now.grid.down
         ≡ flat_map arc_value strips.items) }
 {
-    let all = Span {
+    let all = TileRowSpan {
         from: 0,
         upto: plan.grid.down,
         threads,

@@ -3,7 +3,7 @@ ghost use Rattle.std.specs.Prelude.{length, slice_index, vec_len};
 ghost use Rattle.flat_render.specs.Grids.{grid_bytes, IsGrid};
 
 use crate::drawing::redraw_rects;
-use crate::grid::{Grid, place};
+use crate::tile_grid::{TileGrid, place};
 use crate::words::write_words;
 use flat_scene::{ItemList, RectList};
 
@@ -13,7 +13,7 @@ use flat_scene::{ItemList, RectList};
 /// tile channel by channel.
 #[derive(Drop)]
 pub struct Picture {
-    pub(crate) grid: Grid,
+    pub(crate) grid: TileGrid,
     pub(crate) bytes: Vec<u8>,
     ghost sides: { IsGrid grid },
     ghost filled: { vec_len bytes ≡ grid_bytes grid },

@@ -6,10 +6,10 @@ ghost use Rattle.flat_render.specs.Pictures.{Shows, width_of, height_of, pixel_o
 ghost use Rattle.flat_render.specs.Ppm.{header, row_bytes, ppm_bytes};
 ghost use Rattle.flat_render.specs.Rows.{band_of, colour_in, rows_bytes};
 
-use crate::grid::{Grid, band_grid, bytes_of_bands, run_start, size_of_tiles};
 use crate::picture::Picture;
+use crate::tile_grid::{TileGrid, band_grid, bytes_of_bands, run_start, size_of_tiles};
 use flat_base::NoMemory;
-use flat_ink::ink::TILE_SIDE;
+use flat_ink::channel_ink::TILE_SIDE;
 use flat_tile::tile::CHANNELS;
 use std::alloc::Global;
 
@@ -91,7 +91,7 @@ fn push_run(
 }
 
 /// Appends the colours of a row of what a grid stores, tile by tile.
-fn push_row(out: &mut Vec<u8>, grid: &Grid, bytes: &[u8], y: usize) -> Result<(), NoMemory>
+fn push_row(out: &mut Vec<u8>, grid: &TileGrid, bytes: &[u8], y: usize) -> Result<(), NoMemory>
     requires grid { IsGrid grid.now }
     requires size { length bytes.now ≡ grid_bytes grid.now }
     requires y { y < grid.now.height }
@@ -108,7 +108,7 @@ fn push_row(out: &mut Vec<u8>, grid: &Grid, bytes: &[u8], y: usize) -> Result<()
 }
 
 /// Appends the colours of a row of tiles, row by row, as far as the picture has them.
-pub fn push_band(out: &mut Vec<u8>, grid: &Grid, n: usize, band: &[u8]) -> Result<(), NoMemory>
+pub fn push_band(out: &mut Vec<u8>, grid: &TileGrid, n: usize, band: &[u8]) -> Result<(), NoMemory>
     requires grid { IsGrid grid.now }
     requires there { n < grid.now.down }
     requires size { length band.now ≡ band_bytes grid.now }

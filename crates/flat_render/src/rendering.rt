@@ -6,17 +6,17 @@ ghost use Rattle.flat_ink.specs.Pixels.{pixel};
 ghost use Rattle.flat_render.specs.Pictures.{Shows, height_of, width_of};
 ghost use Rattle.flat_render.specs.Ppm.{ppm_bytes};
 
-use crate::grid::{PIXELS_MAX, grid_for, stored};
 use crate::parts::all_strips;
 use crate::picture::Picture;
-use crate::plan::{Plan, THREADS_MAX, most_threads, threads_for, works_for};
+use crate::picture_plan::{PicturePlan, THREADS_MAX, most_threads, threads_for, works_for};
 use crate::ppm::ppm_head;
 use crate::sorting::sorted_rows;
 use crate::spans::draw_rows;
 use crate::strips::Strip;
+use crate::tile_grid::{PIXELS_MAX, grid_for, stored};
 use flat_base::{Items, NoMemory};
 use flat_scene::ItemList;
-use flat_tile::prepared::prepare_all;
+use flat_tile::prepared_item::prepare_all;
 use std::alloc::Global;
 use std::sync::Arc;
 use std::thread::Threads;
@@ -88,7 +88,7 @@ pub fn render(
     let grid = grid_for(w, h, step_for(threads));
     let rows = sorted_rows(alloc, drawn, list, &grid)?;
     let works = works_for(alloc, list, &grid, threads)?;
-    let plan = Plan {
+    let plan = PicturePlan {
         alloc,
         items: drawn,
         list,
@@ -121,7 +121,7 @@ pub fn render_into(
     let threads = threads_for(list, most);
     let rows = sorted_rows(alloc, drawn, list, &picture.grid)?;
     let works = works_for(alloc, list, &picture.grid, threads)?;
-    let plan = Plan {
+    let plan = PicturePlan {
         alloc,
         items: drawn,
         list,
@@ -158,7 +158,7 @@ pub fn render_strips(
     let grid = grid_for(w, h, step_for_strips(drawn.len(), threads));
     let rows = sorted_rows(alloc, drawn, list, &grid)?;
     let works = works_for(alloc, list, &grid, threads)?;
-    let plan = Plan {
+    let plan = PicturePlan {
         alloc,
         items: drawn,
         list,

@@ -6,12 +6,12 @@ ghost use Rattle.flat_render.specs.Bands.{AreChoices, AreEmpty, AreRows, IsNoted
 ghost use Rattle.flat_render.specs.Grids.{IsGrid};
 ghost use Rattle.flat_tile.specs.Preparing.{ArePrepared};
 
-use crate::grid::Grid;
+use crate::tile_grid::TileGrid;
 use flat_base::NoMemory;
 use flat_ink::area::Area;
-use flat_ink::ink::TILE_SIDE;
+use flat_ink::channel_ink::TILE_SIDE;
 use flat_scene::DrawItem;
-use flat_tile::prepared::Prepared;
+use flat_tile::prepared_item::PreparedItem;
 use std::alloc::Global;
 
 /// So many items are asked for each tile sooner than they are chosen for it.
@@ -39,7 +39,7 @@ fn part_with(side: usize, x: usize) -> usize
 }
 
 /// The tiles of a row in which an area may have a pixel.
-fn columns_of(grid: &Grid, row: usize, area: Area) -> Run
+fn columns_of(grid: &TileGrid, row: usize, area: Area) -> Run
     requires grid { IsGrid grid.now }
     requires row { row < grid.now.down }
     ensures within { result.upto ≤ grid.now.across }
@@ -59,11 +59,12 @@ fn columns_of(grid: &Grid, row: usize, area: Area) -> Run
 }
 
 /// The rows of tiles in which an area may have a pixel.
-fn rows_of(grid: &Grid, area: Area) -> Run
+fn rows_of(grid: &TileGrid, area: Area) -> Run
     requires { IsGrid grid.now }
     ensures within { result.upto ≤ grid.now.down }
     ensures others { (row px py : ℕ) → row < grid.now.down → row * grid.now.tile_h ≤ py →
-        py < row * grid.now.tile_h + grid.now.tile_h → is_among result.from result.upto row ≡ false →
+        py < row * grid.now.tile_h + grid.now.tile_h → is_among result.from result.upto row
+        ≡ false →
         has_pixel area px py ≡ false }
 {
     Run {
@@ -107,8 +108,8 @@ fn note(lists: &mut [Vec<usize>], n: usize, run: Run) -> Result<(), NoMemory>
 pub fn sorted_rows(
     alloc: Global,
     items: &[DrawItem],
-    list: &[Prepared],
-    grid: &Grid,
+    list: &[PreparedItem],
+    grid: &TileGrid,
 ) -> Result<Vec<Vec<usize>>, NoMemory>
     requires items { All IsDrawable items.now }
     requires prepared { ArePrepared items.now list.now }
@@ -131,9 +132,9 @@ pub fn sorted_rows(
 pub fn sorted(
     alloc: Global,
     items: &[DrawItem],
-    list: &[Prepared],
+    list: &[PreparedItem],
     places: &[usize],
-    grid: &Grid,
+    grid: &TileGrid,
     row: usize,
 ) -> Result<Vec<Vec<usize>>, NoMemory>
     requires items { All IsDrawable items.now }

@@ -6,19 +6,24 @@ ghost use Rattle.flat_render.specs.Plans.{IsPlan, IsSpan};
 ghost use Rattle.flat_render.specs.Stored.{drawn_at};
 
 use crate::band::draw_band;
-use crate::grid::bytes_of_bands;
-use crate::plan::{Plan, Span, cut_of, first_share};
+use crate::picture_plan::{PicturePlan, TileRowSpan, cut_of, first_share};
+use crate::tile_grid::bytes_of_bands;
 use std::thread::{Threads, join_mut};
 
 /// Draws the rows of tiles of a span, for which it starts at most its number of threads.
 #[cycle(spans)]
-pub fn draw_span<R: Threads + Sync>(rt: &R, plan: &Plan<'_>, span: Span, bytes: &mut [u8])
+pub fn draw_span<R: Threads + Sync>(
+    rt: &R,
+    plan: &PicturePlan<'_>,
+    span: TileRowSpan,
+    bytes: &mut [u8],
+)
     requires plan { IsPlan plan.now }
     requires span { IsSpan plan.now span bytes.old }
     ensures { (i : ℕ) → i < length bytes.old → slice_index bytes.new i
         ≡ drawn_at plan.now.grid plan.now.items.now (span.from * band_bytes plan.now.grid + i) }
 {
-    let Span {
+    let TileRowSpan {
         from,
         upto,
         threads,
@@ -29,12 +34,12 @@ pub fn draw_span<R: Threads + Sync>(rt: &R, plan: &Plan<'_>, span: Span, bytes: 
     let low = first_share(threads);
     let cut = cut_of(plan.works, span, low);
     let (front, back) = bytes.split_at_mut((cut - from) * bytes_of_bands(&plan.grid));
-    let before = Span {
+    let before = TileRowSpan {
         from,
         upto: cut,
         threads: low,
     };
-    let after = Span {
+    let after = TileRowSpan {
         from: cut,
         upto,
         threads: threads - low,
@@ -47,9 +52,9 @@ pub fn draw_span<R: Threads + Sync>(rt: &R, plan: &Plan<'_>, span: Span, bytes: 
 #[cycle(spans)]
 fn draw_both<R: Threads + Sync>(
     rt: &R,
-    plan: &Plan<'_>,
-    before: Span,
-    after: Span,
+    plan: &PicturePlan<'_>,
+    before: TileRowSpan,
+    after: TileRowSpan,
     front: &mut [u8],
     back: &mut [u8],
 )
@@ -66,7 +71,7 @@ fn draw_both<R: Threads + Sync>(
         draw_span(rt, plan, after, back);
         return;
     }
-    let before = Span {
+    let before = TileRowSpan {
         threads: before.threads - 1,
         ..before
     };
@@ -86,7 +91,12 @@ fn draw_both<R: Threads + Sync>(
 }
 
 /// Draws all rows of tiles, for which it starts at most so many threads.
-pub fn draw_rows<R: Threads + Sync>(rt: &R, plan: &Plan<'_>, threads: usize, bytes: &mut [u8])
+pub fn draw_rows<R: Threads + Sync>(
+    rt: &R,
+    plan: &PicturePlan<'_>,
+    threads: usize,
+    bytes: &mut [u8],
+)
     requires plan { IsPlan plan.now }
     requires size { length bytes.old ≡ grid_bytes plan.now.grid }
     ensures { (i : ℕ) → i < length bytes.old → slice_index bytes.new i
@@ -95,7 +105,7 @@ pub fn draw_rows<R: Threads + Sync>(rt: &R, plan: &Plan<'_>, threads: usize, byt
     if plan.grid.down == 0 {
         return;
     }
-    let all = Span {
+    let all = TileRowSpan {
         from: 0,
         upto: plan.grid.down,
         threads,

@@ -11,9 +11,9 @@ ghost use Rattle.flat_render.specs.Stored.{drawn_at};
 ghost use Rattle.flat_render.specs.Strips.{rows_above, strip_in};
 
 use crate::band::draw_band;
-use crate::grid::{Grid, bytes_of_bands};
-use crate::plan::Plan;
+use crate::picture_plan::PicturePlan;
 use crate::ppm::push_band;
+use crate::tile_grid::{TileGrid, bytes_of_bands};
 use flat_base::{Items, NoMemory};
 use flat_tile::tile::CHANNELS;
 use std::alloc::Global;
@@ -24,7 +24,7 @@ use std::sync::Arc;
 pub type Strip = Arc<Items<u8>>;
 
 /// The strip of a row of tiles.
-fn strip_of(alloc: Global, grid: &Grid, n: usize, band: &[u8]) -> Result<Strip, NoMemory>
+fn strip_of(alloc: Global, grid: &TileGrid, n: usize, band: &[u8]) -> Result<Strip, NoMemory>
     requires grid { IsGrid grid.now }
     requires there { n < grid.now.down }
     requires size { length band.now ≡ band_bytes grid.now }
@@ -42,7 +42,7 @@ fn strip_of(alloc: Global, grid: &Grid, n: usize, band: &[u8]) -> Result<Strip, 
 
 /// Whether a row of tiles, which isn't the first one of those that are drawn, looks like the one
 /// before it.
-fn is_again(grid: &Grid, first: usize, n: usize, before: &[u8], band: &[u8]) -> bool
+fn is_again(grid: &TileGrid, first: usize, n: usize, before: &[u8], band: &[u8]) -> bool
     requires grid { IsGrid grid.now }
     requires there { n < grid.now.down }
     requires order { first ≤ n }
@@ -59,7 +59,7 @@ fn is_again(grid: &Grid, first: usize, n: usize, before: &[u8], band: &[u8]) -> 
 /// The strip of a row of tiles: the last one, if its bytes are the same.
 fn next_strip(
     alloc: Global,
-    grid: &Grid,
+    grid: &TileGrid,
     n: usize,
     band: &[u8],
     is_again: bool,
@@ -79,7 +79,7 @@ fn next_strip(
 }
 
 /// The strips of the rows of tiles from one up to another.
-pub fn draw_strips(plan: &Plan<'_>, from: usize, upto: usize) -> Result<Vec<Strip>, NoMemory>
+pub fn draw_strips(plan: &PicturePlan<'_>, from: usize, upto: usize) -> Result<Vec<Strip>, NoMemory>
     requires plan { IsPlan plan.now }
     requires order { from ≤ upto }
     requires there { upto ≤ plan.now.grid.down }

@@ -2,8 +2,8 @@ ghost use Rattle.std.specs.Prelude.{◌≡◌, ◌<◌, ◌≤◌, ℕ, [], ◌�
 ghost use Rattle.flat_render.specs.Pictures.{width_of, height_of, pixel_of};
 ghost use Rattle.flat_render.specs.Words.{xrgb};
 
-use crate::grid::{run_start, size_of_tiles};
 use crate::picture::Picture;
+use crate::tile_grid::{run_start, size_of_tiles};
 
 /// The word of a colour.
 fn word(red: u8, green: u8, blue: u8) -> u32

@@ -1,8 +1,8 @@
-//! Times the renderer: `flat_render_bench KIND COUNT WIDTH HEIGHT ROUNDS` draws a
-//! picture of 1920 by 1080 so many times in the same memory, with so many items of those sides: opaque
-//! fills (kind 0), fills of alpha 128 (1), opaque images (2) or images at half
-//! opacity (3); kinds 4 to 7 are the same, and make the bytes of each picture too; kinds 8
-//! to 11 make the bytes alone. It prints the sum of the reds in the middle, and of those lengths.
+//! Times the renderer: `flat_render_bench KIND COUNT WIDTH HEIGHT ROUNDS` draws a picture of 1920
+//! by 1080 so many times in the same memory, with so many items of those sides: opaque fills (kind
+//! 0), fills of alpha 128 (1), opaque images (2) or images at half opacity (3); kinds 4 to 7 are
+//! the same, and make the bytes of each picture too; kinds 8 to 11 make the bytes alone. It prints
+//! the sum of the reds in the middle, and of those lengths.
 #![tactic(auto)]
 
 ghost use Rattle.std.specs.Prelude.{All};

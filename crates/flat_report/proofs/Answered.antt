@@ -9,8 +9,8 @@ use Rattle.std.proofs.lemmas.List.Folds.{list_all-append}
 use Rattle.flat_base.specs.declared.ids.Actor.{Actor}
 use Rattle.flat_base.specs.declared.ids.Actor.TheVariants.{Display, Session, Probe}
 use Rattle.flat_scene.specs.declared.journal.Entry.{Entry}
-use Rattle.flat_scene.specs.declared.script.Body.{Body}
-use Rattle.flat_scene.specs.declared.script.Body.TheVariants as body
+use Rattle.flat_scene.specs.declared.script.LineBody.{LineBody}
+use Rattle.flat_scene.specs.declared.script.LineBody.TheVariants as body
 use Rattle.flat_scene.specs.declared.script.ProbeLine.TheVariants as probe
 use Rattle.flat_scene.specs.declared.script.ScriptLine.{ScriptLine}
 use Rattle.flat_rules.specs.Legal.{frames}
@@ -56,7 +56,7 @@ own-lines n (line ∷ lines) = by_test (is_probe n line.actor) refl (own-lines n
     by_test false is later = later
 
 -- whether a line says what a probe says
-abbrev asks : Body → Bool
+abbrev asks : LineBody → Bool
 asks (body.Probe asked) = true
 asks _ = false
 
@@ -67,7 +67,7 @@ asking-lines n (line ∷ lines) ask =
     let parts = and_parts (is_asking line.actor line.body) (list_all (λ (line : ScriptLine). is_asking line.actor line.body) lines) ask in
     by_test (is_probe n line.actor) refl parts.0 (asking-lines n lines parts.1)
   where
-    of_it : (actor : Actor) (text : Body) → is_probe n actor ≡ true → is_asking actor text ≡ true → asks text ≡ true
+    of_it : (actor : Actor) (text : LineBody) → is_probe n actor ≡ true → is_asking actor text ≡ true → asks text ≡ true
     of_it (Probe p) (body.Probe asked) is ask = refl
     of_it (Probe p) (body.Session said) is ask = absurd (let e : false ≡ true = ask in cc)
     of_it (Probe p) (body.Display said) is ask = absurd (let e : false ≡ true = ask in cc)
@@ -159,7 +159,7 @@ both-fall n ((line, frame) ∷ mine) others are not_are fall fall_too =
 -- ---- what is said of a line
 
 module _ (script : Script) (history : List Entry) where
-  words-said : (frame : ℕ) (text : Body) → asks text ≡ true
+  words-said : (frame : ℕ) (text : LineBody) → asks text ≡ true
       → probe_words script (asked_by text) frame (asked_hits (hits_in_frame script.setup history frame) (asked_by text)) ≡ seen_words script history frame text
   words-said frame (body.Probe (probe.Hit x y)) ask = refl
   words-said frame (body.Probe (probe.Await n)) ask = refl

@@ -2,7 +2,7 @@
 use Rattle.std.proofs.Common.{◌≡◌, ℕ, suc, ◌<◌, ◌≤◌, ◌==◌, Bool, true, false, cond, List, [], ◌∷◌, ◌++◌, length, map, filter, refl, subst, sym, ap, ◌∙◌, arith}
 use Rattle.std.specs.List.{list_all}
 use Rattle.std.proofs.lemmas.Bool.Decides.{nat_tests}
-use Rattle.flat_scene.specs.declared.frames.Lost.{Lost}
+use Rattle.flat_scene.specs.declared.frames.LostDisplay.{LostDisplay}
 use Rattle.flat_scene.specs.declared.journal.Entry.{Entry}
 use Rattle.flat_scene.specs.History.{◌▹◌, is_finish}
 use Rattle.flat_rules.specs.Ends.{to_begin, to_finished}
@@ -21,13 +21,13 @@ use Rattle.flat_report.proofs.lemmas.Tails.{onto, tail}
 use Rattle.flat_report.proofs.lemmas.Turns.{Stands, stood, one-more}
 
 -- What two texts of later entries tell: the entries, the displays lost at their frames, and what stands behind.
-pub record Tells (before later later' : List Entry) (lost lost' : List Lost) (rest rest' : List ℕ) : Type 0 where
+pub record Tells (before later later' : List Entry) (lost lost' : List LostDisplay) (rest rest' : List ℕ) : Type 0 where
   pub entries : later ≡ later'
   pub losses : AgreeTo (frames before) (frames (onto before later)) lost lost'
   pub behind : rest ≡ rest'
 
 -- the displays lost at one more frame, where an entry finishes it
-one-frame-more : (b : Bool) (n to : ℕ) (lost lost' : List Lost) → (b ≡ true → lost_at (suc n) lost ≡ lost_at (suc n) lost')
+one-frame-more : (b : Bool) (n to : ℕ) (lost lost' : List LostDisplay) → (b ≡ true → lost_at (suc n) lost ≡ lost_at (suc n) lost')
     → AgreeTo (cond b (suc n) n) to lost lost' → AgreeTo n to lost lost'
 one-frame-more false n to lost lost' here later = later
 one-frame-more true n to lost lost' here later = λ m from upto. by_test (m == suc n) m refl from upto
@@ -49,14 +49,14 @@ module _ (script : Script) (named : IsNamed script) where
   event_lines sents = map (λ sent. event_line script sent.to sent.event) sents
 
   -- the lines of later entries, and what stands behind them
-  abbrev later_text : List Lost → List Entry → List Entry → List ℕ → List ℕ
+  abbrev later_text : List LostDisplay → List Entry → List Entry → List ℕ → List ℕ
   later_text lost before later rest = sheet (tail (entry_lines script lost) before later) rest
 
   events-no-loss : (sents : List Sent) (text : List ℕ) → NoLoss text → NoLoss (sheet (event_lines sents) text)
   events-no-loss [] text none = none
   events-no-loss (sent ∷ sents) text none = event-no-loss script named sent.to sent.event (sheet (event_lines sents) text)
 
-  later-no-loss : (lost : List Lost) (before later : List Entry) (rest : List ℕ) → Stands script.setup script.count script.lines (onto before later)
+  later-no-loss : (lost : List LostDisplay) (before later : List Entry) (rest : List ℕ) → Stands script.setup script.count script.lines (onto before later)
       → NoLoss rest → NoLoss (later_text lost before later rest)
   later-no-loss lost before [] rest standing none = none
   later-no-loss lost before (entry ∷ later) rest standing none =
@@ -66,7 +66,7 @@ module _ (script : Script) (named : IsNamed script) where
       (stood script.setup script.count script.lines (before ▹ entry) later standing).legal.1
 
   -- what stands behind the lines of an entry, and the displays lost at its frame
-  frame-told : (before : List Entry) (lost lost' : List Lost) (b : Bool) (a a' : List ℕ) → list_all is_small lost ≡ true → list_all is_small lost' ≡ true
+  frame-told : (before : List Entry) (lost lost' : List LostDisplay) (b : Bool) (a a' : List ℕ) → list_all is_small lost ≡ true → list_all is_small lost' ≡ true
       → NoLoss a → NoLoss a'
       → sheet (cond b (shown_lines script lost before) []) a ≡ sheet (cond b (shown_lines script lost' before) []) a'
       → (a ≡ a') × (b ≡ true → lost_at (suc (frames before)) lost ≡ lost_at (suc (frames before)) lost')
@@ -79,7 +79,7 @@ module _ (script : Script) (named : IsNamed script) where
       let told = losses-told n (lost_at n lost) (lost_at n lost') a a' (all-at n lost fits) (all-at n lost' fits') none none' behind in
       (told.1, λ b. told.0)
 
-  entry-text : (lost : List Lost) (before : List Entry) (entry : Entry) (later : List Entry) (rest : List ℕ)
+  entry-text : (lost : List LostDisplay) (before : List Entry) (entry : Entry) (later : List Entry) (rest : List ℕ)
       → later_text lost before (entry ∷ later) rest ≡ line_on (entry_line script (frames before) (hits_at script.setup (to_finished before)) entry)
       (sheet (cond (is_finish entry.kind) (shown_lines script lost before) [])
       (sheet (event_lines (posted script.setup before entry)) (later_text lost (before ▹ entry) later rest)))
@@ -91,7 +91,8 @@ module _ (script : Script) (named : IsNamed script) where
       ∙ sheet-append shown events (later_text lost (before ▹ entry) later rest))
 
   -- one entry that both have
-  same-step : (lost lost' : List Lost) (before : List Entry) (entry : Entry) (later later' : List Entry) (rest rest' : List ℕ) → list_all is_small lost ≡ true
+  same-step : (lost lost' : List LostDisplay) (before : List Entry) (entry : Entry) (later later' : List Entry) (rest rest' : List ℕ)
+      → list_all is_small lost ≡ true
       → list_all is_small lost' ≡ true → NoLoss rest → NoLoss rest'
       → Stands script.setup script.count script.lines (onto before (entry ∷ later))
       → Stands script.setup script.count script.lines (onto before (entry ∷ later'))
@@ -124,7 +125,7 @@ module _ (script : Script) (named : IsNamed script) where
   acting before entry legal = acts script entry.kind entry.actor legal.may.acts
 
   -- later entries are told by their text
-  pub later-told : (lost lost' : List Lost) (before later later' : List Entry) (rest rest' : List ℕ) → list_all is_small lost ≡ true
+  pub later-told : (lost lost' : List LostDisplay) (before later later' : List Entry) (rest rest' : List ℕ) → list_all is_small lost ≡ true
       → list_all is_small lost' ≡ true
       → NoEntry script rest → NoEntry script rest' → NoLoss rest → NoLoss rest'
       → Stands script.setup script.count script.lines (onto before later) → Stands script.setup script.count script.lines (onto before later')

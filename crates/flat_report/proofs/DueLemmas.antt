@@ -5,8 +5,8 @@ use Rattle.std.proofs.lemmas.Bool.{and_parts}
 use Rattle.std.proofs.lemmas.List.Sums.{take_while-cons}
 use Rattle.flat_base.specs.declared.ids.SessionNo.{SessionNo}
 use Rattle.flat_scene.specs.declared.journal.Entry.{Entry}
-use Rattle.flat_scene.specs.declared.journal.Kind.{Kind}
-use Rattle.flat_scene.specs.declared.journal.Kind.TheVariants.{Begin}
+use Rattle.flat_scene.specs.declared.journal.EntryKind.{EntryKind}
+use Rattle.flat_scene.specs.declared.journal.EntryKind.TheVariants.{Begin}
 use Rattle.flat_scene.specs.declared.setup.Setup.{Setup}
 use Rattle.flat_scene.specs.Frames.{is_ready, is_signalled, is_unsquashable, ready_prefix, taken, takes, up_to_first, waiting}
 use Rattle.flat_scene.specs.History.{◌▹◌, is_closed, Published}
@@ -48,7 +48,7 @@ due-taken setup before entry time s earlier present is due =
     (ready_prefix time (is_signalled setup before) ps) in
     let C : Bool → Type 0 = λ b. taken setup before s + length earlier < taken setup before s + length
     (cond b [] (ready_prefix time (is_signalled setup before) (waiting setup before s))) in
-    let K : Kind → Type 0 = λ k. taken setup before s + length earlier < taken setup before s + length
+    let K : EntryKind → Type 0 = λ k. taken setup before s + length earlier < taken setup before s + length
     (takes k (is_signalled setup before) (is_closed s before) (waiting setup before s)) in
     let some : W (earlier ++ present ∷ due.later) = omega (arith, through) in
     subst K (sym is) (subst C (sym due.is_open) (subst W (sym due.waits) some))

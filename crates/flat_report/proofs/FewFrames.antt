@@ -5,10 +5,10 @@ use Rattle.std.proofs.lemmas.Bool.Decides.{nat_tests}
 use Rattle.flat_base.specs.declared.ids.Actor.{Actor}
 use Rattle.flat_base.specs.declared.ids.Actor.TheVariants.{Display, Session, Probe}
 use Rattle.flat_scene.specs.declared.journal.Entry.{Entry}
-use Rattle.flat_scene.specs.declared.journal.Kind.{Kind}
-use Rattle.flat_scene.specs.declared.journal.Kind.TheVariants as kind
-use Rattle.flat_scene.specs.declared.script.Body.{Body}
-use Rattle.flat_scene.specs.declared.script.Body.TheVariants as body
+use Rattle.flat_scene.specs.declared.journal.EntryKind.{EntryKind}
+use Rattle.flat_scene.specs.declared.journal.EntryKind.TheVariants as kind
+use Rattle.flat_scene.specs.declared.script.LineBody.{LineBody}
+use Rattle.flat_scene.specs.declared.script.LineBody.TheVariants as body
 use Rattle.flat_scene.specs.declared.script.DisplayLine.{DisplayLine}
 use Rattle.flat_scene.specs.declared.script.ScriptLine.{ScriptLine}
 use Rattle.flat_scene.specs.declared.setup.Setup.{Setup}
@@ -84,14 +84,14 @@ lines-few (next ∷ lines) =
     let later = lines-few lines in
     omega (arith, one, later, length-append (display_line next.number next.body) (display_lines lines))
   where
-    at_most_one : (n : ℕ) (b : Body) → length (display_line n b) ≤ 1
+    at_most_one : (n : ℕ) (b : LineBody) → length (display_line n b) ≤ 1
     at_most_one n (body.Display text) = omega arith
     at_most_one n (body.Session text) = omega arith
     at_most_one n (body.Probe text) = omega arith
 
 -- ---- frames
 
-finish-display : (setup : Setup) (made : Kind) (actor : Actor) → may_act setup made actor ≡ true → is_finish made ≡ true → is_display actor ≡ true
+finish-display : (setup : Setup) (made : EntryKind) (actor : Actor) → may_act setup made actor ≡ true → is_finish made ≡ true → is_display actor ≡ true
 finish-display setup made Display may is = refl
 finish-display setup kind.Finish (Session s) may is = absurd (cc)
 finish-display setup made (Probe p) may is = absurd (cc)

@@ -5,13 +5,13 @@ use Rattle.std.specs.Borrow.{Bor}
 use Rattle.std.specs.List.{concat, list_all}
 use Rattle.std.proofs.lemmas.List.Concat.{flat_map-append}
 use Rattle.flat_base.specs.declared.errors.NoMemory.{NoMemory}
-use Rattle.flat_scene.specs.declared.frames.Lost.{Lost}
+use Rattle.flat_scene.specs.declared.frames.LostDisplay.{LostDisplay}
 use Rattle.flat_scene.specs.declared.journal.Entry.{Entry}
 use Rattle.flat_scene.specs.History.{is_finish}
 use Rattle.flat_places.specs.declared.script.Script.{Script}
 use Rattle.flat_page.specs.Words.{text_of}
 use Rattle.flat_lines.specs.Ends.{title_line}
-use Rattle.flat_report.specs.declared.cursor.Cursor.{Cursor}
+use Rattle.flat_report.specs.declared.report_position.ReportPosition.{ReportPosition}
 use Rattle.flat_report.specs.declared.probes.ProbeAnswer.{ProbeAnswer}
 use Rattle.flat_report.specs.declared.sections.Section.{Section}
 use Rattle.flat_report.specs.Handed.{Rest, after_entries, after_entry, ending_text, entries_text, entry_text}
@@ -36,7 +36,7 @@ pub few-after : (rest : Rest) (xs : List Entry) → rest.finished ≤ rest.place
 few-after rest [] few = few
 few-after rest (x ∷ xs) few = few-after (after_entry rest x) xs (one_more (is_finish x.kind) rest.finished rest.place few)
 
-module _ (script : Script) (lost : List Lost) where
+module _ (script : Script) (lost : List LostDisplay) where
   -- the text of two lists of entries is that of the first, and then that of the second by what is left there
   pub texts-append : (rest : Rest) (xs ys : List Entry)
       → entries_text script lost rest (xs ++ ys) ≡ entries_text script lost rest xs ++ entries_text script lost (after_entries rest xs) ys
@@ -48,7 +48,7 @@ module _ (script : Script) (lost : List Lost) where
 -- ---- loops over entries
 
 -- behind some entries later ones fit
-pub fits_later : (start next : Cursor) (xs ys : List Entry) → Fits start (xs ++ ys) → rest_of next ≡ after_entries (rest_of start) xs → Fits next ys
+pub fits_later : (start next : ReportPosition) (xs ys : List Entry) → Fits start (xs ++ ys) → rest_of next ≡ after_entries (rest_of start) xs → Fits next ys
 fits_later start next xs ys fits is =
     let place : next.place ≡ start.place + length xs = ap (λ (r : Rest). r.place) is ∙ place-after (rest_of start) xs in
     record {
@@ -56,11 +56,11 @@ fits_later start next xs ys fits is =
       small = let all = fits.small in omega (arith, place, length-append xs ys, all);
     }
 
-pub fits_front : (start : Cursor) (xs ys : List Entry) → Fits start (xs ++ ys) → Fits start xs
+pub fits_front : (start : ReportPosition) (xs ys : List Entry) → Fits start (xs ++ ys) → Fits start xs
 fits_front start xs ys fits = record { few = fits.few; small = let all = fits.small in omega (arith, length-append xs ys, all) }
 
 -- A loop over entries has come before the one of this index: what is left there is what those before it left.
-pub record Reaches (start : Cursor) (all : List Entry) (cursor : Cursor) (i : ℕ) : Type 0 where
+pub record Reaches (start : ReportPosition) (all : List Entry) (cursor : ReportPosition) (i : ℕ) : Type 0 where
   pub rest : after_entries (rest_of cursor) (drop i all) ≡ after_entries (rest_of start) all
   pub fits : Fits cursor (drop i all)
 
@@ -73,7 +73,7 @@ put_three old one two three first second third first_is second_is third_is =
     third_is ∙ ap (λ t. t ++ three) (second_is ∙ ap (λ t. t ++ two) first_is) ∙ append_assoc (old ++ one) two three ∙ append_assoc old one (two ++ three)
 
 -- behind the title the text of all entries, and what ends the report
-pub whole_is : (script : Script) (probes : List (List ProbeAnswer)) (whole : Section) (body : List ℕ) (end : Cursor) → body ≡ section_text script whole
+pub whole_is : (script : Script) (probes : List (List ProbeAnswer)) (whole : Section) (body : List ℕ) (end : ReportPosition) → body ≡ section_text script whole
     → rest_of end ≡ end_of whole
     → text_of (title_line script.version ∷ []) ++ (body ++ ending_text script probes (rest_of end)) ≡ whole_text script probes whole
 whole_is script probes whole body end body_is end_is =
@@ -105,7 +105,7 @@ fit_more (x ∷ sections) s all fits zero d within = all 0 d (omega arith)
 fit_more (x ∷ sections) s all fits (suc i) d within = fit_more sections s (λ j e inside. all (suc j) e (omega arith)) fits i d (omega arith)
 
 -- Some sections were cut off a whole: with the entries left, before which the cursor stands, they are all of it.
-pub record Cuts (whole : Section) (sections : List Section) (cursor : Cursor) (left : List Entry) : Type 0 where
+pub record Cuts (whole : Section) (sections : List Section) (cursor : ReportPosition) (left : List Entry) : Type 0 where
   pub text : (script : Script) → sections_text script sections ++ entries_text script whole.lost.now (rest_of cursor) left ≡ section_text script whole
   pub rest : after_entries (rest_of cursor) left ≡ end_of whole
   pub fits : Fits cursor left
@@ -115,7 +115,7 @@ module _ (whole : Section) where
   pub cuts_none : Fits whole.start whole.entries.now → Cuts whole [] whole.start whole.entries.now
   cuts_none fits = record { text = λ script. refl; rest = refl; fits = fits; all = λ i d within. absurd (omega arith) }
 
-  pub cuts_more : (sections more : List Section) (section : Section) (next : Cursor) (left later : List Entry) → Cuts whole sections section.start left
+  pub cuts_more : (sections more : List Section) (section : Section) (next : ReportPosition) (left later : List Entry) → Cuts whole sections section.start left
       → section.lost ≡ whole.lost → left ≡ section.entries.now ++ later → rest_of next ≡ end_of section → more ≡ sections ++ section ∷ []
       → Cuts whole more next later
   cuts_more sections more section next left later cuts lost_is left_is next_is more_is =
@@ -129,7 +129,8 @@ module _ (whole : Section) where
             (append-nil (section_text script section)))
             ∙ append_assoc before (section_text script section) (behind (rest_of next))
             ∙ ap (λ r. before ++ (section_text script section ++ behind r)) next_is
-            ∙ ap (λ (l : Bor (List Lost)). before ++ (entries_text script l.now (rest_of section.start) section.entries.now ++ behind (end_of section))) lost_is
+            ∙ ap (λ (l : Bor (List LostDisplay)). before ++ (entries_text script l.now (rest_of section.start) section.entries.now ++ behind (end_of section)))
+            lost_is
             ∙ ap (λ t. before ++ t) (sym (texts-append script whole.lost.now (rest_of section.start) section.entries.now later))
             ∙ ap (λ es. before ++ entries_text script whole.lost.now (rest_of section.start) es) (sym left_is)
             ∙ cuts.text script;
@@ -139,12 +140,12 @@ module _ (whole : Section) where
         all = subst AllFit (sym more_is) (fit_more sections section cuts.all (fits_front section.start section.entries.now later fits));
       }
 
-  pub cuts_all : (sections : List Section) (cursor : Cursor) (left : List Entry) → length left ≡ 0 → Cuts whole sections cursor left
+  pub cuts_all : (sections : List Section) (cursor : ReportPosition) (left : List Entry) → length left ≡ 0 → Cuts whole sections cursor left
       → (script : Script) → sections_text script sections ≡ section_text script whole
   cuts_all sections cursor [] none cuts script = sym (append-nil (sections_text script sections)) ∙ cuts.text script
   cuts_all sections cursor (x ∷ left) none cuts script = absurd (omega (arith, none))
 
-  pub cuts_end : (sections : List Section) (cursor : Cursor) (left : List Entry) → length left ≡ 0 → Cuts whole sections cursor left
+  pub cuts_end : (sections : List Section) (cursor : ReportPosition) (left : List Entry) → length left ≡ 0 → Cuts whole sections cursor left
       → rest_of cursor ≡ end_of whole
   cuts_end sections cursor [] none cuts = cuts.rest
   cuts_end sections cursor (x ∷ left) none cuts = absurd (omega (arith, none))

@@ -1,11 +1,11 @@
 -- What is handed in, on small examples.
 use Rattle.std.proofs.Common.{◌≡◌, ℕ, List, [], ◌∷◌, ◌++◌, refl}
 use Rattle.flat_base.specs.declared.ids.SessionNo.{SessionNo}
-use Rattle.flat_scene.specs.declared.frames.Lost.{Lost}
+use Rattle.flat_scene.specs.declared.frames.LostDisplay.{LostDisplay}
 use Rattle.flat_scene.specs.declared.journal.Entry.{Entry}
 use Rattle.flat_scene.specs.declared.journal.Event.{Event}
-use Rattle.flat_scene.specs.declared.journal.Kind.TheVariants.{Finish, Poll}
-use Rattle.flat_scene.specs.declared.journal.Post.{Post}
+use Rattle.flat_scene.specs.declared.journal.EntryKind.TheVariants.{Finish, Poll}
+use Rattle.flat_scene.specs.declared.journal.PostedEvent.{PostedEvent}
 use Rattle.flat_scene.specs.declared.journal.Reply.{Reply}
 use Rattle.flat_base.specs.declared.ids.Actor.{Actor}
 use Rattle.flat_places.specs.declared.script.Script.{Script}
@@ -17,14 +17,15 @@ use Rattle.flat_report.specs.Handed.{Rest, after_entries, answers_text, entries_
 use Rattle.flat_lines.specs.Ends.{end_line}
 
 module _ (s : SessionNo) (event : Event) where
-  abbrev post : ℕ → Post
+  abbrev post : ℕ → PostedEvent
   post place = record { entry = place; session = s; event = event }
 
   -- of three posts two are of the first entry
   two-first : first_posts 0 (post 0 ∷ post 0 ∷ post 1 ∷ []) ≡ 2
   two-first = refl
 
-  module _ (script : Script) (lost : List Lost) (text : List ℕ) (answers : List HitAnswer) (probes : List (List ProbeAnswer)) (actor : Actor) (reply : Reply)
+  module _ (script : Script) (lost : List LostDisplay) (text : List ℕ) (answers : List HitAnswer) (probes : List (List ProbeAnswer)) (actor : Actor)
+      (reply : Reply)
     where
       abbrev done : Entry
       done = record { line = 5; actor = actor; calls = []; kind = Finish; reply = reply }

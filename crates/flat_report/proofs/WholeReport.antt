@@ -4,7 +4,7 @@ use Rattle.std.proofs.Common.{append-nil}
 use Rattle.std.specs.List.{list_all, zip}
 use Rattle.std.proofs.lemmas.Bool.Decides.{nat_tests}
 use Rattle.std.proofs.lemmas.List.{reverse-reverse}
-use Rattle.flat_scene.specs.declared.frames.Lost.{Lost}
+use Rattle.flat_scene.specs.declared.frames.LostDisplay.{LostDisplay}
 use Rattle.flat_scene.specs.declared.journal.Entry.{Entry}
 use Rattle.flat_rules.specs.Legal.{frames}
 use Rattle.flat_places.specs.declared.script.Script.{Script}
@@ -39,12 +39,12 @@ module _ (script : Script) where
   abbrev ending : List Entry → List ℕ → List ℕ
   ending history seen = sheet (map (seen_line script history) (zip (probe_lines script) seen)) (last_text history)
 
-  history-tail : (lost : List Lost) (history : List Entry) → history_lines script lost history ≡ tail (entry_lines script lost) [] (reverse history)
+  history-tail : (lost : List LostDisplay) (history : List Entry) → history_lines script lost history ≡ tail (entry_lines script lost) [] (reverse history)
   history-tail lost history =
       ap (history_lines script lost) (sym (from-oldest history))
       ∙ grows (history_lines script lost) (entry_lines script lost) (λ before entry. refl) [] (reverse history)
 
-  report-text : (history : List Entry) (lost : List Lost) (seen : List ℕ)
+  report-text : (history : List Entry) (lost : List LostDisplay) (seen : List ℕ)
       → report script history lost seen ≡ line_on (codes "report" ∷ codes "flatland" ∷ number script.version ∷ [])
       (sheet (tail (entry_lines script lost) [] (reverse history)) (ending history seen))
   report-text history lost seen =
@@ -61,7 +61,7 @@ module _ (script : Script) where
     long : length seen ≡ length (probe_lines script)
     low : list_all (λ f. nat_le f (frames history)) seen ≡ true
 
-  sees : (history : List Entry) (lost : List Lost) (seen : List ℕ) → IsRun script history lost seen → Sees history seen
+  sees : (history : List Entry) (lost : List LostDisplay) (seen : List ℕ) → IsRun script history lost seen → Sees history seen
   sees history lost seen run =
       let two = (and_parts ((length seen == length (probe_lines script)) && list_all (λ f. nat_le f (frames history)) seen)
       (never_falls (zip (probe_lines script) seen)) run.seeing).0 in
@@ -70,7 +70,7 @@ module _ (script : Script) where
       record { long = grind (arith, nat_tests); low = parts.1 }
 
   module _ (kept : Kept (2 ^ 32) script) where
-    standing : (history : List Entry) (lost : List Lost) (seen : List ℕ) → IsRun script history lost seen
+    standing : (history : List Entry) (lost : List LostDisplay) (seen : List ℕ) → IsRun script history lost seen
         → Stands script.setup script.count script.lines (onto [] (reverse history))
     standing history lost seen run =
         subst (λ (h : List Entry). Stands script.setup script.count script.lines h) (sym (from-oldest history))
@@ -86,7 +86,7 @@ module _ (script : Script) where
         seen-no-loss script kept.named history (probe_lines script) seen (last_text history) (probe-lines-are script kept.spoken)
         (end-no-loss script kept.named (codes "ends" ∷ last_words history) [])
 
-    history-told : (history history' : List Entry) (lost lost' : List Lost) (seen seen' : List ℕ) → IsRun script history lost seen
+    history-told : (history history' : List Entry) (lost lost' : List LostDisplay) (seen seen' : List ℕ) → IsRun script history lost seen
         → IsRun script history' lost' seen'
         → report script history lost seen ≡ report script history' lost' seen'
         → Tells [] (reverse history) (reverse history') lost lost' (ending history seen) (ending history' seen')
@@ -100,7 +100,7 @@ module _ (script : Script) where
         (standing history' lost' seen' run') behind
 
     -- where the history is one, the probes saw the same frames
-    same-seen : (history : List Entry) (lost lost' : List Lost) (seen seen' : List ℕ) → IsRun script history lost seen → IsRun script history lost' seen'
+    same-seen : (history : List Entry) (lost lost' : List LostDisplay) (seen seen' : List ℕ) → IsRun script history lost seen → IsRun script history lost' seen'
         → ending history seen ≡ ending history seen' → seen ≡ seen'
     same-seen history lost lost' seen seen' run run' is =
         let of = sees history lost seen run in
@@ -114,13 +114,14 @@ module _ (script : Script) where
         seen-told script history script.setup.probes (frames history) (probe_lines script) seen seen' (last_text history) (last_text history) low
         (probe-lines-are script kept.spoken) of.long of'.long of.low of'.low is
 
-    same-lost : (history : List Entry) (lost lost' : List Lost) (seen seen' : List ℕ) → IsRun script history lost seen → IsRun script history lost' seen'
+    same-lost : (history : List Entry) (lost lost' : List LostDisplay) (seen seen' : List ℕ) → IsRun script history lost seen → IsRun script history lost' seen'
         → Tells [] (reverse history) (reverse history) lost lost' (ending history seen) (ending history seen') → lost ≡ lost'
     same-lost history lost lost' seen seen' run run' told =
         losses-same history lost lost' run.loss run'.loss (λ n from upto. told.losses n from
         (let same : frames (onto [] (reverse history)) ≡ frames history = ap frames (from-oldest history) in omega (arith, upto, same)))
 
-    one-history : (history : List Entry) (lost lost' : List Lost) (seen seen' : List ℕ) → IsRun script history lost seen → IsRun script history lost' seen'
+    one-history : (history : List Entry) (lost lost' : List LostDisplay) (seen seen' : List ℕ) → IsRun script history lost seen
+        → IsRun script history lost' seen'
         → report script history lost seen ≡ report script history lost' seen' → (lost ≡ lost') × (seen ≡ seen')
     one-history history lost lost' seen seen' run run' is =
         let told = history-told history history lost lost' seen seen' run run' is in
@@ -129,7 +130,7 @@ module _ (script : Script) where
     same-history : (history history' : List Entry) → reverse history ≡ reverse history' → history ≡ history'
     same-history history history' is = sym (from-oldest history) ∙ ap (onto []) is ∙ from-oldest history'
 
-    whole-told : (history history' : List Entry) (lost lost' : List Lost) (seen seen' : List ℕ) → IsRun script history lost seen
+    whole-told : (history history' : List Entry) (lost lost' : List LostDisplay) (seen seen' : List ℕ) → IsRun script history lost seen
         → IsRun script history' lost' seen'
         → report script history lost seen ≡ report script history' lost' seen' → (history ≡ history') × (lost ≡ lost') × (seen ≡ seen')
     whole-told history history' lost lost' seen seen' run run' is =

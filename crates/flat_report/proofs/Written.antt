@@ -3,9 +3,9 @@ use Rattle.std.proofs.Common.{◌≡◌, ℕ, suc, ◌+◌, cond, Bool, true, fa
 use Rattle.std.proofs.Common.{reverse, refl, sym, ap, ◌∙◌, append-nil, append_assoc, add-one, map}
 use Rattle.std.specs.List.{zip}
 use Rattle.std.proofs.Math.Seq.{take-append_seam, drop-append_seam}
-use Rattle.flat_scene.specs.declared.frames.Lost.{Lost}
+use Rattle.flat_scene.specs.declared.frames.LostDisplay.{LostDisplay}
 use Rattle.flat_scene.specs.declared.journal.Entry.{Entry}
-use Rattle.flat_scene.specs.declared.journal.Post.{Post}
+use Rattle.flat_scene.specs.declared.journal.PostedEvent.{PostedEvent}
 use Rattle.flat_scene.specs.declared.setup.Setup.{Setup}
 use Rattle.flat_scene.specs.History.{◌▹◌, is_finish}
 use Rattle.flat_scene.specs.Journals.{history_of}
@@ -28,7 +28,7 @@ use Rattle.flat_report.proofs.lemmas.Tails.{onto, tail, post_step, frame_step, a
 use Rattle.flat_report.proofs.lemmas.Tails.{later_answers, finished_one, text-append}
 
 -- the posts of the next entry, and those after them
-split_posts : (setup : Setup) (before : List Entry) (entry : Entry) (later : List Entry) (ps : List Post) (count : ℕ)
+split_posts : (setup : Setup) (before : List Entry) (entry : Entry) (later : List Entry) (ps : List PostedEvent) (count : ℕ)
     → ps ≡ tail (post_step setup) before (entry ∷ later)
     → count ≡ first_posts (length before) ps → (take count ps ≡ post_step setup before entry) × (drop count ps ≡ tail (post_step setup) (before ▹ entry) later)
 split_posts setup before entry later ps count are is =
@@ -47,12 +47,13 @@ finished_more : (before : List Entry) (entry : Entry) → legal.frames before + 
 finished_more before entry = finished_one (is_finish entry.kind) (legal.frames before)
     ∙ counted (is_finish entry.kind) (filter (λ one. is_finish one.kind) before) entry
 
-module _ (script : Script) (lost : List Lost) (probes : List (List ProbeAnswer)) where
+module _ (script : Script) (lost : List LostDisplay) (probes : List (List ProbeAnswer)) where
   -- what is left before an entry, where these are the places, frames, texts, answers and posts left
-  abbrev left : ℕ → ℕ → List (List ℕ) → List HitAnswer → List Post → Rest
+  abbrev left : ℕ → ℕ → List (List ℕ) → List HitAnswer → List PostedEvent → Rest
   left place count ts hs ps = record { place = place; finished = count; texts = ts; answers = hs; posts = ps }
 
-  same_rest : (later : List Entry) {place place' count count' : ℕ} {ts ts' : List (List ℕ)} {hs hs' : List HitAnswer} {ps ps' : List Post} → place ≡ place'
+  same_rest : (later : List Entry) {place place' count count' : ℕ} {ts ts' : List (List ℕ)} {hs hs' : List HitAnswer} {ps ps' : List PostedEvent}
+      → place ≡ place'
       → count ≡ count' → ts ≡ ts' → hs ≡ hs' → ps ≡ ps'
       → rest_text script lost probes (left place count ts hs ps) later ≡ rest_text script lost probes (left place' count' ts' hs' ps') later
   same_rest later a b c d e = λ i. rest_text script lost probes (left (a i) (b i) (c i) (d i) (e i)) later
@@ -73,7 +74,7 @@ module _ (script : Script) (lost : List Lost) (probes : List (List ProbeAnswer))
   handed_tail before (entry ∷ later) =
       let ts : List (List ℕ) = map (frame_text script) (tail (frame_step script.setup) before (entry ∷ later)) in
       let hs : List HitAnswer = tail (answer_step script.setup) before (entry ∷ later) in
-      let ps : List Post = tail (post_step script.setup) before (entry ∷ later) in
+      let ps : List PostedEvent = tail (post_step script.setup) before (entry ∷ later) in
       let many : ℕ = first_posts (length before) ps in
       let split = split_posts script.setup before entry later ps many refl refl in
       let lines : List (List Word) = tail (entry_lines script lost) (before ▹ entry) later in

@@ -3,7 +3,7 @@ use Rattle.std.specs.Prelude.{◌≡◌, ⊤, ℕ, ◌+◌, ◌<◌, false, true
 use Rattle.std.specs.List.{list_all, list_any}
 use Rattle.flat_base.specs.declared.ids.SessionNo.{SessionNo}
 use Rattle.flat_scene.specs.declared.journal.Entry.{Entry}
-use Rattle.flat_scene.specs.declared.journal.Kind.TheVariants.{Begin}
+use Rattle.flat_scene.specs.declared.journal.EntryKind.TheVariants.{Begin}
 use Rattle.flat_scene.specs.declared.setup.Setup.{Setup}
 use Rattle.flat_scene.specs.Frames.{is_ready, is_signalled, is_unsquashable, taken, waiting}
 use Rattle.flat_scene.specs.History.{◌▹◌, is_closed, Published}

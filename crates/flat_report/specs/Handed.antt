@@ -4,11 +4,11 @@ use Rattle.std.specs.Prelude.{ℕ, ◌+◌, ◌==◌, ℤ, Bool, true, false, co
 use Rattle.std.specs.Prelude.{List, [], ◌∷◌, ◌++◌}
 use Rattle.std.specs.List.{flat_map}
 use Rattle.flat_scene.specs.declared.frames.Hit.{Hit}
-use Rattle.flat_scene.specs.declared.frames.Lost.{Lost}
+use Rattle.flat_scene.specs.declared.frames.LostDisplay.{LostDisplay}
 use Rattle.flat_scene.specs.declared.journal.Entry.{Entry}
-use Rattle.flat_scene.specs.declared.journal.Kind.{Kind}
-use Rattle.flat_scene.specs.declared.journal.Kind.TheVariants as kind
-use Rattle.flat_scene.specs.declared.journal.Post.{Post}
+use Rattle.flat_scene.specs.declared.journal.EntryKind.{EntryKind}
+use Rattle.flat_scene.specs.declared.journal.EntryKind.TheVariants as kind
+use Rattle.flat_scene.specs.declared.journal.PostedEvent.{PostedEvent}
 use Rattle.flat_scene.specs.declared.script.ProbeLine.{ProbeLine}
 use Rattle.flat_scene.specs.declared.script.ProbeLine.TheVariants as probe
 use Rattle.flat_scene.specs.declared.setup.Setup.{Setup}
@@ -28,7 +28,7 @@ use Rattle.flat_page.specs.Words.{number, text_of, actor_name}
 use Rattle.flat_places.specs.Forms.{Word}
 
 -- the answer to an entry that asks for a point, where the last finished frame has this number and these hits
-abbrev pub answer_to : Entry → ℕ → (ℤ → ℤ → List Hit) → Kind → List HitAnswer
+abbrev pub answer_to : Entry → ℕ → (ℤ → ℤ → List Hit) → EntryKind → List HitAnswer
 answer_to entry n hits (kind.Hit x y) = (record
     { actor = entry.actor; line = entry.line; frame = record { 0 = n }; hits = hits x y }) ∷ []
 answer_to entry n hits _ = []
@@ -51,29 +51,30 @@ first_text (text ∷ later) = text
 
 -- what stands between a done line and its events:
 -- the text of the frame, which is the first of those left, and the lines of the displays lost at it
-abbrev pub shown_text : List Lost → ℕ → List (List ℕ) → List ℕ
+abbrev pub shown_text : List LostDisplay → ℕ → List (List ℕ) → List ℕ
 shown_text lost number texts = first_text texts ++ text_of (map lost_line (lost_at number lost))
 
 -- the texts of frames after an entry of this kind, and the answers
-abbrev pub texts_after : Kind → List (List ℕ) → List (List ℕ)
+abbrev pub texts_after : EntryKind → List (List ℕ) → List (List ℕ)
 texts_after kind texts = cond (is_finish kind) (drop 1 texts) texts
 
-abbrev pub is_hit : Kind → Bool
+abbrev pub is_hit : EntryKind → Bool
 is_hit (kind.Hit x y) = true
 is_hit _ = false
 
-abbrev pub answers_after : Kind → List HitAnswer → List HitAnswer
+abbrev pub answers_after : EntryKind → List HitAnswer → List HitAnswer
 answers_after kind answers = cond (is_hit kind) (drop 1 answers) answers
 
 -- the text of an entry, by what is handed in from it on: the texts of frames and the answers, and its own events
-abbrev pub handed_text : Script → List Lost → ℕ → List (List ℕ) → List HitAnswer → List Post → Entry → List ℕ
+abbrev pub handed_text : Script → List LostDisplay → ℕ → List (List ℕ) → List HitAnswer → List PostedEvent → Entry
+    → List ℕ
 handed_text script lost finished texts answers posts entry =
     text_of (entry_line script finished (λ x y. first_hits answers) entry ∷ [])
     ++ cond (is_finish entry.kind) (shown_text lost (finished + 1) texts) []
     ++ text_of (map (post_line script) posts)
 
 -- how many of some posts, from the first, are of the entry at a place
-abbrev pub first_posts : ℕ → List Post → ℕ
+abbrev pub first_posts : ℕ → List PostedEvent → ℕ
 first_posts place posts = length (take_while (λ post. post.entry == place) posts)
 
 -- what is said of an answer behind the number of its line, by what the line asks
@@ -98,7 +99,7 @@ pub record Rest : Type 0 where
   pub finished : ℕ
   pub texts : List (List ℕ)
   pub answers : List HitAnswer
-  pub posts : List Post
+  pub posts : List PostedEvent
 
 -- what is left after an entry
 abbrev pub after_entry : Rest → Entry → Rest
@@ -116,12 +117,12 @@ after_entries rest [] = rest
 after_entries rest (entry ∷ later) = after_entries (after_entry rest entry) later
 
 -- the text of an entry, by what is left before it
-abbrev pub entry_text : Script → List Lost → Rest → Entry → List ℕ
+abbrev pub entry_text : Script → List LostDisplay → Rest → Entry → List ℕ
 entry_text script lost rest entry = handed_text script lost rest.finished rest.texts rest.answers
     (take (first_posts rest.place rest.posts) rest.posts) entry
 
 -- the text of some entries, by what is left before the first of them
-abbrev pub entries_text : Script → List Lost → Rest → List Entry → List ℕ
+abbrev pub entries_text : Script → List LostDisplay → Rest → List Entry → List ℕ
 entries_text script lost rest [] = []
 entries_text script lost rest (entry ∷ later) =
     entry_text script lost rest entry ++ entries_text script lost (after_entry rest entry) later
@@ -131,17 +132,17 @@ abbrev pub ending_text : Script → List (List ProbeAnswer) → Rest → List �
 ending_text script probes rest = answers_text script probes ++ text_of (end_line rest.place rest.finished ∷ [])
 
 -- the text of all entries that are left, and what ends the report
-abbrev pub rest_text : Script → List Lost → List (List ProbeAnswer) → Rest → List Entry → List ℕ
+abbrev pub rest_text : Script → List LostDisplay → List (List ProbeAnswer) → Rest → List Entry → List ℕ
 rest_text script lost probes rest entries =
     entries_text script lost rest entries ++ ending_text script probes (after_entries rest entries)
 
 -- what is left before the first entry: all that is handed in
-abbrev pub all_left : List (List ℕ) → List HitAnswer → List Post → Rest
+abbrev pub all_left : List (List ℕ) → List HitAnswer → List PostedEvent → Rest
 all_left texts answers posts = record { place = 0; finished = 0; texts = texts; answers = answers; posts = posts }
 
 -- the text of all that is handed in: the entries, the oldest first, their posts, the texts of frames, the displays
 -- that were lost, the answers to points, and those to the probes
-abbrev pub handed_report : Script → List Entry → List Post → List (List ℕ) → List Lost → List HitAnswer
+abbrev pub handed_report : Script → List Entry → List PostedEvent → List (List ℕ) → List LostDisplay → List HitAnswer
     → List (List ProbeAnswer) → List ℕ
 handed_report script entries posts texts lost answers probes =
     text_of (title_line script.version ∷ []) ++ rest_text script lost probes (all_left texts answers posts) entries

@@ -1,8 +1,8 @@
 -- What a report says of the run: all of it.
 use Rattle.std.specs.Prelude.{◌≡◌, ℕ, true, map, List}
-use Rattle.flat_scene.specs.declared.frames.Lost.{Lost}
+use Rattle.flat_scene.specs.declared.frames.LostDisplay.{LostDisplay}
 use Rattle.flat_scene.specs.declared.journal.Entry.{Entry}
-use Rattle.flat_scene.specs.declared.journal.Post.{Post}
+use Rattle.flat_scene.specs.declared.journal.PostedEvent.{PostedEvent}
 use Rattle.flat_scene.specs.declared.script.ScriptLine.{ScriptLine}
 use Rattle.flat_scene.specs.declared.setup.Setup.{Setup}
 use Rattle.flat_scene.specs.Journals.{history_of}
@@ -24,14 +24,15 @@ use Rattle.flat_report.specs.Due.{TakesDue}
 -- no rule asks for a script's version, so the script has the same runs if its version is another
 abbrev pub VersionsHaveOneRun : Type 0
 VersionsHaveOneRun =
-    (script : Script) (version : ℕ) (history : List Entry) (lost : List Lost) (seen : List ℕ)
+    (script : Script) (version : ℕ) (history : List Entry) (lost : List LostDisplay) (seen : List ℕ)
     → IsRun script history lost seen
     → IsRun (with_version script version) history lost seen
 
 -- two runs of a script that is read from a text, with the same report, are one
 abbrev pub ReportsDetermineHistories : Type 0
 ReportsDetermineHistories = (bytes : List ℕ) (script : Script) → IsScript bytes script
-    → (history history' : List Entry) (lost lost' : List Lost) (seen seen' : List ℕ) → IsRun script history lost seen
+    → (history history' : List Entry) (lost lost' : List LostDisplay) (seen seen' : List ℕ)
+    → IsRun script history lost seen
     → IsRun script history' lost' seen'
     → report script history lost seen ≡ report script history' lost' seen' → (history ≡ history') × (lost ≡ lost')
     × (seen ≡ seen')
@@ -40,7 +41,8 @@ ReportsDetermineHistories = (bytes : List ℕ) (script : Script) → IsScript by
 -- texts of the finished frames and the answers to points; and where the probes' lines ask, and were answered
 -- by its frames
 abbrev pub HandedIsReport : Type 0
-HandedIsReport = (script : Script) (entries : List Entry) (sent : List Post) (texts : List (List ℕ)) (lost : List Lost)
+HandedIsReport = (script : Script) (entries : List Entry) (sent : List PostedEvent) (texts : List (List ℕ))
+    (lost : List LostDisplay)
     (answers : List HitAnswer) (probes : List (List ProbeAnswer))
     → ProbesAnswered script (history_of entries) probes → ProbesAsk script
     → sent ≡ posts script.setup (history_of entries)

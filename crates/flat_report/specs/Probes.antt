@@ -5,8 +5,8 @@ use Rattle.flat_base.specs.declared.ids.Actor.{Actor}
 use Rattle.flat_base.specs.declared.ids.Actor.TheVariants.{Probe}
 use Rattle.flat_scene.specs.declared.frames.Hit.{Hit}
 use Rattle.flat_scene.specs.declared.journal.Entry.{Entry}
-use Rattle.flat_scene.specs.declared.script.Body.{Body}
-use Rattle.flat_scene.specs.declared.script.Body.TheVariants as body
+use Rattle.flat_scene.specs.declared.script.LineBody.{LineBody}
+use Rattle.flat_scene.specs.declared.script.LineBody.TheVariants as body
 use Rattle.flat_scene.specs.declared.script.ProbeLine.{ProbeLine}
 use Rattle.flat_scene.specs.declared.script.ProbeLine.TheVariants as probe
 use Rattle.flat_scene.specs.declared.script.ScriptLine.{ScriptLine}
@@ -19,12 +19,12 @@ use Rattle.flat_report.specs.Report.{begin_of, hits_at, probe_lines_of}
 -- ---- lines
 
 -- what a line asks, where it is a probe's; no other line asks anything
-abbrev pub asked_by : Body → ProbeLine
+abbrev pub asked_by : LineBody → ProbeLine
 asked_by (body.Probe asked) = asked
 asked_by _ = probe.Await 0
 
 -- a line of a probe is one that asks
-abbrev pub is_asking : Actor → Body → Bool
+abbrev pub is_asking : Actor → LineBody → Bool
 is_asking (Probe p) (body.Probe asked) = true
 is_asking (Probe p) _ = false
 is_asking _ _ = true

@@ -7,10 +7,10 @@ use Rattle.flat_base.specs.declared.ids.Actor.{Actor}
 use Rattle.flat_base.specs.declared.ids.Actor.TheVariants.{Probe}
 use Rattle.flat_scene.specs.declared.frames.FrameOut.{FrameOut}
 use Rattle.flat_scene.specs.declared.frames.Hit.{Hit}
-use Rattle.flat_scene.specs.declared.frames.Lost.{Lost}
+use Rattle.flat_scene.specs.declared.frames.LostDisplay.{LostDisplay}
 use Rattle.flat_scene.specs.declared.journal.Entry.{Entry}
-use Rattle.flat_scene.specs.declared.script.Body.{Body}
-use Rattle.flat_scene.specs.declared.script.Body.TheVariants as body
+use Rattle.flat_scene.specs.declared.script.LineBody.{LineBody}
+use Rattle.flat_scene.specs.declared.script.LineBody.TheVariants as body
 use Rattle.flat_scene.specs.declared.script.ProbeLine.TheVariants as probe
 use Rattle.flat_scene.specs.declared.script.ScriptLine.{ScriptLine}
 use Rattle.flat_scene.specs.declared.setup.Setup.{Setup}
@@ -60,19 +60,19 @@ hits_at setup begun = hit_list (setup_at setup begun) (shown_states setup begun)
 -- ---- entries
 
 -- what stands between a done line and its events: the frame, and the displays lost at it
-abbrev pub shown_lines : Script → List Lost → List Entry → List (List Word)
+abbrev pub shown_lines : Script → List LostDisplay → List Entry → List (List Word)
 shown_lines script lost before =
     frame_lines script (frame_at script.setup (suc (frames before)) (to_begin before))
     ++ map lost_line (lost_at (suc (frames before)) lost)
 
 -- the lines of an entry: its own, its frame's, and those of its events
-abbrev pub entry_lines : Script → List Lost → List Entry → Entry → List (List Word)
+abbrev pub entry_lines : Script → List LostDisplay → List Entry → Entry → List (List Word)
 entry_lines script lost before entry =
     entry_line script (frames before) (hits_at script.setup (to_finished before)) entry
     ∷ cond (is_finish entry.kind) (shown_lines script lost before) []
     ++ map (λ sent. event_line script sent.to sent.event) (posted script.setup before entry)
 
-abbrev pub history_lines : Script → List Lost → List Entry → List (List Word)
+abbrev pub history_lines : Script → List LostDisplay → List Entry → List (List Word)
 history_lines script lost [] = []
 history_lines script lost (before ▹ entry) = history_lines script lost before ++ entry_lines script lost before entry
 
@@ -90,7 +90,7 @@ abbrev pub probe_lines : Script → List ScriptLine
 probe_lines script = flat_map (λ n. probe_lines_of n script.lines) (range_with_len 0 script.setup.probes)
 
 -- what is said of a probe's line, by the frame that it saw
-abbrev pub seen_words : Script → List Entry → ℕ → Body → List Word
+abbrev pub seen_words : Script → List Entry → ℕ → LineBody → List Word
 seen_words script history frame (body.Probe (probe.Hit x y)) =
     point_words script x y frame (hits_at script.setup (begin_of frame history) x y)
 seen_words script history frame (body.Probe (probe.Await n)) = codes "await" ∷ codes "frame" ∷ number frame ∷ []
@@ -103,24 +103,24 @@ seen_line script history (line, frame) = actor_name script line.actor ∷ number
 -- ---- the whole
 
 -- the lines of the report, where these displays were lost and the probes' lines saw these frames
-abbrev pub report_lines : Script → List Entry → List Lost → List ℕ → List (List Word)
+abbrev pub report_lines : Script → List Entry → List LostDisplay → List ℕ → List (List Word)
 report_lines script history lost seen =
     title_line script.version
     ∷ history_lines script lost history ++ map (seen_line script history) (zip (probe_lines script) seen)
     ++ end_line (length history) (frames history) ∷ []
 
 -- the report
-abbrev pub report : Script → List Entry → List Lost → List ℕ → List ℕ
+abbrev pub report : Script → List Entry → List LostDisplay → List ℕ → List ℕ
 report script history lost seen = text_of (report_lines script history lost seen)
 
 -- ---- what may be lost and seen
 
 -- one display is lost before another: at an earlier frame, or at the same frame with a lesser number
-abbrev pub is_lost_before : Lost → Lost → Bool
+abbrev pub is_lost_before : LostDisplay → LostDisplay → Bool
 is_lost_before a b = nat_lt a.frame.0 b.frame.0 || (a.frame.0 == b.frame.0 && nat_lt a.display b.display)
 
 -- displays are lost at finished frames, in order, and each once
-abbrev pub is_loss : List Entry → List Lost → Bool
+abbrev pub is_loss : List Entry → List LostDisplay → Bool
 is_loss history [] = true
 is_loss history (a ∷ later) =
     nat_lt 0 a.frame.0 && nat_le a.frame.0 (frames history)

@@ -1,7 +1,7 @@
 -- What may be reported of a script.
 use Rattle.std.specs.Prelude.{◌^◌, ℕ, Bool, ◌&&◌, nat_lt, IsTrue, List}
 use Rattle.std.specs.List.{list_all}
-use Rattle.flat_scene.specs.declared.frames.Lost.{Lost}
+use Rattle.flat_scene.specs.declared.frames.LostDisplay.{LostDisplay}
 use Rattle.flat_scene.specs.declared.journal.Entry.{Entry}
 use Rattle.flat_scene.specs.Interleave.{Interleaves}
 use Rattle.flat_rules.specs.Legal.{Legal}
@@ -14,7 +14,7 @@ is_display_number n = nat_lt 0 n && nat_lt n (2 ^ 32)
 
 -- What may be reported of a script: a legal history that interleaves its actors, displays lost at finished
 -- frames, and frames seen by its probes' lines.
-pub record IsRun (script : Script) (history : List Entry) (lost : List Lost) (seen : List ℕ) : Type 0 where
+pub record IsRun (script : Script) (history : List Entry) (lost : List LostDisplay) (seen : List ℕ) : Type 0 where
   pub legal : Legal script.setup history
   pub interleaves : Interleaves script.setup script.count script.lines history
   pub loss : IsTrue (is_loss history lost)

@@ -8,13 +8,13 @@ use Rattle.flat_scene.specs.declared.journal.Entry.{Entry}
 use Rattle.flat_page.specs.Words.{text_of}
 use Rattle.flat_places.specs.declared.script.Script.{Script}
 use Rattle.flat_lines.specs.Ends.{title_line}
-use Rattle.flat_report.specs.declared.cursor.Cursor.{Cursor}
+use Rattle.flat_report.specs.declared.report_position.ReportPosition.{ReportPosition}
 use Rattle.flat_report.specs.declared.probes.ProbeAnswer.{ProbeAnswer}
 use Rattle.flat_report.specs.declared.sections.Section.{Section}
 use Rattle.flat_report.specs.Handed.{Rest, after_entries, ending_text, entries_text, rest_text}
 
 -- what is left where a report stands
-abbrev pub rest_of : Cursor → Rest
+abbrev pub rest_of : ReportPosition → Rest
 rest_of cursor = record {
   place = cursor.place;
   finished = cursor.finished;
@@ -24,7 +24,7 @@ rest_of cursor = record {
 }
 
 -- The places of some entries, before which a report stands, can be counted, and the frames finished by then.
-pub record Fits (cursor : Cursor) (entries : List Entry) : Type 0 where
+pub record Fits (cursor : ReportPosition) (entries : List Entry) : Type 0 where
   pub few : cursor.finished ≤ cursor.place
   pub small : cursor.place + length entries < 2 ^ 63
 
@@ -60,6 +60,6 @@ written_text (Ok text) = text
 written_text (Err e) = []
 
 -- a report of which all sections were written, behind which it stands here
-abbrev pub joined_text : Script → List (List ProbeAnswer) → List (Result (List ℕ) NoMemory) → Cursor → List ℕ
+abbrev pub joined_text : Script → List (List ProbeAnswer) → List (Result (List ℕ) NoMemory) → ReportPosition → List ℕ
 joined_text script probes texts end = text_of (title_line script.version ∷ [])
     ++ (concat (map written_text texts) ++ ending_text script probes (rest_of end))

@@ -8,12 +8,12 @@ ghost use Rattle.flat_report.specs.Sections.{AllFit, Fits, end_of, is_written, j
 ghost use Rattle.flat_report.specs.Sections.{rest_of, section_text, sections_text, whole_text};
 ghost use Rattle.flat_report.specs.Sections.{written_text};
 
-use crate::cursor::Cursor;
 use crate::paged_text::PagedText;
-use crate::pieces::Pieces;
 use crate::probes::ProbeAnswers;
 use crate::report::push_rest;
+use crate::report_position::ReportPosition;
 use crate::sections::{Section, print_section, push_runs};
+use crate::text_pieces::TextPieces;
 use flat_base::NoMemory;
 use flat_places::Script;
 use std::alloc::Global;
@@ -24,13 +24,13 @@ use std::thread::Threads;
 const SECTIONS: usize = 8;
 
 /// What was written of a section.
-type Written = Result<Pieces, NoMemory>;
+type Written = Result<TextPieces, NoMemory>;
 
 /// Sections one behind another, and where the report stands after them.
 #[derive(Drop)]
 struct Cut<'a> {
     sections: Vec<Section<'a>>,
-    end: Cursor<'a>,
+    end: ReportPosition<'a>,
 }
 
 /// Cuts a section into some of about the same number of entries.
@@ -99,7 +99,7 @@ fn push_joined(
     paged: &mut PagedText,
     script: &Script,
     texts: &[Written],
-    end: &Cursor<'_>,
+    end: &ReportPosition<'_>,
     probes: &[ProbeAnswers],
 ) -> Result<(), NoMemory>
     ensures text { OnOk result
@@ -117,9 +117,9 @@ fn print_joined(
     alloc: Global,
     script: &Script,
     texts: &[Written],
-    end: &Cursor<'_>,
+    end: &ReportPosition<'_>,
     probes: &[ProbeAnswers],
-) -> Result<Pieces, NoMemory>
+) -> Result<TextPieces, NoMemory>
     ensures text { IfOk result
         (λ text. text ≡ joined_text script.now probes.now texts.now end.now) }
     ensures all { IfOk result (λ text. list_all is_written texts.now ≡ true) }
@@ -139,7 +139,7 @@ pub(crate) fn print_apart<T: Threads + Sync>(
     script: &Script,
     whole: &Section<'_>,
     probes: &[ProbeAnswers],
-) -> Result<Pieces, NoMemory>
+) -> Result<TextPieces, NoMemory>
     requires { Fits whole.now.start whole.now.entries.now }
     ensures { IfOk result (λ text. text ≡ whole_text script.now probes.now whole.now) }
 {

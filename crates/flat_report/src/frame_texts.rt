@@ -10,8 +10,8 @@ ghost use Rattle.flat_scene.specs.declared.frames.FrameOut.{FrameOut};
 ghost use Rattle.flat_report.specs.FrameTexts.{AreTexts, frame_text, tree_text, unchanged};
 ghost use Rattle.flat_report.specs.ItemLines.{AreLines, HaveLines, stretches_text};
 
-use crate::item_lines::{ItemLines, Stretch, run_of};
-use crate::pieces::{Pieces, Run};
+use crate::item_lines::{ItemChunk, ItemLines, run_of};
+use crate::text_pieces::{Run, TextPieces};
 use crate::unchanged_frame::unchanged;
 use flat_base::{FrameNo, NoMemory};
 use flat_lines::push_tree;
@@ -22,7 +22,7 @@ use std::alloc::Global;
 use std::sync::Arc;
 
 /// Puts the lines of some stretches behind a text, which shares them.
-fn push_stretches(text: &mut Pieces, stretches: &[Stretch]) -> Result<(), NoMemory>
+fn push_stretches(text: &mut TextPieces, stretches: &[ItemChunk]) -> Result<(), NoMemory>
     ensures { OnOk result (text.new ≡ text.old ++ stretches_text stretches.now) }
 {
     for stretch in stretches {
@@ -44,13 +44,13 @@ fn tree_run(alloc: Global, script: &Script, tree: &ViewTree) -> Result<Run, NoMe
 fn text_with(
     alloc: Global,
     script: &Script,
-    stretches: &[Stretch],
+    stretches: &[ItemChunk],
     tree: &ViewTree,
-) -> Result<Pieces, NoMemory>
+) -> Result<TextPieces, NoMemory>
     ensures { IfOk result
         (λ text. text ≡ stretches_text stretches.now ++ tree_text script.now tree.now) }
 {
-    let mut text = Pieces::new(alloc);
+    let mut text = TextPieces::new(alloc);
     push_stretches(&mut text, stretches)?;
     text.push(tree_run(alloc, script, tree)?)?;
     Ok(text)
@@ -61,7 +61,7 @@ fn text_with(
 #[derive(Drop)]
 pub struct FrameTexts {
     alloc: Global,
-    pub(crate) texts: Vec<Pieces>,
+    pub(crate) texts: Vec<TextPieces>,
     last: ItemLines,
 }
 
@@ -111,7 +111,7 @@ impl FrameTexts {
     }
 
     /// The texts, in order.
-    pub(crate) fn as_slice(&self) -> &[Pieces]
+    pub(crate) fn as_slice(&self) -> &[TextPieces]
         ensures { result.now ≡ self.now.texts.items }
     {
         self.texts.as_slice()
@@ -126,7 +126,7 @@ impl FrameTexts {
     }
 
     /// The text of the last frame, if there is one.
-    pub fn last_text(&self) -> Option<&Pieces>
+    pub fn last_text(&self) -> Option<&TextPieces>
         ensures { (script : Script) (frames : List FrameOut) → AreTexts script frames self.now →
             option_map (λ text. text.now) result ≡ last_item (map (frame_text script) frames) }
     {

@@ -8,7 +8,7 @@ ghost use Rattle.flat_lines.specs.FrameLines.{item_line};
 ghost use Rattle.flat_report.specs.ItemLines.{AreLines, HaveLines, items_of, items_text};
 ghost use Rattle.flat_report.specs.ItemLines.{stretch_items};
 
-use crate::pieces::Run;
+use crate::text_pieces::Run;
 use flat_base::{Items, NoMemory};
 use flat_drawable::is_same;
 use flat_lines::push_item;
@@ -28,13 +28,13 @@ const STRETCH_BYTES: usize = 32_768;
 /// Draw items of one session that stand side by side in a frame, from a place to before
 /// another one, and the text of their lines.
 #[derive(Drop)]
-pub(crate) struct Stretch {
+pub(crate) struct ItemChunk {
     start: usize,
     end: usize,
     pub(crate) lines: Run,
 }
 
-impl Stretch {
+impl ItemChunk {
     /// Its items, where a frame has so many.
     fn among<'a>(&self, items: &'a [DrawItem]) -> Option<&'a [DrawItem]>
         ensures { IfSome result (λ part. part.now ≡ stretch_items items.now self.now) }
@@ -112,7 +112,7 @@ fn written(alloc: Global, script: &Script, items: &[DrawItem]) -> Result<Run, No
 #[derive(Drop)]
 pub(crate) struct ItemLines {
     pub(crate) frame: Option<FrameOut>,
-    pub(crate) stretches: Vec<Stretch>,
+    pub(crate) stretches: Vec<ItemChunk>,
 }
 
 impl ItemLines {
@@ -189,7 +189,7 @@ impl ItemLines {
         alloc: Global,
         script: &Script,
         items: &[DrawItem],
-    ) -> Result<Vec<Stretch>, NoMemory>
+    ) -> Result<Vec<ItemChunk>, NoMemory>
         ensures { AreLines script.now self.now →
             IfOk result (λ stretches. HaveLines script.now items.now stretches.items) }
     {
@@ -198,7 +198,7 @@ impl ItemLines {
         while start < items.len() {
             let end = stretch_end(items, start);
             let lines = self.next_run(alloc, script, stretches.len(), &items[start..end])?;
-            stretches.push(Stretch { start, end, lines })?;
+            stretches.push(ItemChunk { start, end, lines })?;
             start = end;
         }
         Ok(stretches)

@@ -10,14 +10,14 @@ ghost use Rattle.flat_lines.specs.PostLines.{post_line};
 ghost use Rattle.flat_lines.specs.FrameLines.{lost_at, lost_line};
 ghost use Rattle.flat_report.specs.Handed.{answer_line};
 
-use crate::pieces::{Pieces, Run};
 use crate::probe_lines::push_probe_line;
 use crate::probes::ProbeAnswer;
+use crate::text_pieces::{Run, TextPieces};
 use flat_base::{Items, NoMemory};
 use flat_lines::{push_end, push_entry, push_losses, push_posts, push_title};
 use flat_page::Page;
 use flat_places::Script;
-use flat_scene::{Entry, Hit, Lost, Post};
+use flat_scene::{Entry, Hit, LostDisplay, PostedEvent};
 use std::alloc::Global;
 use std::marker::Model;
 use std::mem;
@@ -34,7 +34,7 @@ const RUN_BYTES: usize = 512;
 #[derive(Drop)]
 pub(crate) struct PagedText {
     alloc: Global,
-    full: Pieces,
+    full: TextPieces,
     page: Page,
 }
 
@@ -56,7 +56,12 @@ fn run_on(alloc: Global, page: Page) -> Result<Run, NoMemory>
 
 /// Puts the text of a page behind full pieces, and leaves an empty page with so much
 /// room.
-fn end_page(alloc: Global, full: &mut Pieces, page: &mut Page, room: usize) -> Result<(), NoMemory>
+fn end_page(
+    alloc: Global,
+    full: &mut TextPieces,
+    page: &mut Page,
+    room: usize,
+) -> Result<(), NoMemory>
     ensures full { OnOk result (full.new ≡ full.old ++ page.old) }
     ensures page { OnOk result (page.new ≡ []) }
 {
@@ -67,7 +72,7 @@ fn end_page(alloc: Global, full: &mut Pieces, page: &mut Page, room: usize) -> R
 }
 
 /// The same where the page has any text.
-fn end_started(alloc: Global, full: &mut Pieces, page: &mut Page) -> Result<(), NoMemory>
+fn end_started(alloc: Global, full: &mut TextPieces, page: &mut Page) -> Result<(), NoMemory>
     ensures full { OnOk result (full.new ≡ full.old ++ page.old) }
     ensures page { OnOk result (page.new ≡ []) }
 {
@@ -84,7 +89,7 @@ impl PagedText {
     {
         PagedText {
             alloc,
-            full: Pieces::new(alloc),
+            full: TextPieces::new(alloc),
             page: Page::new(alloc),
         }
     }
@@ -153,7 +158,7 @@ impl PagedText {
     }
 
     /// Puts the lines of the displays that were lost at the frame of a number.
-    pub(crate) fn losses(&mut self, number: u64, lost: &[Lost]) -> Result<(), NoMemory>
+    pub(crate) fn losses(&mut self, number: u64, lost: &[LostDisplay]) -> Result<(), NoMemory>
         ensures { OnOk result
             (self.new ≡ self.old ++ text_of (map lost_line (lost_at number lost.now))) }
     {
@@ -162,7 +167,7 @@ impl PagedText {
     }
 
     /// Puts the lines of events.
-    pub(crate) fn posts(&mut self, script: &Script, posts: &[Post]) -> Result<(), NoMemory>
+    pub(crate) fn posts(&mut self, script: &Script, posts: &[PostedEvent]) -> Result<(), NoMemory>
         ensures { OnOk result
             (self.new ≡ self.old ++ text_of (map (post_line script.now) posts.now)) }
     {
@@ -188,7 +193,7 @@ impl PagedText {
     }
 
     /// All pieces.
-    pub(crate) fn into_pieces(self) -> Result<Pieces, NoMemory>
+    pub(crate) fn into_pieces(self) -> Result<TextPieces, NoMemory>
         ensures { IfOk result (λ pieces. pieces ≡ self) }
     {
         let PagedText {

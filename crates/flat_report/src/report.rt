@@ -9,15 +9,15 @@ ghost use Rattle.flat_report.specs.Handed.{answer_line, answers_text, handed_rep
 ghost use Rattle.flat_report.specs.Sections.{Fits, whole_text};
 
 use crate::apart::print_apart;
-use crate::cursor::Cursor;
 use crate::frame_texts::FrameTexts;
 use crate::paged_text::PagedText;
-use crate::pieces::Pieces;
 use crate::probes::{ProbeAnswer, ProbeAnswers};
+use crate::report_position::ReportPosition;
 use crate::sections::{Section, push_section};
+use crate::text_pieces::TextPieces;
 use flat_base::{Actor, FrameNo, Items, NoMemory};
 use flat_places::Script;
-use flat_scene::{HitList, Journal, Lost};
+use flat_scene::{HitList, Journal, LostDisplay};
 use std::alloc::Global;
 use std::thread::Threads;
 
@@ -103,7 +103,7 @@ pub struct RunRecord<'a> {
     /// The texts of the finished frames, one for each `done`.
     pub frames: &'a FrameTexts,
     /// The displays that were lost.
-    pub lost: &'a [Lost],
+    pub lost: &'a [LostDisplay],
     /// The answers to the compositor's points, in order.
     pub answers: &'a HitAnswers,
     /// The answers of the probes, those of one probe behind those of another.
@@ -114,13 +114,14 @@ impl RunRecord<'_> {
     /// All entries, as one section.
     fn whole(&self) -> Section<'_>
         ensures text { (script : Script) (probes : List (List ProbeAnswer)) →
-            whole_text script probes result ≡ handed_report script self.now.journal.now.entries.items
+            whole_text script probes result ≡ handed_report script
+            self.now.journal.now.entries.items
             self.now.journal.now.posts.items self.now.frames.now.texts.items self.now.lost.now
             self.now.answers.now probes }
         ensures fits { Fits result.start result.entries.now }
     {
         Section {
-            start: Cursor::first(
+            start: ReportPosition::first(
                 self.frames.as_slice(),
                 self.answers.as_slice(),
                 self.journal.posts.as_slice(),
@@ -153,7 +154,7 @@ fn print_whole(
     script: &Script,
     whole: &Section<'_>,
     probes: &[ProbeAnswers],
-) -> Result<Pieces, NoMemory>
+) -> Result<TextPieces, NoMemory>
     requires { Fits whole.now.start whole.now.entries.now }
     ensures { IfOk result (λ text. text ≡ whole_text script.now probes.now whole.now) }
 {
@@ -176,7 +177,11 @@ fn print_whole(
 ///
 /// Long runs of frames are shared by the report, so that what it takes beside
 /// them is the room of the other lines.
-pub fn print_report(alloc: Global, script: &Script, run: &RunRecord<'_>) -> Result<Pieces, NoMemory>
+pub fn print_report(
+    alloc: Global,
+    script: &Script,
+    run: &RunRecord<'_>,
+) -> Result<TextPieces, NoMemory>
     ensures { IfOk result (λ text. text ≡ handed_report script.now
         run.now.journal.now.entries.items run.now.journal.now.posts.items
         run.now.frames.now.texts.items run.now.lost.now run.now.answers.now run.now.probes.now) }
@@ -191,7 +196,7 @@ pub fn print_report_on<T: Threads + Sync>(
     alloc: Global,
     script: &Script,
     run: &RunRecord<'_>,
-) -> Result<Pieces, NoMemory>
+) -> Result<TextPieces, NoMemory>
     ensures { IfOk result (λ text. text ≡ handed_report script.now
         run.now.journal.now.entries.items run.now.journal.now.posts.items
         run.now.frames.now.texts.items run.now.lost.now run.now.answers.now run.now.probes.now) }

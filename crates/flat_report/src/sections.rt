@@ -8,23 +8,23 @@ ghost use Rattle.flat_report.specs.Handed.{after_entry, entry_text};
 ghost use Rattle.flat_report.specs.Handed.{first_hits, handed_text, shown_text};
 ghost use Rattle.flat_report.specs.Sections.{Fits, end_of, rest_of, section_text};
 
-use crate::cursor::Cursor;
 use crate::paged_text::PagedText;
-use crate::pieces::{Pieces, Run};
 use crate::report::HitAnswer;
+use crate::report_position::ReportPosition;
+use crate::text_pieces::{Run, TextPieces};
 use flat_base::NoMemory;
 use flat_places::Script;
-use flat_scene::{Entry, Hit, Kind, Lost, Post};
+use flat_scene::{Entry, EntryKind, Hit, LostDisplay, PostedEvent};
 use std::alloc::Global;
 
 /// Entries one behind another.
 #[derive(Clone, Copy)]
 pub(crate) struct Section<'a> {
     /// Where the report stands before the first of them.
-    pub(crate) start: Cursor<'a>,
+    pub(crate) start: ReportPosition<'a>,
     pub(crate) entries: &'a [Entry],
     /// All displays that were lost in the run.
-    pub(crate) lost: &'a [Lost],
+    pub(crate) lost: &'a [LostDisplay],
 }
 
 /// The hits of the first answer.
@@ -51,9 +51,9 @@ pub(crate) fn push_runs(paged: &mut PagedText, runs: &[Run]) -> Result<(), NoMem
 /// the first of those left, and the lines of the displays that were lost at it.
 fn push_shown(
     paged: &mut PagedText,
-    lost: &[Lost],
+    lost: &[LostDisplay],
     number: u64,
-    texts: &[Pieces],
+    texts: &[TextPieces],
 ) -> Result<(), NoMemory>
     ensures { OnOk result (paged.new ≡ paged.old ++ shown_text lost.now number texts.now) }
 {
@@ -67,16 +67,16 @@ fn push_shown(
 /// The same, where an entry of this kind finishes a frame.
 fn push_finished(
     paged: &mut PagedText,
-    lost: &[Lost],
+    lost: &[LostDisplay],
     number: u64,
-    texts: &[Pieces],
-    kind: &Kind,
+    texts: &[TextPieces],
+    kind: &EntryKind,
 ) -> Result<(), NoMemory>
     ensures { OnOk result (paged.new ≡ paged.old
         ++ cond (is_finish kind.now) (shown_text lost.now number texts.now) []) }
 {
     match kind {
-        Kind::Finish => push_shown(paged, lost, number, texts),
+        EntryKind::Finish => push_shown(paged, lost, number, texts),
         _ => Ok(()),
     }
 }
@@ -85,13 +85,14 @@ fn push_finished(
 fn push_handed(
     paged: &mut PagedText,
     script: &Script,
-    lost: &[Lost],
-    cursor: &Cursor<'_>,
-    posts: &[Post],
+    lost: &[LostDisplay],
+    cursor: &ReportPosition<'_>,
+    posts: &[PostedEvent],
     entry: &Entry,
 ) -> Result<(), NoMemory>
     requires { cursor.now.finished < 2 ^ 64 - 1 }
-    ensures { OnOk result (paged.new ≡ paged.old ++ handed_text script.now lost.now cursor.now.finished
+    ensures { OnOk result (paged.new ≡ paged.old ++ handed_text script.now lost.now
+        cursor.now.finished
         cursor.now.texts.now cursor.now.answers.now posts.now entry.now) }
 {
     paged.entry(script, cursor.finished, first_hits(cursor.answers), entry)?;
@@ -105,10 +106,10 @@ fn push_handed(
 fn push_next<'a>(
     paged: &mut PagedText,
     script: &Script,
-    lost: &[Lost],
-    cursor: &Cursor<'a>,
+    lost: &[LostDisplay],
+    cursor: &ReportPosition<'a>,
     entry: &Entry,
-) -> Result<Cursor<'a>, NoMemory>
+) -> Result<ReportPosition<'a>, NoMemory>
     requires place { cursor.now.place < 2 ^ 63 }
     requires few { cursor.now.finished < 2 ^ 63 }
     ensures text { OnOk result
@@ -125,7 +126,7 @@ pub(crate) fn push_section<'a>(
     paged: &mut PagedText,
     script: &Script,
     section: &Section<'a>,
-) -> Result<Cursor<'a>, NoMemory>
+) -> Result<ReportPosition<'a>, NoMemory>
     requires { Fits section.now.start section.now.entries.now }
     ensures text { OnOk result (paged.new ≡ paged.old ++ section_text script.now section.now) }
     ensures rest { IfOk result (λ end. rest_of end ≡ end_of section.now) }
@@ -142,7 +143,7 @@ pub(crate) fn print_section(
     alloc: Global,
     script: &Script,
     section: &Section<'_>,
-) -> Result<Pieces, NoMemory>
+) -> Result<TextPieces, NoMemory>
     requires { Fits section.now.start section.now.entries.now }
     ensures { IfOk result (λ text. text ≡ section_text script.now section.now) }
 {

@@ -2,7 +2,7 @@
 use Rattle.std.proofs.Common.{ℕ, ◌*◌, pos, suc, ◌≡◌, refl, sym, ap, ◌∙◌, List, [], ◌∷◌, ◌++◌, length, None, Some, arith}
 use Rattle.std.proofs.lemmas.List.{length-append}
 use Rattle.flat_join.specs.declared.scope.Scope.{Scope}
-use Rattle.flat_reuse.specs.declared.trace.Span.{Span}
+use Rattle.flat_reuse.specs.declared.session_walk.NodeSpan.{NodeSpan}
 use Rattle.flat_reuse.specs.Tracing.{pushed}
 use Rattle.flat_base.specs.declared.ids.SessionNo.{SessionNo}
 use Rattle.flat_base.specs.declared.shapes.Orientation.TheVariants.{Ccw0}
@@ -20,7 +20,7 @@ use Rattle.flat_scene.specs.Trees.{more}
 use Rattle.flat_topology.specs.Draw.{scene_matrix}
 use Rattle.flat_topology.specs.Join.{JoinedTree, child_view, joined_nodes, nothing}
 use Rattle.flat_topology.specs.Place.{Space}
-use Rattle.flat_reuse.specs.declared.piece.Link.{Link}
+use Rattle.flat_reuse.specs.declared.piece.ChildLink.{ChildLink}
 use Rattle.flat_reuse.specs.declared.piece.PlacedLink.{PlacedLink}
 use Rattle.flat_reuse.specs.declared.piece.SessionParts.{SessionParts}
 use Rattle.flat_reuse.specs.Parts.{own_items, placed_links, laid_out, appended}
@@ -72,7 +72,7 @@ item_of s = record {
   blend = Src;
 }
 
-abbrev link : Link
+abbrev link : ChildLink
 link = record { pair = 1; scope = record { matrix = identity_matrix; clip = square 20; opacity = 65536 }; bounds = square 20 }
 
 a_fill_links_nothing : link_of display (Some red) ≡ None
@@ -99,7 +99,7 @@ a_link_gives_views = refl
 abbrev item : DrawItem
 item = item_of 1
 
-abbrev at_place : ℕ → Link → PlacedLink
+abbrev at_place : ℕ → ChildLink → PlacedLink
 at_place place l = record { place = place; link = l }
 
 abbrev placed : ℕ → PlacedLink
@@ -156,7 +156,7 @@ same_pieces before (Linked l ∷ ps) (Drawn x ∷ qs) items links =
 
 -- ---- spans that are left
 
-abbrev span_of : Scope → ℕ → ℕ → Span
+abbrev span_of : Scope → ℕ → ℕ → NodeSpan
 span_of scope next end = record { next = next; end = end; scope = scope }
 
 -- a span with a node comes first, and one without is left out

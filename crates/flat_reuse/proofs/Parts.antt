@@ -2,7 +2,7 @@
 use Rattle.std.proofs.Common.{ℕ, suc, ◌+◌, ◌≡◌, refl, sym, ap, ap₂, ◌∙◌, List, [], ◌∷◌, ◌++◌, length, map, arith}
 use Rattle.std.proofs.lemmas.List.{append_assoc, append-nil, length-append}
 use Rattle.flat_scene.specs.declared.frames.DrawItem.{DrawItem}
-use Rattle.flat_reuse.specs.declared.piece.Link.{Link}
+use Rattle.flat_reuse.specs.declared.piece.ChildLink.{ChildLink}
 use Rattle.flat_reuse.specs.declared.piece.PlacedLink.{PlacedLink}
 use Rattle.flat_reuse.specs.declared.piece.SessionParts.{SessionParts}
 use Rattle.flat_reuse.specs.Parts.{own_items, placed_links, appended}
@@ -68,7 +68,7 @@ next-link before (Linked link ∷ ps) at later e =
     record {
       items = [];
       after = ps;
-      whole = ap (λ (l : Link). Linked l ∷ ps) same;
+      whole = ap (λ (l : ChildLink). Linked l ∷ ps) same;
       place = omega (arith, place);
       links = sym rest ∙ ap (λ (n : ℕ). placed_links n ps) (sym place);
     }

@@ -6,7 +6,7 @@ ghost use Rattle.flat_reuse.specs.Keeping.{AreFitted};
 
 use crate::slots::Slots;
 use flat_base::{NoMemory, SESSIONS_MAX, SessionNo};
-use flat_join::Shown;
+use flat_join::ShownStates;
 use flat_scene::SessionSet;
 use flat_snap::Snapshot;
 use std::alloc::Global;
@@ -27,7 +27,7 @@ fn is_same(one: Option<&Arc<Snapshot>>, other: Option<&Arc<Snapshot>>) -> bool
 }
 
 /// The sessions that show one tree in `new` and another one in `old`.
-pub fn differing(old: &Shown, new: &Shown) -> SessionSet
+pub fn differing(old: &ShownStates, new: &ShownStates) -> SessionSet
     requires { length new.now ≤ SESSIONS_MAX }
     ensures { AreSame result old.now new.now }
 {
@@ -52,11 +52,11 @@ fn shared(state: Option<&Arc<Snapshot>>) -> Result<Option<Arc<Snapshot>>, NoMemo
 }
 
 /// The same shown states, which are shared.
-pub fn copied(alloc: Global, shown: &Shown) -> Result<Shown, NoMemory>
+pub fn copied(alloc: Global, shown: &ShownStates) -> Result<ShownStates, NoMemory>
     requires { length shown.now ≤ SESSIONS_MAX }
     ensures { IfOk result (λ copy. copy ≡ shown.now) }
 {
-    let mut copy = Shown::new(alloc, shown.sessions() as u32)?;
+    let mut copy = ShownStates::new(alloc, shown.sessions() as u32)?;
     for before in 0..shown.sessions() {
         let s = SessionNo(before as u32 + 1);
         copy.set(s, shared(shown.state(s))?);

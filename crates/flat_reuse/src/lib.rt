@@ -14,9 +14,9 @@
 mod follow;
 mod piece;
 mod reuse;
+mod session_walk;
 mod show;
 mod slots;
-mod trace;
 
 pub use crate::reuse::Reuse;
 pub use crate::show::Drawing;

@@ -14,12 +14,12 @@ use flat_geom::{map_rect, sized};
 use flat_join::Scope;
 use flat_scene::{Content, DrawItem, ItemList};
 use flat_snap::FlatNode;
-use flat_topology::Placed;
+use flat_topology::PlacedNode;
 use std::alloc::Global;
 
 /// Where the child view of a pair is shown.
 #[derive(Clone, Copy)]
-pub struct Link {
+pub struct ChildLink {
     pub pair: usize,
     /// What the viewport hands on.
     pub scope: Scope,
@@ -31,7 +31,7 @@ pub struct Link {
 #[derive(Clone, Copy)]
 pub struct PlacedLink {
     pub place: usize,
-    pub link: Link,
+    pub link: ChildLink,
 }
 
 /// What a session gives, in preorder of its nodes. The items lie in a row, so that a
@@ -43,11 +43,11 @@ pub struct SessionParts {
 }
 
 /// The link of a viewport that hands on this scope.
-fn viewport_link(scope: &Scope, content: Option<Content>) -> Option<Link>
+fn viewport_link(scope: &Scope, content: Option<Content>) -> Option<ChildLink>
     ensures { result ≡ link_of (space_of scope.now) content }
 {
     match content {
-        Some(Content::Viewport { pair, props, .. }) => Some(Link {
+        Some(Content::Viewport { pair, props, .. }) => Some(ChildLink {
             pair: pair.0 as usize,
             scope: scope.linked(props),
             bounds: map_rect(scope.matrix, sized(props.w, props.h)),
@@ -67,7 +67,7 @@ fn item_in(
     ensures { result ≡ node_item (placed_node session.0 (space_of scope.now)
         (as_node (lent node.now) Empty)) }
 {
-    item(&Placed {
+    item(&PlacedNode {
         session,
         serial: node.serial,
         matrix: scope.matrix,
@@ -101,7 +101,7 @@ impl SessionParts {
     }
 
     /// Appends a link, if there is one.
-    fn add_link(&mut self, link: Option<Link>) -> Result<(), NoMemory>
+    fn add_link(&mut self, link: Option<ChildLink>) -> Result<(), NoMemory>
         ensures { OnOk result (self.new
             ≡ appended self.old (map (λ link. Linked link) (option_to_list link))) }
     {

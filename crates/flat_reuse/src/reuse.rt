@@ -10,7 +10,7 @@ use crate::follow::{copied, differing, fit_slots};
 use crate::show::{Drawing, draw};
 use crate::slots::Slots;
 use flat_base::{NoMemory, SESSIONS_MAX};
-use flat_join::Shown;
+use flat_join::ShownStates;
 use flat_scene::{ItemList, SessionSet, Setup};
 use std::alloc::Global;
 use std::marker::Model;
@@ -20,7 +20,7 @@ use std::mem;
 /// the sessions showed at the last call, and nothing where that was refused.
 #[derive(Drop)]
 pub struct Reuse {
-    shown: Shown,
+    shown: ShownStates,
     slots: Slots,
     /// How many items the last call gave: the next one takes room for so many.
     room: usize,
@@ -50,7 +50,7 @@ impl Reuse {
     {
         let slots = Vec::with_capacity(alloc, SESSIONS_MAX as usize)?;
         Ok(Reuse {
-            shown: Shown::none(alloc),
+            shown: ShownStates::none(alloc),
             slots,
             room: 0,
         })
@@ -61,12 +61,12 @@ impl Reuse {
         ensures slots { AreSlots self.old result.items }
         ensures rest { self.new ≡ [] }
     {
-        self.shown = Shown::none(alloc);
+        self.shown = ShownStates::none(alloc);
         mem::replace(&mut self.slots, Vec::new(alloc))
     }
 
     /// Keeps this from now on.
-    fn keep(&mut self, shown: Shown, slots: Slots, room: usize)
+    fn keep(&mut self, shown: ShownStates, slots: Slots, room: usize)
         requires { AreSlots shown slots.items }
         ensures { self.new ≡ shown }
     {
@@ -76,7 +76,7 @@ impl Reuse {
     }
 
     /// What the sessions showed at the last call.
-    pub fn shown(&self) -> &Shown
+    pub fn shown(&self) -> &ShownStates
         ensures { result.now ≡ self.now }
     {
         &self.shown
@@ -90,7 +90,7 @@ impl Reuse {
     pub fn draw_changed(
         &mut self,
         alloc: Global,
-        shown: &Shown,
+        shown: &ShownStates,
         setup: &Setup,
         ratio: u32,
         changed: SessionSet,
@@ -122,7 +122,7 @@ impl Reuse {
     pub fn draw_next(
         &mut self,
         alloc: Global,
-        shown: &Shown,
+        shown: &ShownStates,
         setup: &Setup,
         ratio: u32,
     ) -> Result<Drawing, NoMemory>
@@ -146,14 +146,15 @@ impl Reuse {
     pub fn compose_next(
         &mut self,
         alloc: Global,
-        shown: &Shown,
+        shown: &ShownStates,
         setup: &Setup,
         ratio: u32,
     ) -> Result<ItemList, NoMemory>
         requires made { length shown.now ≡ setup.now.sessions }
         requires few { setup.now.sessions ≤ SESSIONS_MAX }
         requires fit { FitsSetup setup.now shown.now }
-        ensures items { IfOk result (λ items. items ≡ draw_list (at_ratio ratio setup.now) shown.now) }
+        ensures items { IfOk result (λ items. items ≡ draw_list (at_ratio ratio setup.now)
+            shown.now) }
         ensures kept { OnOk result (self.new ≡ shown.now) }
         ensures anew { OnErr result (self.new ≡ []) }
     {

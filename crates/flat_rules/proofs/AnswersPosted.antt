@@ -14,9 +14,9 @@ use Rattle.flat_scene.specs.declared.calls.Watch.{Watch}
 use Rattle.flat_scene.specs.declared.calls.Watch.TheVariants as watch
 use Rattle.flat_scene.specs.declared.journal.Entry.{Entry}
 use Rattle.flat_scene.specs.declared.journal.Event.{Event}
-use Rattle.flat_scene.specs.declared.journal.Kind.{Kind}
-use Rattle.flat_scene.specs.declared.journal.Kind.TheVariants.{Get}
-use Rattle.flat_scene.specs.declared.journal.Told.{Told}
+use Rattle.flat_scene.specs.declared.journal.EntryKind.{EntryKind}
+use Rattle.flat_scene.specs.declared.journal.EntryKind.TheVariants.{Get}
+use Rattle.flat_scene.specs.declared.journal.WatcherValue.{WatcherValue}
 use Rattle.flat_scene.specs.declared.setup.PairDecl.{PairDecl}
 use Rattle.flat_scene.specs.declared.setup.Setup.{Setup}
 use Rattle.flat_scene.specs.Draft.{Draft, Made, an_image, a_fill, a_viewport, made_of, content_of, of_serial}
@@ -167,7 +167,7 @@ module _ (setup : Setup) where
       may : MayEnter setup before (Session s) e.calls (Get get)
       may =
           let M : Actor → Type 0 = λ a. MayEnter setup before a e.calls e.kind in
-          let K : Kind → Type 0 = λ k. MayEnter setup before (Session s) e.calls k in
+          let K : EntryKind → Type 0 = λ k. MayEnter setup before (Session s) e.calls k in
           subst K kind (subst M by legal.1.may)
 
       opened : is_closed s before ≡ false
@@ -185,11 +185,11 @@ module _ (setup : Setup) where
           use-of-get p n before d (draft-passes (was_used before) setup (calls s before ++ e.calls) all_calls d
           (ok-is setup (draft_of setup (calls s before ++ e.calls)) d made)) get h
 
-  settled-waits : (listens : Bool) (now : Option Told) (w : Watching) (get : Watch) → (settled listens now w).waits ≡ Some get → w.waits ≡ Some get
+  settled-waits : (listens : Bool) (now : Option WatcherValue) (w : Watching) (get : Watch) → (settled listens now w).waits ≡ Some get → w.waits ≡ Some get
   settled-waits false now w get is = is
   settled-waits true now w get is = by_answer (answer now w) is
     where
-      by_answer : (a : Option Told) → (answered_by a w).waits ≡ Some get → w.waits ≡ Some get
+      by_answer : (a : Option WatcherValue) → (answered_by a w).waits ≡ Some get → w.waits ≡ Some get
       by_answer None h = h
       by_answer (Some value) h = absurd (let wrong : None ≡ Some get = h in cc)
 
@@ -226,7 +226,7 @@ module _ (setup : Setup) where
   alone y ys is = subst (λ (l : List Event). In y l) (sym is) (inl refl)
 
   -- an event answers a get that is held
-  answers-held : (p : PairNo) (o : Option Watch) (value : Option Told) (y : Event) → event_of p o value ≡ y ∷ [] → (get : Watch) × (o ≡ Some get)
+  answers-held : (p : PairNo) (o : Option Watch) (value : Option WatcherValue) (y : Event) → event_of p o value ≡ y ∷ [] → (get : Watch) × (o ≡ Some get)
   answers-held p None value y is = absurd (let wrong : [] ≡ y ∷ [] = is in cc)
   answers-held p (Some get) value y is = (get, refl)
 

@@ -4,8 +4,8 @@ use Rattle.std.specs.Prelude.{Some, None}
 use Rattle.flat_base.specs.declared.ids.Actor.{Actor}
 use Rattle.flat_scene.specs.declared.calls.Call.{Call}
 use Rattle.flat_scene.specs.declared.journal.Entry.{Entry}
-use Rattle.flat_scene.specs.declared.journal.Kind.{Kind}
-use Rattle.flat_scene.specs.declared.journal.Kind.TheVariants.{Close}
+use Rattle.flat_scene.specs.declared.journal.EntryKind.{EntryKind}
+use Rattle.flat_scene.specs.declared.journal.EntryKind.TheVariants.{Close}
 use Rattle.flat_scene.specs.declared.setup.Setup.{Setup}
 use Rattle.flat_scene.specs.History.{closes}
 use Rattle.flat_scene.proofs.lemmas.Steps.{closes-own}
@@ -17,7 +17,7 @@ use Rattle.flat_rules.proofs.lemmas.Quiet.{closed-quiet}
 pub refusal-closes : RefusalCloses
 refusal-closes before entry refused = record { itself = λ s mine. rw (mine, refused) refl; others = λ s other. closes-own s before entry other }
 
-pub close-refused : (setup : Setup) (before : List Entry) (actor : Actor) (carries : List Call) (kind : Kind) → is_close kind ≡ true
+pub close-refused : (setup : Setup) (before : List Entry) (actor : Actor) (carries : List Call) (kind : EntryKind) → is_close kind ≡ true
     → closes (reply_to setup before actor carries kind) ≡ true
 close-refused setup before actor carries (Close None) is = refl
 close-refused setup before actor carries (Close (Some reason)) is = refl

@@ -10,8 +10,8 @@ use Rattle.flat_base.specs.declared.ids.FenceNo.{FenceNo}
 use Rattle.flat_base.specs.declared.ids.SessionNo.{SessionNo}
 use Rattle.flat_scene.specs.declared.calls.Call.{Call}
 use Rattle.flat_scene.specs.declared.journal.Entry.{Entry}
-use Rattle.flat_scene.specs.declared.journal.Kind.{Kind}
-use Rattle.flat_scene.specs.declared.journal.Kind.TheVariants as kind
+use Rattle.flat_scene.specs.declared.journal.EntryKind.{EntryKind}
+use Rattle.flat_scene.specs.declared.journal.EntryKind.TheVariants as kind
 use Rattle.flat_scene.specs.declared.journal.Reply.{Reply}
 use Rattle.flat_scene.specs.declared.journal.Reply.TheVariants.{Presented}
 use Rattle.flat_scene.specs.declared.setup.Setup.{Setup}
@@ -53,7 +53,7 @@ accepted setup before s (Session t) number left mine is = by_credit (nat_lt 0 (c
     by_credit false none = absurd (let never = rw none at is in cc)
 
 -- what an own entry publishes and takes
-publishes : (setup : Setup) (before : List Entry) (s : SessionNo) (actor : Actor) (carries : List Call) (k : Kind) (reply : Reply) (made : List Call)
+publishes : (setup : Setup) (before : List Entry) (s : SessionNo) (actor : Actor) (carries : List Call) (k : EntryKind) (reply : Reply) (made : List Call)
     → is_session s actor ≡ true → reply ≡ reply_to setup before actor carries k
     → (length (published k reply made) ≡ 0) ⊎ ((length (published k reply made) ≡ 1) × (0 < credits setup before s))
 publishes setup before s actor carries (kind.Present args) (Presented number left) made mine is = inr (refl, accepted setup before s actor number left mine is)
@@ -61,7 +61,7 @@ publishes setup before s actor carries (kind.Present args) _ made mine is = inl 
 publishes setup before s actor carries _ reply made mine is = inl refl
 
 -- only a begin takes
-takes-nothing : (k : Kind) (reply : Reply) (made : List Call) (is_signalled : FenceNo → Bool) (closed : Bool) (wait : List Published)
+takes-nothing : (k : EntryKind) (reply : Reply) (made : List Call) (is_signalled : FenceNo → Bool) (closed : Bool) (wait : List Published)
     → length (published k reply made) ≡ 1 → length (takes k is_signalled closed wait) ≡ 0
 takes-nothing (kind.Begin time) reply made is_signalled closed wait one = absurd (omega (arith, one))
 takes-nothing _ reply made is_signalled closed wait one = refl

@@ -23,7 +23,7 @@ use Rattle.flat_scene.specs.declared.trees.Node.{Node}
 use Rattle.flat_scene.specs.Trees.{first}
 use Rattle.flat_base.proofs.lemmas.Tests.{and-left, and-right}
 use Rattle.flat_scene.specs.Frames.{setup_at}
-use Rattle.flat_topology.specs.declared.Placed.{Placed}
+use Rattle.flat_topology.specs.declared.PlacedNode.{PlacedNode}
 use Rattle.flat_topology.specs.Draw.{Painting, painting_of, item_of, node_item, items_of, visible_rect, scene_matrix}
 use Rattle.flat_topology.specs.Join.{JoinedTree, Viewer, viewer_from, is_view_of, linked_to, joined_nodes, viewed, led_to, led_from}
 use Rattle.flat_topology.specs.Pairs.{display_pair}
@@ -54,10 +54,10 @@ seen-dim outer own dim own_dim = dim-of (seen_through outer own) (seen-low outer
 
 -- ---- placed nodes
 
-abbrev is_fair_at : Placed → Bool
+abbrev is_fair_at : PlacedNode → Bool
 is_fair_at at = is_dim at.opacity && is_fair_content at.content
 
-abbrev are_placed : List Placed → Type 0
+abbrev are_placed : List PlacedNode → Type 0
 are_placed placed = list_all is_fair_at placed ≡ true
 
 module _ (led : ℕ → JoinedTree) (each : (q : ℕ) (outer : Space) → is_dim outer.opacity ≡ true → are_placed (placed_in outer (led q))) where
@@ -87,9 +87,9 @@ module _ (led : ℕ → JoinedTree) (each : (q : ℕ) (outer : Space) → is_dim
       let others : (are_fair children && are_fair rest) ≡ true = and-right (is_dim opacity && is_fair_content what) (are_fair children && are_fair rest) fair in
       let inner : Space = node_space outer n in
       let inner_dim : is_dim inner.opacity ≡ true = seen-dim outer.opacity opacity dim (and-left (is_dim opacity) (is_fair_content what) here) in
-      let linked : List Placed = placed_in (linked_space inner what) (linked_to led what) in
-      let below : List Placed = placed_in inner (joined_nodes led s children) in
-      let after : List Placed = placed_in outer (joined_nodes led s rest) in
+      let linked : List PlacedNode = placed_in (linked_space inner what) (linked_to led what) in
+      let below : List PlacedNode = placed_in inner (joined_nodes led s children) in
+      let after : List PlacedNode = placed_in outer (joined_nodes led s rest) in
       and_from _ _ (and_from _ _ inner_dim (and-right (is_dim opacity) (is_fair_content what) here))
       (all-append is_fair_at linked (below ++ after) (fair-linked inner what inner_dim)
       (all-append is_fair_at below after (fair-nodes s inner children inner_dim (and-left (are_fair children) (are_fair rest) others))
@@ -176,7 +176,7 @@ abbrev MayDraw : Option DrawItem → Type 0
 MayDraw None = Unit {0}
 MayDraw (Some item) = IsDrawable item
 
-draws : (at : Placed) (o : Option Painting) → MayPaint o → MayDraw (item_of at o)
+draws : (at : PlacedNode) (o : Option Painting) → MayPaint o → MayDraw (item_of at o)
 draws at None paintable = tt
 draws at (Some p) paintable = by_test (has_no_point (visible_rect at p.w p.h) || (at.opacity == 0))
   where
@@ -198,7 +198,7 @@ draws at (Some p) paintable = by_test (has_no_point (visible_rect at p.w p.h) ||
       sample = paintable.sample;
     }
 
-items-drawable : (placed : List Placed) → are_placed placed → All IsDrawable (items_of placed)
+items-drawable : (placed : List PlacedNode) → are_placed placed → All IsDrawable (items_of placed)
 items-drawable [] fair = All-nil IsDrawable
 items-drawable (at ∷ placed) fair =
     by_item (items-drawable placed (and-right (is_fair_at at) (list_all is_fair_at placed) fair)) (node_item at) refl

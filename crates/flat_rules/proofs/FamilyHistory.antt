@@ -7,10 +7,10 @@ use Rattle.flat_base.specs.declared.ids.SessionNo.{SessionNo}
 use Rattle.flat_scene.specs.declared.calls.Call.{Call}
 use Rattle.flat_scene.specs.declared.calls.Watch.{Watch}
 use Rattle.flat_scene.specs.declared.journal.Entry.{Entry}
-use Rattle.flat_scene.specs.declared.journal.Kind.{Kind}
-use Rattle.flat_scene.specs.declared.journal.Kind.TheVariants.{View, Viewport, Present, Get, Signal, Poll, Wait, Close, End, Begin, Finish, Hit, Dpr}
-use Rattle.flat_scene.specs.declared.script.Cond.{Cond}
-use Rattle.flat_scene.specs.declared.script.Cond.TheVariants as asks
+use Rattle.flat_scene.specs.declared.journal.EntryKind.{EntryKind}
+use Rattle.flat_scene.specs.declared.journal.EntryKind.TheVariants.{View, Viewport, Present, Get, Signal, Poll, Wait, Close, End, Begin, Finish, Hit, Dpr}
+use Rattle.flat_scene.specs.declared.script.WaitCondition.{WaitCondition}
+use Rattle.flat_scene.specs.declared.script.WaitCondition.TheVariants as asks
 use Rattle.flat_scene.specs.declared.setup.Setup.{Setup}
 use Rattle.flat_scene.specs.Draft.{Draft}
 use Rattle.flat_scene.specs.Family.{only, is_kept, keeps}
@@ -29,9 +29,9 @@ use Rattle.flat_rules.proofs.lemmas.WatchLocal.{watching-only, pair-of-view, pai
 module _ (setup : Setup) (of_family : SessionNo → Bool) (closed : IsClosedFamily setup of_family) where
   module _ (before : List Entry) (e : Entry) (legal : Legal setup (before ▹ e)) where
     -- what a session of the family owns
-    owns-here : (s : SessionNo) → e.actor ≡ Session s → (kind : Kind) → e.kind ≡ kind → owns_in_kind setup s kind ≡ true
+    owns-here : (s : SessionNo) → e.actor ≡ Session s → (kind : EntryKind) → e.kind ≡ kind → owns_in_kind setup s kind ≡ true
     owns-here s by kind is =
-        subst (λ (k : Kind). owns_in_kind setup s k ≡ true) is (entry-owned setup before e legal.1 s (rw by (same-number s.0)))
+        subst (λ (k : EntryKind). owns_in_kind setup s k ≡ true) is (entry-owned setup before e legal.1 s (rw by (same-number s.0)))
 
     -- ---- replies
 
@@ -56,7 +56,7 @@ module _ (setup : Setup) (of_family : SessionNo → Bool) (closed : IsClosedFami
         rw (asked-kept-by setup of_family closed before e legal e.actor refl kept get)
         (get-same-by (watcher_of setup before e.actor e.calls get) (λ w is. watcher-pair setup of_family closed before e legal e.actor refl get kept w is))
 
-    value-same : (s : SessionNo) → of_family s ≡ true → (c : Cond) → session_may (Wait c) ≡ true → owns_in_kind setup s (Wait c) ≡ true
+    value-same : (s : SessionNo) → of_family s ≡ true → (c : WaitCondition) → session_may (Wait c) ≡ true → owns_in_kind setup s (Wait c) ≡ true
         → value_of setup (only of_family before) (Session s) c ≡ value_of setup before (Session s) c
     value-same s mine (asks.Frames n) may owns = frames-only setup of_family closed before legal.0
     value-same s mine (asks.Credits n) may owns = credits-only setup of_family closed before legal.0 s mine
@@ -65,7 +65,7 @@ module _ (setup : Setup) (of_family : SessionNo → Bool) (closed : IsClosedFami
     value-same s mine (asks.Fence f) may owns = rw (signalled-only setup of_family closed before legal.0 s f mine owns) refl
     value-same s mine (asks.Presents t n) may owns = absurd (let h : false ≡ true = may in cc)
 
-    reply-by : is_kept of_family e ≡ true → (actor : Actor) → e.actor ≡ actor → (kind : Kind) → e.kind ≡ kind → may_act setup kind actor ≡ true
+    reply-by : is_kept of_family e ≡ true → (actor : Actor) → e.actor ≡ actor → (kind : EntryKind) → e.kind ≡ kind → may_act setup kind actor ≡ true
         → keeps of_family kind actor ≡ true
         → reply_to setup (only of_family before) actor e.calls kind ≡ reply_to setup before actor e.calls kind
     reply-by whole actor by (Present args) is may kept = present-same actor args kept
@@ -101,30 +101,30 @@ module _ (setup : Setup) (of_family : SessionNo → Bool) (closed : IsClosedFami
 
     -- ---- what is asked of an entry
 
-    lasts-same : (kind : Kind) (actor : Actor) → keeps of_family kind actor ≡ true → goes_on (only of_family before) kind actor ≡ goes_on before kind actor
+    lasts-same : (kind : EntryKind) (actor : Actor) → keeps of_family kind actor ≡ true → goes_on (only of_family before) kind actor ≡ goes_on before kind actor
     lasts-same kind (Session s) kept = rw (own-only setup of_family s kept before) refl
     lasts-same kind Display kept = refl
     lasts-same kind (Probe p) kept = refl
 
-    times-same : (kind : Kind) → keeps_time (only of_family before) kind ≡ keeps_time before kind
+    times-same : (kind : EntryKind) → keeps_time (only of_family before) kind ≡ keeps_time before kind
     times-same (Begin time) = rw (frame-open-only setup of_family closed before legal.0, begin-time-only setup of_family closed before legal.0) refl
     times-same Finish = frame-open-only setup of_family closed before legal.0
     times-same _ = refl
 
-    draft-same : (kind : Kind) (actor : Actor) (carries : List Call) → keeps of_family kind actor ≡ true
+    draft-same : (kind : EntryKind) (actor : Actor) (carries : List Call) → keeps of_family kind actor ≡ true
         → draft_with setup (only of_family before) actor carries ≡ draft_with setup before actor carries
     draft-same kind (Session s) carries kept = rw (own-only setup of_family s kept before) refl
     draft-same kind Display carries kept = refl
     draft-same kind (Probe p) carries kept = refl
 
-    drafted-same : (kind : Kind) (actor : Actor) (carries : List Call) → keeps of_family kind actor ≡ true
+    drafted-same : (kind : EntryKind) (actor : Actor) (carries : List Call) → keeps of_family kind actor ≡ true
         → has_draft setup (only of_family before) actor carries kind ≡ has_draft setup before actor carries kind
     drafted-same (Close reason) (Session s) carries kept = rw (own-only setup of_family s kept before) refl
     drafted-same _ (Session s) carries kept = rw (own-only setup of_family s kept before) refl
     drafted-same kind Display carries kept = refl
     drafted-same kind (Probe p) carries kept = refl
 
-    watcher-same : (kind : Kind) → is_kept of_family e ≡ true
+    watcher-same : (kind : EntryKind) → is_kept of_family e ≡ true
         → has_watcher setup (only of_family before) e.actor e.calls kind ≡ has_watcher setup before e.actor e.calls kind
     watcher-same (Get get) kept = rw (asked-kept-by setup of_family closed before e legal e.actor refl kept get) refl
     watcher-same _ kept = refl

@@ -5,9 +5,9 @@ use Rattle.flat_base.proofs.lemmas.Tests.{none-left, none-right}
 use Rattle.flat_base.specs.declared.ids.PairNo.{PairNo}
 use Rattle.flat_scene.specs.declared.calls.Watch.{Watch}
 use Rattle.flat_scene.specs.declared.journal.Entry.{Entry}
-use Rattle.flat_scene.specs.declared.journal.Kind.{Kind}
-use Rattle.flat_scene.specs.declared.journal.Kind.TheVariants.{Get}
-use Rattle.flat_scene.specs.declared.journal.Told.{Told}
+use Rattle.flat_scene.specs.declared.journal.EntryKind.{EntryKind}
+use Rattle.flat_scene.specs.declared.journal.EntryKind.TheVariants.{Get}
+use Rattle.flat_scene.specs.declared.journal.WatcherValue.{WatcherValue}
 use Rattle.flat_scene.specs.declared.setup.Setup.{Setup}
 use Rattle.flat_scene.specs.History.{◌▹◌}
 use Rattle.flat_rules.specs.FirstNews.{first_news, is_asked, is_heard, FirstNewsAnswers, SecondGetIsRefused, UnaskedStays, NothingIsAnsweredAtFirst}
@@ -28,25 +28,26 @@ none-asked (Some get) none = absurd (let h : true ≡ false = none in cc)
 -- ---- one step of a watcher
 
 -- what an open listener's watcher is, where this was the first news so far
-abbrev standing : Option Told → Watch → Option Told → Watching
+abbrev standing : Option WatcherValue → Watch → Option WatcherValue → Watching
 standing last get first = answered_by first (record { last = last; waits = Some get })
 
-step : (last : Option Told) (get : Watch) (first now : Option Told)
+step : (last : Option WatcherValue) (get : Watch) (first now : Option WatcherValue)
     → settled true now (standing last get first) ≡ standing last get (option_or first (news now last))
 step last get (Some value) now = refl
 step last get None now = refl
 
-event-step : (p : PairNo) (last : Option Told) (get : Watch) (first now : Option Told)
+event-step : (p : PairNo) (last : Option WatcherValue) (get : Watch) (first now : Option WatcherValue)
     → event_of p (standing last get first).waits (answer now (standing last get first))
     ≡ event_of p (Some get) (cond (is_some first) None (option_or first (news now last)))
 event-step p last get (Some value) now = refl
 event-step p last get None now = refl
 
 -- a get that nothing else holds joins
-joins : (w : Watching) (last : Option Told) (get : Watch) → w.waits ≡ None → w.last ≡ last → asking (Some get) w ≡ record { last = last; waits = Some get }
+joins : (w : Watching) (last : Option WatcherValue) (get : Watch) → w.waits ≡ None → w.last ≡ last
+    → asking (Some get) w ≡ record { last = last; waits = Some get }
 joins w last get none is = λ i. record { last = is i; waits = option_or (none i) (Some get) }
 
-rests : (listens : Bool) (now : Option Told) (w : Watching) → w.waits ≡ None → settled listens now w ≡ w
+rests : (listens : Bool) (now : Option WatcherValue) (w : Watching) → w.waits ≡ None → settled listens now w ≡ w
 rests false now w none = refl
 rests true now w none = ap (λ (o : Option Watch). answered_by (cond (is_some o) (news now w.last) None) w) none
 
@@ -73,7 +74,7 @@ module _ (setup : Setup) where
       }
   by-test watcher get asks before entry false is kind so = cc
 
-  pub is-get : (watcher : Watcher) (get : Watch) (before : List Entry) (entry : Entry) (kind : Kind) → entry.kind ≡ kind
+  pub is-get : (watcher : Watcher) (get : Watch) (before : List Entry) (entry : Entry) (kind : EntryKind) → entry.kind ≡ kind
       → asked_in setup watcher before entry kind ≡ Some get
       → IsGet setup watcher get before entry
   is-get watcher get before entry (Get asks) is so =
@@ -92,7 +93,7 @@ module _ (setup : Setup) where
       let still : told setup (before ▹ entry) watcher ≡ told setup before watcher =
       told-same setup watcher before entry (get-still watcher get entry is.kind) in
       legal.1.reply ∙ ap (reply_to setup before entry.actor entry.calls) is.kind ∙ ap (reply_to_get setup before) is.meant
-      ∙ ap (λ (now : Option Told). got (is_some (watching setup watcher before).waits) (news now (watching setup watcher before).last)) (sym still)
+      ∙ ap (λ (now : Option WatcherValue). got (is_some (watching setup watcher before).waits) (news now (watching setup watcher before).last)) (sym still)
 
   -- ---- all later entries
 
@@ -109,7 +110,8 @@ module _ (setup : Setup) where
       (asking get (watching setup watcher history))) none
       ∙ ap (settled (is_heard setup watcher (history ▹ next)) (told setup (history ▹ next) watcher)) (asking-none (watching setup watcher history))
 
-  module _ (watcher : Watcher) (get : Watch) (last : Option Told) (before : List Entry) (entry : Entry) (so : asked setup watcher before entry ≡ Some get)
+  module _ (watcher : Watcher) (get : Watch) (last : Option WatcherValue) (before : List Entry) (entry : Entry)
+      (so : asked setup watcher before entry ≡ Some get)
       (free : (watching setup watcher before).waits ≡ None) (was : (watching setup watcher before).last ≡ last) where
     holds : (later : List Entry) → is_asked setup watcher (before ▹ entry) later ≡ false → is_heard setup watcher (later ++ (before ▹ entry)) ≡ true
         → watching setup watcher (later ++ (before ▹ entry)) ≡ standing last get (first_news setup watcher last (before ▹ entry) later)

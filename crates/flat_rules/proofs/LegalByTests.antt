@@ -4,7 +4,7 @@ use Rattle.std.specs.Prelude.{◌&&◌, ◌-◌, length, slice_get}
 use Rattle.flat_base.specs.declared.ids.Actor.{Actor}
 use Rattle.flat_scene.specs.declared.calls.Call.{Call}
 use Rattle.flat_scene.specs.declared.journal.Entry.{Entry}
-use Rattle.flat_scene.specs.declared.journal.Kind.{Kind}
+use Rattle.flat_scene.specs.declared.journal.EntryKind.{EntryKind}
 use Rattle.flat_scene.specs.declared.setup.Setup.{Setup}
 use Rattle.flat_scene.specs.History.{◌▹◌}
 use Rattle.flat_base.proofs.lemmas.Tests.{and-left, and-right}
@@ -12,13 +12,13 @@ use Rattle.flat_rules.specs.Legal.{Legal, MayEnter, reply_to, may_act, goes_on, 
 use Rattle.flat_rules.specs.Legal.{draft_with, has_watcher}
 
 -- all that an entry must meet, as one test
-abbrev pub may_enter : Setup → List Entry → Actor → List Call → Kind → Bool
+abbrev pub may_enter : Setup → List Entry → Actor → List Call → EntryKind → Bool
 may_enter setup before actor carries kind =
     may_act setup kind actor && (goes_on before kind actor && (keeps_time before kind && (has_draft setup before actor carries kind
     && (own_call kind (slice_get carries (length carries - 1)) && (links_alone kind carries && (owns_all setup actor carries kind
     && (may_name setup actor kind && (has_tree setup (draft_with setup before actor carries) kind && has_watcher setup before actor carries kind))))))))
 
-enters : (setup : Setup) (before : List Entry) (actor : Actor) (carries : List Call) (kind : Kind) → may_enter setup before actor carries kind ≡ true
+enters : (setup : Setup) (before : List Entry) (actor : Actor) (carries : List Call) (kind : EntryKind) → may_enter setup before actor carries kind ≡ true
     → MayEnter setup before actor carries kind
 enters setup before actor carries kind may =
     let from_2 = and-right (may_act setup kind actor) _ may in

@@ -11,12 +11,12 @@ use Rattle.flat_scene.specs.declared.calls.Call.{Call}
 use Rattle.flat_scene.specs.declared.journal.Entry.{Entry}
 use Rattle.flat_scene.specs.declared.journal.Event.{Event}
 use Rattle.flat_scene.specs.declared.journal.Event.TheVariants as event
-use Rattle.flat_scene.specs.declared.journal.Kind.{Kind}
-use Rattle.flat_scene.specs.declared.journal.Kind.TheVariants.{View, Viewport, Present, Get, Poll, Wait, Close}
-use Rattle.flat_scene.specs.declared.journal.Post.{Post}
+use Rattle.flat_scene.specs.declared.journal.EntryKind.{EntryKind}
+use Rattle.flat_scene.specs.declared.journal.EntryKind.TheVariants.{View, Viewport, Present, Get, Poll, Wait, Close}
+use Rattle.flat_scene.specs.declared.journal.PostedEvent.{PostedEvent}
 use Rattle.flat_scene.specs.declared.journal.Reply.TheVariants.{Done, Presented, Polled, Closed}
-use Rattle.flat_scene.specs.declared.script.Cond.{Cond}
-use Rattle.flat_scene.specs.declared.script.Cond.TheVariants as asks
+use Rattle.flat_scene.specs.declared.script.WaitCondition.{WaitCondition}
+use Rattle.flat_scene.specs.declared.script.WaitCondition.TheVariants as asks
 use Rattle.flat_scene.specs.declared.setup.Setup.{Setup}
 use Rattle.flat_scene.specs.Draft.{empty_draft}
 use Rattle.flat_scene.specs.Frames.{sessions_to, is_signalled}
@@ -84,7 +84,8 @@ module _ (setup : Setup) where
   pub posts-lined : (h : List Entry) → posts setup (lined h) ≡ posts setup h
   posts-lined [] = refl
   posts-lined (before ▹ e) =
-      λ i. posts-lined before i ++ map (λ sent. let post : Post = record { entry = length-lined before i; session = sent.to; event = sent.event } in post)
+      λ i. posts-lined before i ++ map (λ sent. let post : PostedEvent = record { entry = length-lined before i; session = sent.to; event = sent.event } in
+      post)
       (posted-lined before e i)
 
   -- ---- what replies hang on
@@ -119,7 +120,7 @@ module _ (setup : Setup) where
   presents-count : (s : SessionNo) (h : List Entry) → length (presents s (lined h)) ≡ length (presents s h)
   presents-count s h = ap length (presents-lined s h)
 
-  value-lined : (h : List Entry) (actor : Actor) (c : Cond) → value_of setup (lined h) actor c ≡ value_of setup h actor c
+  value-lined : (h : List Entry) (actor : Actor) (c : WaitCondition) → value_of setup (lined h) actor c ≡ value_of setup h actor c
   value-lined h actor (asks.Frames n) = finishes-lined h
   value-lined h actor (asks.Fence f) = λ i. number_if (signalled-lined h i f)
   value-lined h actor (asks.Presents s n) = presents-count s h
@@ -146,7 +147,7 @@ module _ (setup : Setup) where
   polled-lined (Probe n) h = refl
 
   -- the reply is the same
-  pub reply-lined : (h : List Entry) (actor : Actor) (carries : List Call) (kind : Kind)
+  pub reply-lined : (h : List Entry) (actor : Actor) (carries : List Call) (kind : EntryKind)
       → reply_to setup (lined h) actor carries kind ≡ reply_to setup h actor carries kind
   reply-lined h actor carries (View p) = λ i. cond (view-count setup p h i == 0) Done refused_token
   reply-lined h actor carries (Viewport p props) = λ i. cond (token-lined p h i) Done refused_token

@@ -10,9 +10,9 @@ use Rattle.flat_scene.specs.declared.calls.Call.{Call}
 use Rattle.flat_scene.specs.declared.calls.Watch.{Watch}
 use Rattle.flat_scene.specs.declared.calls.Watch.TheVariants as watch
 use Rattle.flat_scene.specs.declared.journal.Entry.{Entry}
-use Rattle.flat_scene.specs.declared.journal.Kind.{Kind}
-use Rattle.flat_scene.specs.declared.journal.Kind.TheVariants.{Get}
-use Rattle.flat_scene.specs.declared.journal.Told.TheVariants as tell
+use Rattle.flat_scene.specs.declared.journal.EntryKind.{EntryKind}
+use Rattle.flat_scene.specs.declared.journal.EntryKind.TheVariants.{Get}
+use Rattle.flat_scene.specs.declared.journal.WatcherValue.TheVariants as tell
 use Rattle.flat_scene.specs.declared.setup.Setup.{Setup}
 use Rattle.flat_scene.specs.declared.trees.Tree.{Tree}
 use Rattle.flat_scene.specs.Draft.{Draft, Made, an_image, a_fill, a_viewport, made_of}
@@ -123,7 +123,7 @@ module _ (setup : Setup) where
   watcher-lined h (Probe n) carries get = refl
   watcher-lined h (Session s) carries get = λ i. option_and_then (λ draft. watcher-in h draft get i) (result_ok (draft_of setup (calls-lined s h i ++ carries)))
 
-  asked-lined : (watcher : Watcher) (h : List Entry) (e : Entry) (kind : Kind)
+  asked-lined : (watcher : Watcher) (h : List Entry) (e : Entry) (kind : EntryKind)
       → asked_in setup watcher (lined h) (but_line e) kind ≡ asked_in setup watcher h e kind
   asked-lined watcher h e (Get get) = λ i. cond (is_watcher setup watcher (watcher-lined h e.actor e.calls get i)) (Some get) None
   asked-lined watcher h e _ = refl

@@ -15,8 +15,8 @@ use Rattle.flat_scene.specs.declared.calls.Call.TheVariants.{SetImageDestination
 use Rattle.flat_scene.specs.declared.calls.Call.TheVariants.{SetSolidFill}
 use Rattle.flat_scene.specs.declared.calls.ViewportProps.{ViewportProps}
 use Rattle.flat_scene.specs.declared.journal.Entry.{Entry}
-use Rattle.flat_scene.specs.declared.journal.Kind.{Kind}
-use Rattle.flat_scene.specs.declared.journal.Kind.TheVariants.{View, Viewport, Close}
+use Rattle.flat_scene.specs.declared.journal.EntryKind.{EntryKind}
+use Rattle.flat_scene.specs.declared.journal.EntryKind.TheVariants.{View, Viewport, Close}
 use Rattle.flat_scene.specs.declared.journal.Reply.TheVariants.{Done}
 use Rattle.flat_scene.specs.declared.setup.Setup.{Setup}
 use Rattle.flat_scene.specs.Draft.{Draft, Image, Solid, Made, an_image, a_fill, a_viewport, content_of, empty_draft}
@@ -190,7 +190,7 @@ not-refused false none = absurd (let h : true ≡ false = none in cc)
 
 module _ (setup : Setup) where
   -- the calls of an entry that wasn't refused
-  entry-used : (before : List Entry) (e : Entry) → LegalEntry setup before e → closes e.reply ≡ false → (kind : Kind) → e.kind ≡ kind
+  entry-used : (before : List Entry) (e : Entry) → LegalEntry setup before e → closes e.reply ≡ false → (kind : EntryKind) → e.kind ≡ kind
       → links_alone kind e.calls ≡ true
       → own_call kind (slice_get e.calls (length e.calls - 1)) ≡ true → list_all (call_passes (was_used (before ▹ e))) e.calls ≡ true
   entry-used before e legal fine (View p) is alone own =

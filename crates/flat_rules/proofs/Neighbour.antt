@@ -15,11 +15,11 @@ use Rattle.flat_scene.specs.declared.calls.Watch.{Watch}
 use Rattle.flat_scene.specs.declared.journal.Entry.{Entry}
 use Rattle.flat_scene.specs.declared.journal.Event.{Event}
 use Rattle.flat_scene.specs.declared.journal.Event.TheVariants as event
-use Rattle.flat_scene.specs.declared.journal.Kind.{Kind}
-use Rattle.flat_scene.specs.declared.journal.Kind.TheVariants.{View, Viewport, Present, Get, Signal, Poll, Wait, Close, End, Begin, Finish, Hit, Dpr}
+use Rattle.flat_scene.specs.declared.journal.EntryKind.{EntryKind}
+use Rattle.flat_scene.specs.declared.journal.EntryKind.TheVariants.{View, Viewport, Present, Get, Signal, Poll, Wait, Close, End, Begin, Finish, Hit, Dpr}
 use Rattle.flat_scene.specs.declared.journal.Reply.{Reply}
 use Rattle.flat_scene.specs.declared.journal.Reply.TheVariants.{Done}
-use Rattle.flat_scene.specs.declared.journal.Told.{Told}
+use Rattle.flat_scene.specs.declared.journal.WatcherValue.{WatcherValue}
 use Rattle.flat_scene.specs.declared.setup.Setup.{Setup}
 use Rattle.flat_scene.specs.Draft.{empty_draft}
 use Rattle.flat_rules.specs.Ends.{views_of, viewports_of, is_done, uses_view, uses_viewport, view_uses, viewport_uses, view_owner, viewport_owner, to_begin}
@@ -78,7 +78,7 @@ run-agree time f g (x ∷ xs) same =
 ready-agree : (time : ℕ) (f g : FenceNo → Bool) (xs : List Published) → seen f xs ≡ seen g xs → ready_prefix time f xs ≡ ready_prefix time g xs
 ready-agree time f g xs same = ap (up_to_first is_unsquashable) (run-agree time f g xs same)
 
-takes-agree : (kind : Kind) (f g : FenceNo → Bool) (is_shut : Bool) (n : ℕ) (xs : List Published) → (is_begin kind ≡ true → seen f xs ≡ seen g xs)
+takes-agree : (kind : EntryKind) (f g : FenceNo → Bool) (is_shut : Bool) (n : ℕ) (xs : List Published) → (is_begin kind ≡ true → seen f xs ≡ seen g xs)
     → takes kind f is_shut (drop n xs) ≡ takes kind g is_shut (drop n xs)
 takes-agree (Begin time) f g is_shut n xs same =
     let later : seen f (drop n xs) ≡ seen g (drop n xs) =
@@ -93,7 +93,7 @@ flat-own : {X : Type 0} (f : X → List Event) → ((x : X) → filter is_own_ev
 flat-own f none [] = refl
 flat-own f none (x ∷ xs) = rw (filter-append is_own_event (f x) (flat_map f xs), none x, flat-own f none xs) refl
 
-event-not-own : (q : PairNo) (w : Option Watch) (a : Option Told) → filter is_own_event (event_of q w a) ≡ []
+event-not-own : (q : PairNo) (w : Option Watch) (a : Option WatcherValue) → filter is_own_event (event_of q w a) ≡ []
 event-not-own q (Some get) (Some value) = refl
 event-not-own q (Some get) None = refl
 event-not-own q None a = refl
@@ -120,7 +120,7 @@ token-is-own p (event.TokenBack q ∷ es) = rw (token-is-own p es) refl
 
 -- ---- replies
 
-own-kind : (kind : Kind) → has_own_reply kind ≡ true → (is_begin kind ≡ false) × (is_finish kind ≡ false)
+own-kind : (kind : EntryKind) → has_own_reply kind ≡ true → (is_begin kind ≡ false) × (is_finish kind ≡ false)
 own-kind (View p) own = (refl, refl)
 own-kind (Viewport p props) own = (refl, refl)
 own-kind (Present args) own = (refl, refl)
@@ -140,7 +140,7 @@ four f m m' n n' a a' b b' pm pn pa pb = cc
 module _ (setup : Setup) (s : SessionNo) where
   -- ---- what another's entry leaves
 
-  others-view : (p : PairNo) → owns_view setup s p ≡ true → (kind : Kind) (actor : Actor) → is_session s actor ≡ false → may_act setup kind actor ≡ true
+  others-view : (p : PairNo) → owns_view setup s p ≡ true → (kind : EntryKind) (actor : Actor) → is_session s actor ≡ false → may_act setup kind actor ≡ true
       → ((t : SessionNo) → is_session t actor ≡ true → owns_in_kind setup t kind ≡ true) → uses_view p kind ≡ false
   others-view p mine (View q) Display other acts owns = absurd (let h : false ≡ true = acts in cc)
   others-view p mine (View q) (Probe n) other acts owns = absurd (let h : false ≡ true = acts in cc)
@@ -152,7 +152,8 @@ module _ (setup : Setup) (s : SessionNo) where
       let both : true ≡ false = sym here ∙ other in cc)
   others-view p mine _ actor other acts owns = refl
 
-  others-viewport : (p : PairNo) → owns_viewport setup s p ≡ true → (kind : Kind) (actor : Actor) → is_session s actor ≡ false → may_act setup kind actor ≡ true
+  others-viewport : (p : PairNo) → owns_viewport setup s p ≡ true → (kind : EntryKind) (actor : Actor) → is_session s actor ≡ false
+      → may_act setup kind actor ≡ true
       → ((t : SessionNo) → is_session t actor ≡ true → owns_in_kind setup t kind ≡ true) → uses_viewport p kind ≡ false
   others-viewport p mine (Viewport q props) Display other acts owns = absurd (let h : false ≡ true = acts in cc)
   others-viewport p mine (Viewport q props) (Probe n) other acts owns = absurd (let h : false ≡ true = acts in cc)
@@ -285,7 +286,7 @@ module _ (setup : Setup) (s : SessionNo) where
   present-same h h' same Display is = cc
   present-same h h' same (Probe p) is = cc
 
-  own-reply-same : (h h' : List Entry) → Same h h' → (kind : Kind) → has_own_reply kind ≡ true → owns_in_kind setup s kind ≡ true → (actor : Actor)
+  own-reply-same : (h h' : List Entry) → Same h h' → (kind : EntryKind) → has_own_reply kind ≡ true → owns_in_kind setup s kind ≡ true → (actor : Actor)
       → is_session s actor ≡ true → (carries : List Call)
       → reply_to setup h actor carries kind ≡ reply_to setup h' actor carries kind
   own-reply-same h h' same (View p) own owns actor is carries = rw (same.views p owns) refl
@@ -309,19 +310,19 @@ module _ (setup : Setup) (s : SessionNo) where
         ∙ (own-reply-same b b' same e.kind own (entry-owned setup b e legal s (own-entry own)) e.actor (own-entry own) e.calls
         ∙ sym legal'.reply)
 
-    own-reply-at : (kind : Kind) → e.kind ≡ kind → has_own_reply kind ≡ true → e.reply ≡ r
+    own-reply-at : (kind : EntryKind) → e.kind ≡ kind → has_own_reply kind ≡ true → e.reply ≡ r
     own-reply-at kind is own = own-reply (rw is own)
 
-    closes-by : (kind : Kind) → e.kind ≡ kind → closes (reply_to setup b e.actor e.calls kind) ≡ closes (reply_to setup b' e.actor e.calls kind)
+    closes-by : (kind : EntryKind) → e.kind ≡ kind → closes (reply_to setup b e.actor e.calls kind) ≡ closes (reply_to setup b' e.actor e.calls kind)
         → closes e.reply ≡ closes r
     closes-by kind is h =
         let one : closes e.reply ≡ closes (reply_to setup b e.actor e.calls kind) =
-        ap closes (legal.reply) ∙ ap (λ (k : Kind). closes (reply_to setup b e.actor e.calls k)) is in
+        ap closes (legal.reply) ∙ ap (λ (k : EntryKind). closes (reply_to setup b e.actor e.calls k)) is in
         let two : closes r ≡ closes (reply_to setup b' e.actor e.calls kind) =
-        ap closes (legal'.reply) ∙ ap (λ (k : Kind). closes (reply_to setup b' e.actor e.calls k)) is in
+        ap closes (legal'.reply) ∙ ap (λ (k : EntryKind). closes (reply_to setup b' e.actor e.calls k)) is in
         one ∙ (h ∙ sym two)
 
-    closes-same : (kind : Kind) → e.kind ≡ kind → closes e.reply ≡ closes r
+    closes-same : (kind : EntryKind) → e.kind ≡ kind → closes e.reply ≡ closes r
     closes-same (View p) is = ap closes (own-reply-at (View p) is refl)
     closes-same (Viewport p props) is = ap closes (own-reply-at (Viewport p props) is refl)
     closes-same (Present args) is = ap closes (own-reply-at (Present args) is refl)
@@ -351,7 +352,7 @@ module _ (setup : Setup) (s : SessionNo) where
         by_side true mine = rw mine (ap (λ (l : List Call). l ++ e.calls) same.carried)
         by_side false other = rw other same.carried
 
-    published-same : (kind : Kind) → e.kind ≡ kind → (l : List Call) → published kind e.reply l ≡ published kind r l
+    published-same : (kind : EntryKind) → e.kind ≡ kind → (l : List Call) → published kind e.reply l ≡ published kind r l
     published-same (Present args) is l = ap (λ (x : Reply). published (Present args) x l) (own-reply-at (Present args) is refl)
     published-same _ is l = refl
 
@@ -410,11 +411,11 @@ module _ (setup : Setup) (s : SessionNo) where
             ∙ sym (token-is-own p (events_to setup b' (with_reply e n r) s))))
         by_owner t false other = token-elsewhere setup p t other b e ∙ sym (token-elsewhere setup p t other b' (with_reply e n r))
 
-    used-view : (p : PairNo) (kind : Kind) → e.kind ≡ kind → (uses_view p kind && is_done e.reply) ≡ (uses_view p kind && is_done r)
+    used-view : (p : PairNo) (kind : EntryKind) → e.kind ≡ kind → (uses_view p kind && is_done e.reply) ≡ (uses_view p kind && is_done r)
     used-view p (View q) is = ap (λ (x : Reply). (q.0 == p.0) && is_done x) (own-reply-at (View q) is refl)
     used-view p _ is = refl
 
-    used-viewport : (p : PairNo) (kind : Kind) → e.kind ≡ kind → (uses_viewport p kind && is_done e.reply) ≡ (uses_viewport p kind && is_done r)
+    used-viewport : (p : PairNo) (kind : EntryKind) → e.kind ≡ kind → (uses_viewport p kind && is_done e.reply) ≡ (uses_viewport p kind && is_done r)
     used-viewport p (Viewport q props) is = ap (λ (x : Reply). (q.0 == p.0) && is_done x) (own-reply-at (Viewport q props) is refl)
     used-viewport p _ is = refl
 
@@ -503,12 +504,12 @@ module _ (setup : Setup) (s : SessionNo) where
       let kind : e.kind ≡ e'.kind = ap (λ (x : Entry). x.kind) entry in
       let answer : cond (is_get e.kind) e.reply Done ≡ cond (is_get e'.kind) e'.reply Done = ap (λ (x : Entry). x.reply) entry in
       let answer_here : cond (is_get e.kind) e.reply Done ≡ cond (is_get e.kind) e'.reply Done =
-      answer ∙ ap (λ (k : Kind). cond (is_get k) e'.reply Done) (sym kind) in
+      answer ∙ ap (λ (k : EntryKind). cond (is_get k) e'.reply Done) (sym kind) in
       let fences : cond (is_begin e.kind) (seen (is_signalled setup h) (presents s h)) []
       ≡ cond (is_begin e'.kind) (seen (is_signalled setup h') (presents s h')) [] = ap (λ (g : Glimpse). g.signalled) here in
       let fences_here : cond (is_begin e.kind) (seen (is_signalled setup h) (presents s h)) []
       ≡ cond (is_begin e.kind) (seen (is_signalled setup h') (presents s h')) [] =
-      fences ∙ ap (λ (k : Kind). cond (is_begin k) (seen (is_signalled setup h') (presents s h')) []) (sym kind) in
+      fences ∙ ap (λ (k : EntryKind). cond (is_begin k) (seen (is_signalled setup h') (presents s h')) []) (sym kind) in
       let is : with_reply e e'.line e'.reply ≡ e' = same-entry (with_reply e e'.line e'.reply) e' actor refl carries kind refl in
       subst (λ (x : Entry). Same (h ▹ e) (h' ▹ x)) is
       (step-same h h' e e'.line e'.reply legal.1 (subst (λ (x : Entry). LegalEntry setup h' x) (sym is) legal'.1) same beside

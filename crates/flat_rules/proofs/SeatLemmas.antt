@@ -12,8 +12,8 @@ use Rattle.flat_base.specs.declared.ids.SessionNo.{SessionNo}
 use Rattle.flat_base.specs.declared.limits.TheConstants.{SESSIONS_MAX}
 use Rattle.flat_scene.specs.declared.calls.Call.{Call}
 use Rattle.flat_scene.specs.declared.journal.Entry.{Entry}
-use Rattle.flat_scene.specs.declared.journal.Kind.{Kind}
-use Rattle.flat_scene.specs.declared.journal.Kind.TheVariants.{Close}
+use Rattle.flat_scene.specs.declared.journal.EntryKind.{EntryKind}
+use Rattle.flat_scene.specs.declared.journal.EntryKind.TheVariants.{Close}
 use Rattle.flat_scene.specs.declared.setup.Setup.{Setup}
 use Rattle.flat_scene.specs.History.{◌▹◌, own, is_session, is_display, is_begin, is_finish}
 use Rattle.flat_scene.specs.Journals.{seat_number, history_of}
@@ -40,13 +40,13 @@ module _ (setup : Setup) (few : setup.sessions ≤ SESSIONS_MAX) where
   session-number : (s : SessionNo) → is_declared setup s ≡ true → (0 < s.0) × (s.0 ≤ 16)
   session-number s declared = (grind (arith, nat_tests), grind (arith, nat_tests))
 
-  display-seat : (kind : Kind) (actor : Actor) → may_act setup kind actor ≡ true → is_display actor ≡ (seat_number actor == 0)
+  display-seat : (kind : EntryKind) (actor : Actor) → may_act setup kind actor ≡ true → is_display actor ≡ (seat_number actor == 0)
   display-seat kind Display acts = refl
   display-seat kind (Session t) acts = let some : 0 < t.0 =
       (session-number t (and-right (session_may kind) (is_declared setup t) acts)).0 in grind (arith, nat_tests)
   display-seat kind (Probe p) acts = absurd (let h : false ≡ true = acts in cc)
 
-  session-seat : (s : SessionNo) → is_declared setup s ≡ true → (kind : Kind) (actor : Actor) → may_act setup kind actor ≡ true
+  session-seat : (s : SessionNo) → is_declared setup s ≡ true → (kind : EntryKind) (actor : Actor) → may_act setup kind actor ≡ true
       → is_session s actor ≡ (seat_number actor == s.0)
   session-seat s declared kind Display acts = let some : 0 < s.0 = (session-number s declared).0 in grind (arith, nat_tests)
   session-seat s declared kind (Session t) acts = refl
@@ -64,7 +64,7 @@ seats-tell-actors setup few history legal = record {
 own-twice : (s : SessionNo) (history : List Entry) → own s (own s history) ≡ own s history
 own-twice s history = own-kept s (λ e. is_session s e.actor) (λ e mine. mine) history
 
-drafted-same : (setup : Setup) (history : List Entry) (s : SessionNo) (carries : List Call) (kind : Kind)
+drafted-same : (setup : Setup) (history : List Entry) (s : SessionNo) (carries : List Call) (kind : EntryKind)
     → has_draft setup history (Session s) carries kind ≡ has_draft setup (own s history) (Session s) carries kind
 drafted-same setup history s carries (Close reason) = rw (own-twice s history) refl
 drafted-same setup history s carries _ = rw (own-twice s history) refl

@@ -8,8 +8,8 @@ use Rattle.flat_base.specs.declared.ids.PairNo.{PairNo}
 use Rattle.flat_base.specs.declared.ids.SessionNo.{SessionNo}
 use Rattle.flat_scene.specs.declared.calls.Call.{Call}
 use Rattle.flat_scene.specs.declared.journal.Entry.{Entry}
-use Rattle.flat_scene.specs.declared.journal.Kind.{Kind}
-use Rattle.flat_scene.specs.declared.journal.Kind.TheVariants.{View, Viewport, Begin, Finish, Dpr}
+use Rattle.flat_scene.specs.declared.journal.EntryKind.{EntryKind}
+use Rattle.flat_scene.specs.declared.journal.EntryKind.TheVariants.{View, Viewport, Begin, Finish, Dpr}
 use Rattle.flat_scene.specs.declared.setup.Setup.{Setup}
 use Rattle.flat_scene.specs.Draft.{Draft}
 use Rattle.flat_rules.specs.Ends.{to_begin, to_finished, view_uses, viewport_uses, uses_view, uses_viewport, view_owner, viewport_owner, taken_calls, has_ended}
@@ -48,7 +48,7 @@ module _ (setup : Setup) (of_family : SessionNo → Bool) (closed : IsClosedFami
       by_kind false earlier = earlier
 
   -- an entry that is dropped begins and ends no frame
-  pub no-frame : (kind : Kind) (actor : Actor) → keeps of_family kind actor ≡ false → may_act setup kind actor ≡ true
+  pub no-frame : (kind : EntryKind) (actor : Actor) → keeps of_family kind actor ≡ false → may_act setup kind actor ≡ true
       → (is_begin kind ≡ false) × (is_finish kind ≡ false)
   no-frame (Begin time) Display out acts = absurd (let h : true ≡ false = out in cc)
   no-frame (Begin time) (Session t) out acts = absurd (let h : false ≡ true = acts in cc)
@@ -59,7 +59,7 @@ module _ (setup : Setup) (of_family : SessionNo → Bool) (closed : IsClosedFami
   no-frame _ actor out acts = (refl, refl)
 
   -- and it sets no pixel ratio
-  no-ratio : (kind : Kind) (actor : Actor) → keeps of_family kind actor ≡ false → may_act setup kind actor ≡ true → ratio_set kind ≡ None
+  no-ratio : (kind : EntryKind) (actor : Actor) → keeps of_family kind actor ≡ false → may_act setup kind actor ≡ true → ratio_set kind ≡ None
   no-ratio (Dpr r) Display out acts = absurd (let h : true ≡ false = out in cc)
   no-ratio (Dpr r) (Session t) out acts = absurd (let h : false ≡ true = acts in cc)
   no-ratio (Dpr r) (Probe p) out acts = absurd (let h : false ≡ true = acts in cc)
@@ -94,7 +94,7 @@ module _ (setup : Setup) (of_family : SessionNo → Bool) (closed : IsClosedFami
     pub viewport : (s : SessionNo) → owns_viewport setup s p ≡ true → of_family s ≡ true
 
   -- a dropped entry is no use of such a pair
-  pub no-view : (p : PairNo) → IsFamilyPair p → (kind : Kind) (actor : Actor) → keeps of_family kind actor ≡ false → may_act setup kind actor ≡ true
+  pub no-view : (p : PairNo) → IsFamilyPair p → (kind : EntryKind) (actor : Actor) → keeps of_family kind actor ≡ false → may_act setup kind actor ≡ true
       → ((t : SessionNo) → is_session t actor ≡ true → owns_in_kind setup t kind ≡ true) → uses_view p kind ≡ false
   no-view p pair (View q) Display out acts owns = absurd (let h : false ≡ true = acts in cc)
   no-view p pair (View q) (Probe n) out acts owns = absurd (let h : false ≡ true = acts in cc)
@@ -115,7 +115,7 @@ module _ (setup : Setup) (of_family : SessionNo → Bool) (closed : IsClosedFami
       by_side earlier true kept = rw (kept, earlier) refl
       by_side earlier false out = rw (out, no-view p pair e.kind e.actor out legal.1.may.acts (entry-owned setup before e legal.1)) earlier
 
-  pub no-viewport : (p : PairNo) → IsFamilyPair p → (kind : Kind) (actor : Actor) → keeps of_family kind actor ≡ false → may_act setup kind actor ≡ true
+  pub no-viewport : (p : PairNo) → IsFamilyPair p → (kind : EntryKind) (actor : Actor) → keeps of_family kind actor ≡ false → may_act setup kind actor ≡ true
       → ((t : SessionNo) → is_session t actor ≡ true → owns_in_kind setup t kind ≡ true) → uses_viewport p kind ≡ false
   no-viewport p pair (Viewport q props) Display out acts owns = absurd (let h : false ≡ true = acts in cc)
   no-viewport p pair (Viewport q props) (Probe n) out acts owns = absurd (let h : false ≡ true = acts in cc)

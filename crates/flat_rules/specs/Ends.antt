@@ -12,8 +12,8 @@ use Rattle.flat_scene.specs.declared.calls.Call.{Call}
 use Rattle.flat_scene.specs.declared.calls.Call.TheVariants.{ReleaseView, ReleaseViewport, Clear}
 use Rattle.flat_scene.specs.declared.calls.ViewportProps.{ViewportProps}
 use Rattle.flat_scene.specs.declared.journal.Entry.{Entry}
-use Rattle.flat_scene.specs.declared.journal.Kind.{Kind}
-use Rattle.flat_scene.specs.declared.journal.Kind.TheVariants.{View, Viewport}
+use Rattle.flat_scene.specs.declared.journal.EntryKind.{EntryKind}
+use Rattle.flat_scene.specs.declared.journal.EntryKind.TheVariants.{View, Viewport}
 use Rattle.flat_scene.specs.declared.journal.Reply.{Reply}
 use Rattle.flat_scene.specs.declared.journal.Reply.TheVariants.{Done}
 use Rattle.flat_scene.specs.declared.setup.PairDecl.{PairDecl}
@@ -31,11 +31,11 @@ is_done Done = true
 is_done _ = false
 
 -- whether an entry of this kind uses the view end of a pair, or the viewport end
-abbrev pub uses_view : PairNo → Kind → Bool
+abbrev pub uses_view : PairNo → EntryKind → Bool
 uses_view p (View q) = q.0 == p.0
 uses_view p _ = false
 
-abbrev pub uses_viewport : PairNo → Kind → Bool
+abbrev pub uses_viewport : PairNo → EntryKind → Bool
 uses_viewport p (Viewport q props) = q.0 == p.0
 uses_viewport p _ = false
 

@@ -10,7 +10,7 @@ use Rattle.flat_scene.specs.declared.calls.Watch.{Watch}
 use Rattle.flat_scene.specs.declared.journal.Entry.{Entry}
 use Rattle.flat_scene.specs.declared.journal.Event.{Event}
 use Rattle.flat_scene.specs.declared.journal.Reply.TheVariants.{Closed}
-use Rattle.flat_scene.specs.declared.journal.Told.{Told}
+use Rattle.flat_scene.specs.declared.journal.WatcherValue.{WatcherValue}
 use Rattle.flat_scene.specs.declared.setup.Setup.{Setup}
 use Rattle.flat_scene.specs.History.{◌▹◌, is_closed}
 use Rattle.flat_rules.specs.Legal.{Legal, got}
@@ -23,7 +23,7 @@ use Rattle.std.specs.Option.{option_or}
 module _ (setup : Setup) where
   -- the first value told that is there and differs from the last answer:
   -- after a history, or after one of the entries that are put onto it
-  abbrev pub first_news : Watcher → Option Told → List Entry → List Entry → Option Told
+  abbrev pub first_news : Watcher → Option WatcherValue → List Entry → List Entry → Option WatcherValue
   first_news watcher last from [] = news (told setup from watcher) last
   first_news watcher last from (later ▹ entry) =
       option_or (first_news watcher last from later) (news (told setup ((later ▹ entry) ++ from) watcher) last)
@@ -41,7 +41,7 @@ module _ (setup : Setup) where
   -- Where an entry is a get of a watcher that holds none, with this last answer, and no later entry is a get of it:
   -- as long as there is no such
   -- value the get is held, and once there is one it is answered with the first.
-  pub record AnswersFirst (watcher : Watcher) (get : Watch) (last : Option Told) (before : List Entry)
+  pub record AnswersFirst (watcher : Watcher) (get : Watch) (last : Option WatcherValue) (before : List Entry)
       (entry : Entry) : Type 0 where
     -- at the get itself it is the reply
     pub reply : entry.reply ≡ got false (first_news watcher last (before ▹ entry) [])

@@ -5,8 +5,8 @@ use Rattle.flat_base.specs.declared.ids.SessionNo.{SessionNo}
 use Rattle.flat_scene.specs.declared.journal.Entry.{Entry}
 use Rattle.flat_scene.specs.declared.journal.Event.{Event}
 use Rattle.flat_scene.specs.declared.journal.Event.TheVariants as event
-use Rattle.flat_scene.specs.declared.journal.Kind.{Kind}
-use Rattle.flat_scene.specs.declared.journal.Kind.TheVariants.{View, Viewport, Present}
+use Rattle.flat_scene.specs.declared.journal.EntryKind.{EntryKind}
+use Rattle.flat_scene.specs.declared.journal.EntryKind.TheVariants.{View, Viewport, Present}
 use Rattle.flat_scene.specs.declared.journal.Reply.{Reply}
 use Rattle.flat_scene.specs.declared.journal.Reply.TheVariants.{Done}
 use Rattle.flat_scene.specs.declared.setup.Setup.{Setup}
@@ -90,7 +90,7 @@ is_own_event (event.Told p get value) = false
 is_own_event _ = true
 
 -- the entries whose replies tokens, queues and frames alone decide
-abbrev pub has_own_reply : Kind → Bool
+abbrev pub has_own_reply : EntryKind → Bool
 has_own_reply (View p) = true
 has_own_reply (Viewport p props) = true
 has_own_reply (Present args) = true

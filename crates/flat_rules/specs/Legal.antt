@@ -19,14 +19,15 @@ use Rattle.flat_scene.specs.declared.calls.ViewportProps.{ViewportProps}
 use Rattle.flat_scene.specs.declared.journal.Entry.{Entry}
 use Rattle.flat_scene.specs.declared.journal.Event.{Event}
 use Rattle.flat_scene.specs.declared.journal.Event.TheVariants as event
-use Rattle.flat_scene.specs.declared.journal.Kind.{Kind}
-use Rattle.flat_scene.specs.declared.journal.Kind.TheVariants.{View, Viewport, Present, Get, Signal, Poll, Wait, Close}
-use Rattle.flat_scene.specs.declared.journal.Kind.TheVariants.{End, Begin, Finish, Hit, Dpr}
+use Rattle.flat_scene.specs.declared.journal.EntryKind.{EntryKind}
+use Rattle.flat_scene.specs.declared.journal.EntryKind.TheVariants.{View, Viewport, Present, Get, Signal, Poll, Wait}
+use Rattle.flat_scene.specs.declared.journal.EntryKind.TheVariants.{Close}
+use Rattle.flat_scene.specs.declared.journal.EntryKind.TheVariants.{End, Begin, Finish, Hit, Dpr}
 use Rattle.flat_scene.specs.declared.journal.Reply.{Reply}
 use Rattle.flat_scene.specs.declared.journal.Reply.TheVariants.{Done, Presented, Held, Now, Polled, Met, Unmet, Closed}
-use Rattle.flat_scene.specs.declared.journal.Told.{Told}
-use Rattle.flat_scene.specs.declared.script.Cond.{Cond}
-use Rattle.flat_scene.specs.declared.script.Cond.TheVariants as asks
+use Rattle.flat_scene.specs.declared.journal.WatcherValue.{WatcherValue}
+use Rattle.flat_scene.specs.declared.script.WaitCondition.{WaitCondition}
+use Rattle.flat_scene.specs.declared.script.WaitCondition.TheVariants as asks
 use Rattle.flat_scene.specs.declared.setup.Setup.{Setup}
 use Rattle.flat_scene.specs.History.{◌▹◌, is_begin, is_finish, is_end, is_display, is_closed, is_session, calls, own}
 use Rattle.flat_scene.specs.History.{presents}
@@ -59,7 +60,7 @@ abbrev pub is_told : Event → Bool
 is_told (event.Told p get value) = true
 is_told _ = false
 
-abbrev pub is_poll : Kind → Bool
+abbrev pub is_poll : EntryKind → Bool
 is_poll Poll = true
 is_poll _ = false
 
@@ -72,13 +73,13 @@ abbrev pub number_if : Bool → ℕ
 number_if b = cond b 1 0
 
 -- no entry of the actor after its End, and none but an End after it was closed
-abbrev pub goes_on : List Entry → Kind → Actor → Bool
+abbrev pub goes_on : List Entry → EntryKind → Actor → Bool
 goes_on before kind (Session s) = not (list_any (λ entry. is_end entry.kind) (own s before))
     && (is_end kind || not (is_closed s before))
 goes_on before kind _ = true
 
 -- the time of a begin
-abbrev pub time_of : Kind → ℕ
+abbrev pub time_of : EntryKind → ℕ
 time_of (Begin time) = time
 time_of _ = 0
 
@@ -93,7 +94,7 @@ is_frame_open [] = false
 is_frame_open (before ▹ entry) = is_begin entry.kind || (not (is_finish entry.kind) && is_frame_open before)
 
 -- Begin and Finish alternate, and begin times never fall
-abbrev pub keeps_time : List Entry → Kind → Bool
+abbrev pub keeps_time : List Entry → EntryKind → Bool
 keeps_time before (Begin time) = not (is_frame_open before) && nat_le (begin_time before) time
 keeps_time before Finish = is_frame_open before
 keeps_time before _ = true
@@ -116,7 +117,7 @@ makes_viewport p props (Some (CreateViewport c q w h inset)) = q.0 == p.0 && w =
 makes_viewport p props _ = false
 
 -- the last call of a View or a Viewport is its own
-abbrev pub own_call : Kind → Option Call → Bool
+abbrev pub own_call : EntryKind → Option Call → Bool
 own_call (View p) call = makes_view p call
 own_call (Viewport p props) call = makes_viewport p props call
 own_call _ call = true
@@ -127,7 +128,7 @@ all_but_last [] = []
 all_but_last (x ∷ xs) = cond (length xs == 0) [] (x ∷ all_but_last xs)
 
 -- no other call is a CreateView or a CreateViewport, but for the last one of a Close
-abbrev pub links_alone : Kind → List Call → Bool
+abbrev pub links_alone : EntryKind → List Call → Bool
 links_alone (View p) carries = not (list_any is_link (all_but_last carries))
 links_alone (Viewport p props) carries = not (list_any is_link (all_but_last carries))
 links_alone (Close reason) carries = not (list_any is_link (all_but_last carries))
@@ -147,7 +148,7 @@ abbrev pub frames : List Entry → ℕ
 frames history = length (filter (λ entry. is_finish entry.kind) history)
 
 -- the number that a condition asks for
-abbrev pub asked_of : Cond → ℕ
+abbrev pub asked_of : WaitCondition → ℕ
 asked_of (asks.Frames n) = n
 asked_of (asks.Credits n) = n
 asked_of (asks.Taken n) = n
@@ -160,13 +161,13 @@ abbrev pub waited : ℕ → ℕ → Reply
 waited wanted value = cond (nat_le wanted value) (Met value) (Unmet value)
 
 -- the reply to a get, where one is held, or where there is a value to tell or none
-abbrev pub got : Bool → Option Told → Reply
+abbrev pub got : Bool → Option WatcherValue → Reply
 got true value = Closed (Some BadHangingGet) None
 got false (Some value) = Now value
 got false None = Held
 
 -- the entries of the compositor, and those of a session
-abbrev pub display_may : Kind → Bool
+abbrev pub display_may : EntryKind → Bool
 display_may (Begin time) = true
 display_may Finish = true
 display_may (Hit x y) = true
@@ -176,7 +177,7 @@ display_may (Wait (asks.Presents s n)) = true
 display_may (Wait (asks.Fence f)) = true
 display_may _ = false
 
-abbrev pub session_may : Kind → Bool
+abbrev pub session_may : EntryKind → Bool
 session_may (View p) = true
 session_may (Viewport p props) = true
 session_may (Present args) = true
@@ -218,7 +219,7 @@ module _ (setup : Setup) where
       answers s before + number_if (is_session s entry.actor && is_now entry.reply) + sent_to s is_told before entry
 
   -- the value of a condition
-  abbrev pub value_of : List Entry → Actor → Cond → ℕ
+  abbrev pub value_of : List Entry → Actor → WaitCondition → ℕ
   value_of history actor (asks.Frames n) = frames history
   value_of history (Session s) (asks.Credits n) = credits setup history s
   value_of history (Session s) (asks.Taken n) = taken setup history s
@@ -247,7 +248,7 @@ module _ (setup : Setup) where
   polled_by _ history = 0
 
   -- the reply to an entry of an actor, which carries those calls
-  abbrev pub reply_to : List Entry → Actor → List Call → Kind → Reply
+  abbrev pub reply_to : List Entry → Actor → List Call → EntryKind → Reply
   reply_to before actor carries (View p) = cond (length (view_uses p before) == 0) Done refused_token
   reply_to before actor carries (Viewport p props) = cond (has_token p before) Done refused_token
   reply_to before actor carries (Present args) = reply_to_present before actor
@@ -261,7 +262,7 @@ module _ (setup : Setup) where
   -- ---- which entries there may be
 
   -- the compositor makes these entries, and each declared session those; a probe makes none
-  abbrev pub may_act : Kind → Actor → Bool
+  abbrev pub may_act : EntryKind → Actor → Bool
   may_act kind Display = display_may kind
   may_act kind (Session s) = session_may kind && is_declared setup s
   may_act kind (Probe p) = false
@@ -274,7 +275,7 @@ module _ (setup : Setup) where
   -- The calls of a session have no misuse, but that the last one of a Close may be the misuse that closes.
   -- An End says that no line was refused,
   -- unless the session was closed: then it carries no calls, and may say any number. Only a session has calls.
-  abbrev pub has_draft : List Entry → Actor → List Call → Kind → Bool
+  abbrev pub has_draft : List Entry → Actor → List Call → EntryKind → Bool
   has_draft before (Session s) carries (Close why) =
       is_some (draft_with before (Session s) (all_but_last carries))
       && may_close carries (draft_of setup (calls s before ++ carries)) why
@@ -304,7 +305,7 @@ module _ (setup : Setup) where
   owns_in_call s (CreateImage c buffers i w h) = owns_buffers s buffers
   owns_in_call s _ = true
 
-  abbrev pub owns_in_kind : SessionNo → Kind → Bool
+  abbrev pub owns_in_kind : SessionNo → EntryKind → Bool
   owns_in_kind s (View p) = owns_view s p
   owns_in_kind s (Viewport p props) = owns_viewport s p
   owns_in_kind s (Present args) = list_all (owns_fence s) args.acquire && list_all (owns_fence s) args.release
@@ -313,7 +314,7 @@ module _ (setup : Setup) where
   owns_in_kind s _ = true
 
   -- a session's entry and its calls name only what the session owns
-  abbrev pub owns_all : Actor → List Call → Kind → Bool
+  abbrev pub owns_all : Actor → List Call → EntryKind → Bool
   owns_all (Session s) carries kind = owns_in_kind s kind && list_all (owns_in_call s) carries
   owns_all _ carries kind = true
 
@@ -321,7 +322,7 @@ module _ (setup : Setup) where
   abbrev pub display_owns : FenceNo → Bool
   display_owns f = unwrap_or (option_map (λ fence. list_any is_display fence.owners) (slice_get setup.fences f.0)) false
 
-  abbrev pub names_declared : Kind → Bool
+  abbrev pub names_declared : EntryKind → Bool
   names_declared (Signal f) = display_owns f
   names_declared (Wait (asks.Fence f)) = display_owns f
   names_declared (Wait (asks.Presents s n)) = is_declared setup s
@@ -329,22 +330,22 @@ module _ (setup : Setup) where
   names_declared _ = true
 
   -- a session may name what it owns, and that is asked elsewhere
-  abbrev pub may_name : Actor → Kind → Bool
+  abbrev pub may_name : Actor → EntryKind → Bool
   may_name Display kind = names_declared kind
   may_name _ kind = true
 
   -- a present is no misuse of its draft, and a get has a watcher
-  abbrev pub has_tree : Option Draft → Kind → Bool
+  abbrev pub has_tree : Option Draft → EntryKind → Bool
   has_tree (Some draft) (Present args) = is_none (first_reason (present_tests draft args))
   has_tree None (Present args) = false
   has_tree draft _ = true
 
-  abbrev pub has_watcher : List Entry → Actor → List Call → Kind → Bool
+  abbrev pub has_watcher : List Entry → Actor → List Call → EntryKind → Bool
   has_watcher before actor carries (Get get) = is_some (watcher_of setup before actor carries get)
   has_watcher before actor carries _ = true
 
   -- What an entry must meet, by what was before it and whatever its reply: a call of the service makes it only then.
-  pub record MayEnter (before : List Entry) (actor : Actor) (carries : List Call) (kind : Kind) : Type 0 where
+  pub record MayEnter (before : List Entry) (actor : Actor) (carries : List Call) (kind : EntryKind) : Type 0 where
     pub acts : IsTrue (may_act kind actor)
     pub lasts : IsTrue (goes_on before kind actor)
     pub times : IsTrue (keeps_time before kind)

@@ -4,12 +4,12 @@ use Rattle.std.specs.List.{list_all}
 use Rattle.flat_base.specs.declared.ids.SessionNo.{SessionNo}
 use Rattle.flat_scene.specs.declared.calls.Call.{Call}
 use Rattle.flat_scene.specs.declared.calls.Call.TheVariants.{CreateView, CreateViewport, CreateImage}
-use Rattle.flat_scene.specs.declared.script.Cond.{Cond}
-use Rattle.flat_scene.specs.declared.script.Cond.TheVariants as asks
+use Rattle.flat_scene.specs.declared.script.WaitCondition.{WaitCondition}
+use Rattle.flat_scene.specs.declared.script.WaitCondition.TheVariants as asks
 use Rattle.flat_scene.specs.declared.script.DisplayLine.{DisplayLine}
 use Rattle.flat_scene.specs.declared.script.DisplayLine.TheVariants as display
-use Rattle.flat_scene.specs.declared.script.Line.{Line}
-use Rattle.flat_scene.specs.declared.script.Line.TheVariants as line
+use Rattle.flat_scene.specs.declared.script.SessionLine.{SessionLine}
+use Rattle.flat_scene.specs.declared.script.SessionLine.TheVariants as line
 use Rattle.flat_scene.specs.declared.setup.Setup.{Setup}
 use Rattle.flat_scene.specs.Setups.{is_declared, is_ratio}
 use Rattle.flat_rules.specs.Legal.{owns_view, owns_viewport, owns_fence, owns_buffers, display_owns}
@@ -29,7 +29,7 @@ is_played_call setup s (CreateViewport c pair w h inset) = owns_viewport setup s
 is_played_call setup s call = is_private setup s call
 
 -- what a session may wait for: a fence is its own
-abbrev pub is_played_condition : Setup → SessionNo → Cond → Bool
+abbrev pub is_played_condition : Setup → SessionNo → WaitCondition → Bool
 is_played_condition setup s (asks.Frames n) = true
 is_played_condition setup s (asks.Credits n) = true
 is_played_condition setup s (asks.Taken n) = true
@@ -38,7 +38,7 @@ is_played_condition setup s (asks.Fence f) = owns_fence setup s f
 is_played_condition setup s (asks.Presents other n) = false
 
 -- a line of a session: it names only what the session owns
-abbrev pub is_played_line : Setup → SessionNo → Line → Bool
+abbrev pub is_played_line : Setup → SessionNo → SessionLine → Bool
 is_played_line setup s (line.Call call) = is_played_call setup s call
 is_played_line setup s (line.Present args) =
     list_all (owns_fence setup s) args.acquire && list_all (owns_fence setup s) args.release

@@ -7,7 +7,7 @@ use Rattle.flat_scene.specs.declared.calls.Watch.{Watch}
 use Rattle.flat_scene.specs.declared.journal.Entry.{Entry}
 use Rattle.flat_scene.specs.declared.journal.Event.{Event}
 use Rattle.flat_scene.specs.declared.journal.Event.TheVariants as event
-use Rattle.flat_scene.specs.declared.journal.Told.{Told}
+use Rattle.flat_scene.specs.declared.journal.WatcherValue.{WatcherValue}
 use Rattle.flat_scene.specs.declared.setup.Setup.{Setup}
 use Rattle.flat_scene.specs.History.{◌▹◌, is_begin, is_finish, is_closed}
 use Rattle.flat_scene.specs.Frames.{taken, credits, sessions_to}
@@ -28,7 +28,7 @@ pub record Sent : Type 0 where
   pub event : Event
 
 -- the answer to a held get, as an event
-abbrev pub event_of : PairNo → Option Watch → Option Told → List Event
+abbrev pub event_of : PairNo → Option Watch → Option WatcherValue → List Event
 event_of p (Some get) (Some value) = event.Told p get value ∷ []
 event_of p _ _ = []
 

@@ -5,7 +5,7 @@ use Rattle.flat_base.specs.declared.ids.SessionNo.{SessionNo}
 use Rattle.flat_base.specs.declared.limits.TheConstants.{SESSIONS_MAX}
 use Rattle.flat_scene.specs.declared.calls.Call.{Call}
 use Rattle.flat_scene.specs.declared.journal.Entry.{Entry}
-use Rattle.flat_scene.specs.declared.journal.Kind.{Kind}
+use Rattle.flat_scene.specs.declared.journal.EntryKind.{EntryKind}
 use Rattle.flat_scene.specs.declared.setup.Setup.{Setup}
 use Rattle.flat_scene.specs.History.{own, is_display, is_closed}
 use Rattle.flat_scene.specs.Journals.{seat_number, history_of}
@@ -34,10 +34,10 @@ SeatsTellActors = (setup : Setup) → setup.sessions ≤ SESSIONS_MAX → (histo
 -- whether it is open and had no End, and the draft of its calls.
 pub record KnowsItself (setup : Setup) (history : List Entry) (s : SessionNo) : Type 0 where
   pub closed : is_closed s history ≡ is_closed s (own s history)
-  pub lasts : (kind : Kind) → goes_on history kind (Session s) ≡ goes_on (own s history) kind (Session s)
+  pub lasts : (kind : EntryKind) → goes_on history kind (Session s) ≡ goes_on (own s history) kind (Session s)
   pub draft : (carries : List Call) → draft_with setup history (Session s) carries
       ≡ draft_with setup (own s history) (Session s) carries
-  pub drafted : (carries : List Call) (kind : Kind)
+  pub drafted : (carries : List Call) (kind : EntryKind)
       → has_draft setup history (Session s) carries kind ≡ has_draft setup (own s history) (Session s) carries kind
 
 abbrev pub SessionsKnowThemselves : Type 0

@@ -10,10 +10,10 @@ use Rattle.flat_scene.specs.declared.calls.ViewportProps.{ViewportProps}
 use Rattle.flat_scene.specs.declared.calls.Watch.{Watch}
 use Rattle.flat_scene.specs.declared.calls.Watch.TheVariants as watch
 use Rattle.flat_scene.specs.declared.journal.Entry.{Entry}
-use Rattle.flat_scene.specs.declared.journal.Kind.{Kind}
-use Rattle.flat_scene.specs.declared.journal.Kind.TheVariants.{Viewport, Get}
-use Rattle.flat_scene.specs.declared.journal.Told.{Told}
-use Rattle.flat_scene.specs.declared.journal.Told.TheVariants as tell
+use Rattle.flat_scene.specs.declared.journal.EntryKind.{EntryKind}
+use Rattle.flat_scene.specs.declared.journal.EntryKind.TheVariants.{Viewport, Get}
+use Rattle.flat_scene.specs.declared.journal.WatcherValue.{WatcherValue}
+use Rattle.flat_scene.specs.declared.journal.WatcherValue.TheVariants as tell
 use Rattle.flat_scene.specs.declared.setup.Setup.{Setup}
 use Rattle.flat_scene.specs.History.{◌▹◌, is_finish, is_closed, calls}
 use Rattle.flat_scene.specs.Draft.{Draft, Made, a_viewport, made_of, no_inset}
@@ -41,7 +41,7 @@ same_watcher (child_of p m) (child_of q n) = p.0 == q.0 && m == n
 same_watcher _ _ = false
 
 -- the layout that the properties of a viewport give at a pixel ratio
-abbrev pub layout_in : ℕ → ViewportProps → Told
+abbrev pub layout_in : ℕ → ViewportProps → WatcherValue
 layout_in ratio props = tell.Layout (record { w = props.w; h = props.h; inset = props.inset; ratio = ratio })
 
 -- a side of the display in logical units, of which there is one at least
@@ -54,7 +54,7 @@ display_props ratio setup =
     record { w = logical_side ratio setup.width; h = logical_side ratio setup.height; inset = no_inset }
 
 -- the properties with which an entry uses a viewport end
-abbrev pub props_at : Kind → Option ViewportProps
+abbrev pub props_at : EntryKind → Option ViewportProps
 props_at (Viewport p props) = Some props
 props_at _ = None
 
@@ -96,7 +96,7 @@ module _ (setup : Setup) where
   props_told _ history p = None
 
   -- the layout of a pair's view
-  abbrev pub told_layout : List Entry → PairNo → Option Told
+  abbrev pub told_layout : List Entry → PairNo → Option WatcherValue
   told_layout history p =
       cond (is_viewport_lost setup (to_finished history) p) (Some tell.Gone)
       (cond (are_joined history p)
@@ -112,20 +112,20 @@ module _ (setup : Setup) where
       && unwrap_or (option_map (is_connected setup history) (view_owner setup p)) false
 
   -- the status of a pair's view
-  abbrev pub told_status : List Entry → PairNo → Option Told
+  abbrev pub told_status : List Entry → PairNo → Option WatcherValue
   told_status history p =
       cond (is_viewport_lost setup (to_finished history) p) (Some tell.Gone)
       (cond (are_joined history p)
       (Some (cond (is_connected_by (to_finished history) p) tell.Connected tell.Disconnected)) None)
 
   -- whether the child of a pair has presented
-  abbrev pub told_child : List Entry → PairNo → Option Told
+  abbrev pub told_child : List Entry → PairNo → Option WatcherValue
   told_child history p =
       cond (is_view_lost setup (to_finished history) p) (Some tell.Gone)
       (cond (shows_view (to_finished history) p) (Some tell.HasPresented) None)
 
   -- the value of a watcher after a history
-  abbrev pub told : List Entry → Watcher → Option Told
+  abbrev pub told : List Entry → Watcher → Option WatcherValue
   told history (layout_of p) = told_layout history p
   told history (status_of p) = told_status history p
   told history (child_of p n) = told_child history p
@@ -154,7 +154,7 @@ module _ (setup : Setup) where
   is_watcher watcher other = unwrap_or (option_map (same_watcher watcher) other) false
 
   -- the get of a watcher that an entry makes
-  abbrev pub asked_in : Watcher → List Entry → Entry → Kind → Option Watch
+  abbrev pub asked_in : Watcher → List Entry → Entry → EntryKind → Option Watch
   asked_in watcher before entry (Get get) =
       cond (is_watcher watcher (watcher_of before entry.actor entry.calls get)) (Some get) None
   asked_in watcher before entry _ = None

@@ -9,14 +9,14 @@ use Rattle.flat_io.specs.Told.{Appends}
 use Rattle.flat_io.specs.Whole.{AppendsPrefix}
 use Rattle.flat_io.specs.Reads.{Given}
 use Rattle.flat_scene.specs.declared.frames.FrameOut.{FrameOut}
-use Rattle.flat_render.specs.declared.grid.TheConstants.{PIXELS_MAX}
+use Rattle.flat_render.specs.declared.tile_grid.TheConstants.{PIXELS_MAX}
 use Rattle.flat_places.specs.declared.script.Script.{Script}
 use Rattle.flat_script.specs.declared.script.ScriptFault.{ScriptFault}
 use Rattle.flat_stress.specs.Load.{load_text}
-use Rattle.flat_words.specs.declared.form.Form.{Form}
-use Rattle.flat_words.specs.declared.form.Form.TheVariants.{Play, Race, Stress, Render, Damage, Focus, Pointer, Judge, Why, Film}
+use Rattle.flat_words.specs.declared.service_word.ServiceWord.{ServiceWord}
+use Rattle.flat_words.specs.declared.service_word.ServiceWord.TheVariants.{Play, Race, Stress, Render, Damage, Focus, Pointer, Judge, Why, Film}
 use Rattle.flat_words.specs.Forms.{CallFor}
-use Rattle.flat_run.specs.declared.reading.Reading.{Reading}
+use Rattle.flat_run.specs.declared.reading.ParsedText.{ParsedText}
 use Rattle.flat_run.specs.declared.given.Given.TheVariants as given
 use Rattle.flat_run.specs.declared.given.Given as gave
 use Rattle.flat_run.specs.Answering.{IsDenied, IsGiven, IsRead, IsScriptFor, IsTurnedAway}
@@ -29,12 +29,13 @@ use Rattle.flat_run.specs.Promise.{IsAnswer, IsWhole, IsCutOff, Gives, IsThere}
 use Rattle.flat_places.specs.declared.kinds.FaultKind.TheVariants.{TooLong}
 
 -- the form that was found is that of the words
-pub called_for : (words : List (List ℕ)) (found : Option Form) (form : Form) → found ≡ Some form → IfSome found (λ f. CallFor words f) → CallFor words form
-called_for words found form is holds = subst (λ (o : Option Form). IfSome o (λ f. CallFor words f)) is holds
+pub called_for : (words : List (List ℕ)) (found : Option ServiceWord) (form : ServiceWord) → found ≡ Some form → IfSome found (λ f. CallFor words f)
+    → CallFor words form
+called_for words found form is holds = subst (λ (o : Option ServiceWord). IfSome o (λ f. CallFor words f)) is holds
 
 -- where none was found, the words call for none
-pub none_called : {E : Type 0} (words : List (List ℕ)) (answer : Result (Option Form) E) → answer ≡ Ok None
-    → ((form : Form) → CallFor words form → IfOk answer (λ found. found ≡ Some form)) → CallForNothing words
+pub none_called : {E : Type 0} (words : List (List ℕ)) (answer : Result (Option ServiceWord) E) → answer ≡ Ok None
+    → ((form : ServiceWord) → CallFor words form → IfOk answer (λ found. found ≡ Some form)) → CallForNothing words
 none_called words answer is only form calls =
     let found : None ≡ Some form = subst (λ r. IfOk r (λ found. found ≡ Some form)) is (only form calls) in cc
 
@@ -44,7 +45,7 @@ none_called words answer is only form calls =
 is_long : (bytes : List ℕ) → SCRIPT_BYTES_MAX < length bytes → nat_lt SCRIPT_BYTES_MAX (length bytes) ≡ true
 is_long bytes long = lt-ltb SCRIPT_BYTES_MAX (length bytes) long
 
-too_long : (form : Form) (bytes : List ℕ) → SCRIPT_BYTES_MAX < length bytes → form_read form bytes ≡ Err (record { line = 0; kind = TooLong })
+too_long : (form : ServiceWord) (bytes : List ℕ) → SCRIPT_BYTES_MAX < length bytes → form_read form bytes ≡ Err (record { line = 0; kind = TooLong })
 too_long Play bytes long = rw (is_long bytes long) refl
 too_long Race bytes long = rw (is_long bytes long) refl
 too_long (Stress asked) bytes long = rw (is_long bytes long) refl
@@ -124,16 +125,18 @@ answered_or_fault result status expected either is not_5 =
 -- ---- where a script is there
 
 -- the form of the words is the one that was found
-pub one_form : (found : Option Form) (mine form : Form) → found ≡ Some mine → found ≡ Some form → form ≡ mine
+pub one_form : (found : Option ServiceWord) (mine form : ServiceWord) → found ≡ Some mine → found ≡ Some form → form ≡ mine
 one_form found mine form is only = cc
 
-refuses_none : (form : Form) (bytes bytes' text : List ℕ) (reading : Reading) → form_read form bytes ≡ Ok reading → bytes ≡ bytes' → Refuses form bytes' text
+refuses_none : (form : ServiceWord) (bytes bytes' text : List ℕ) (reading : ParsedText) → form_read form bytes ≡ Ok reading → bytes ≡ bytes'
+    → Refuses form bytes' text
     → ⊥
 refuses_none form bytes bytes' text reading read same refuses =
     let both : Ok reading ≡ Err refuses.fault = sym read ∙ ap (form_read form) same ∙ refuses.read in
     cc
 
-module _ (form : Form) (IsOfSort : Script → Type 0) (left left' : Option (List ℕ)) (failed failed' : ℕ) (gives : Gives form IsOfSort left left' failed failed')
+module _ (form : ServiceWord) (IsOfSort : Script → Type 0) (left left' : Option (List ℕ)) (failed failed' : ℕ)
+    (gives : Gives form IsOfSort left left' failed failed')
   where
     -- what it gave is all that was read
     gives_all : (bytes : List ℕ) → AreAll bytes left left' → gives.given ≡ bytes
@@ -160,7 +163,7 @@ module _ (form : Form) (IsOfSort : Script → Type 0) (left left' : Option (List
         by_given (inr many) = refuses_none form gives.given refused.bytes text gives.reading gives.read (gives_many refused.bytes many) refused.refuses
 
     -- it is read as what it gives
-    reads_it : (bytes : List ℕ) (reading : Reading) → AreAll bytes left left' → form_read form bytes ≡ Ok reading → gives.reading ≡ reading
+    reads_it : (bytes : List ℕ) (reading : ParsedText) → AreAll bytes left left' → form_read form bytes ≡ Ok reading → gives.reading ≡ reading
     reads_it bytes reading all read =
         let both : Ok gives.reading ≡ Ok reading = sym gives.read ∙ ap (form_read form) (gives_all bytes all) ∙ read in
         cc
@@ -168,7 +171,7 @@ module _ (form : Form) (IsOfSort : Script → Type 0) (left left' : Option (List
 over : (limit size : ℕ) → size ≤ limit → limit < size → ⊥
 over limit size most more = omega (arith, most, more)
 
-too_large_to_fit : (form : Form) (script : Script) → Fits form script → IsTooLarge form script → ⊥
+too_large_to_fit : (form : ServiceWord) (script : Script) → Fits form script → IsTooLarge form script → ⊥
 too_large_to_fit Render script fits large = over PIXELS_MAX (pixels script) fits large
 too_large_to_fit Film script fits (inl large) = over PIXELS_MAX (pixels script) fits.0 large
 too_large_to_fit Film script fits (inr large) = over FILM_PIXELS_MAX (dones script * pixels script) fits.1 large
@@ -182,7 +185,7 @@ too_large_to_fit Judge script fits large = large
 too_large_to_fit Why script fits large = large
 
 -- a form that writes pictures reads a script
-large_is_read : (form : Form) (script : Script) → IsTooLarge form script → is_read form ≡ true
+large_is_read : (form : ServiceWord) (script : Script) → IsTooLarge form script → is_read form ≡ true
 large_is_read (Stress asked) script large = absurd large
 large_is_read Play script large = refl
 large_is_read Race script large = refl
@@ -195,7 +198,7 @@ large_is_read Why script large = refl
 large_is_read Film script large = refl
 
 -- what a form whose script is read has there
-gives_of : (form : Form) (left left' : Option (List ℕ)) (failed failed' : ℕ) → is_read form ≡ true → IsThere form left left' failed failed'
+gives_of : (form : ServiceWord) (left left' : Option (List ℕ)) (failed failed' : ℕ) → is_read form ≡ true → IsThere form left left' failed failed'
     → Gives form (Fits form) left left' failed failed'
 gives_of Play left left' failed failed' read there = there
 gives_of Race left left' failed failed' read there = there
@@ -209,20 +212,21 @@ gives_of Why left left' failed failed' read there = there
 gives_of Film left left' failed failed' read there = there
 
 -- no read failed, where one was made
-pub there_no_read_fault : (form form' : Form) (left left' : Option (List ℕ)) (failed failed' : ℕ) → form' ≡ form → IsThere form left left' failed failed'
+pub there_no_read_fault : (form form' : ServiceWord) (left left' : Option (List ℕ)) (failed failed' : ℕ) → form' ≡ form → IsThere form left left' failed failed'
     → is_read form' ≡ true → IsTrue (has_risen failed failed') → ⊥
 there_no_read_fault form form' left left' failed failed' same there read risen =
     let gives = gives_of form left left' failed failed' (sym (ap is_read same) ∙ read) there in
     let both : true ≡ false = sym risen ∙ gives.steady in cc
 
-pub large_no_read_fault : (form : Form) (left left' : Option (List ℕ)) (failed failed' : ℕ) → Gives form (IsTooLarge form) left left' failed failed'
+pub large_no_read_fault : (form : ServiceWord) (left left' : Option (List ℕ)) (failed failed' : ℕ) → Gives form (IsTooLarge form) left left' failed failed'
     → IsTrue (has_risen failed failed') → ⊥
 large_no_read_fault form left left' failed failed' there risen = let both : true ≡ false = sym risen ∙ there.steady in cc
 
 -- ---- what is answered
 
 -- the text of a script that is read is all that was read
-pub text_of : (form : Form) → is_read form ≡ true → (left left' : Option (List ℕ)) (bytes : List ℕ) → AreAll bytes left left' → AreTextOf form left left' bytes
+pub text_of : (form : ServiceWord) → is_read form ≡ true → (left left' : Option (List ℕ)) (bytes : List ℕ) → AreAll bytes left left'
+    → AreTextOf form left left' bytes
 text_of (Stress asked) read left left' bytes all = absurd (let wrong : false ≡ true = read in cc)
 text_of Play read left left' bytes all = all
 text_of Race read left left' bytes all = all
@@ -237,20 +241,20 @@ text_of Film read left left' bytes all = all
 -- ---- what is refused
 
 -- a text with a fault
-pub denied : (form : Form) (bytes : List ℕ) (fault : ScriptFault) → form_read form bytes ≡ Err fault → (status : ℕ) (text : List ℕ) → status ≡ 3
+pub denied : (form : ServiceWord) (bytes : List ℕ) (fault : ScriptFault) → form_read form bytes ≡ Err fault → (status : ℕ) (text : List ℕ) → status ≡ 3
     → text ≡ fault_line fault → IsDenied form bytes status text
 denied form bytes fault read status text is_3 is = subst (λ n. IsDenied form bytes n text) (sym is_3)
     (IsDenied.refusal (record { fault = fault; read = read; is = is }))
 
 -- a script whose display is too large
-pub denied_large : (form : Form) (bytes : List ℕ) (reading : Reading) → form_read form bytes ≡ Ok reading → IsTooLarge form reading.script
+pub denied_large : (form : ServiceWord) (bytes : List ℕ) (reading : ParsedText) → form_read form bytes ≡ Ok reading → IsTooLarge form reading.script
     → (status : ℕ) (text : List ℕ) → status ≡ 7 → text ≡ large_line → IsDenied form bytes status text
 denied_large form bytes reading read is status text is_7 text_is =
     let large : AreTooLarge form bytes = record { reading = reading; read = read; large = is } in
     subst (λ n. IsDenied form bytes n text) (sym is_7) (subst (λ t. IsDenied form bytes 7 t) (sym text_is) (IsDenied.too_large large))
 
 -- what was read whole is all that a source gave
-pub whole_is_given : (form : Form) (left left' : Option (List ℕ)) (bytes bytes' : List ℕ) (given : gave.Given) → bytes ≡ bytes'
+pub whole_is_given : (form : ServiceWord) (left left' : Option (List ℕ)) (bytes bytes' : List ℕ) (given : gave.Given) → bytes ≡ bytes'
     → Given left left' (λ given after. (given ≡ bytes') × (after ≡ [])) → IsRead form bytes given → IsGiven form left left' given
 whole_is_given form left left' bytes bytes' (given.Script reading) same it read =
     let P : List ℕ → Type 0 = λ b. IsScriptFor form b reading in
@@ -264,7 +268,7 @@ whole_is_given form left left' bytes bytes' (given.Refused answer) same it read 
     by status text (IsDenied.too_large large) = IsTurnedAway.too_large bytes' (all_read left left' bytes' it) large
 
 -- more bytes than a script may have
-pub long_is_refused : (form : Form) (left left' : Option (List ℕ)) → Given left left' (λ given after. SCRIPT_BYTES_MAX < length given)
+pub long_is_refused : (form : ServiceWord) (left left' : Option (List ℕ)) → Given left left' (λ given after. SCRIPT_BYTES_MAX < length given)
     → (status : ℕ) (text : List ℕ) → status ≡ 3 → text ≡ fault_line (record { line = 0; kind = TooLong }) → IsTurnedAway form left left' status text
 long_is_refused form left left' it status text is_3 is =
     let many = too_many left left' it in
@@ -279,13 +283,13 @@ long_is_refused form left left' it status text is_3 is =
 module _ {D : Type 0} (shown : D → Option (List FrameOut)) (faults : D → ℕ) (olds news : List D) where
   module _ (words : List (List ℕ)) (left left' : Option (List ℕ)) where
     -- what a source gave was refused
-    pub turned_away : (form : Form) → is_read form ≡ true → CallFor words form → (status : ℕ) (text : List ℕ) → news ≡ olds
+    pub turned_away : (form : ServiceWord) → is_read form ≡ true → CallFor words form → (status : ℕ) (text : List ℕ) → news ≡ olds
         → IsTurnedAway form left left' status text → IsAnswer shown faults olds news words left left' status text
     turned_away form read calls status text same (IsTurnedAway.refusal refused) = IsAnswer.refusal form calls read refused same
     turned_away form read calls status text same (IsTurnedAway.too_large bytes all large) = IsAnswer.too_large form bytes calls all large same
 
     -- what it gave was run
-    pub read_told : (form : Form) → is_read form ≡ true → CallFor words form → (bytes : List ℕ) → AreAll bytes left left' → (status : ℕ) (text : List ℕ)
+    pub read_told : (form : ServiceWord) → is_read form ≡ true → CallFor words form → (bytes : List ℕ) → AreAll bytes left left' → (status : ℕ) (text : List ℕ)
         → status ≡ 0 → IsTold shown faults olds news form bytes text → IsAnswer shown faults olds news words left left' status text
     read_told form read calls bytes all status text is_0 told =
         subst (λ n. IsAnswer shown faults olds news words left left' n text) (sym is_0)
@@ -312,7 +316,8 @@ module _ {D : Type 0} (shown : D → Option (List FrameOut)) (faults : D → ℕ
     -- ---- where a script is there
 
     -- then nothing but what ran is told
-    pub only_told : (form : Form) (failed failed' : ℕ) → CallFor words form → ((f : Form) → CallFor words f → f ≡ form) → IsThere form left left' failed failed'
+    pub only_told : (form : ServiceWord) (failed failed' : ℕ) → CallFor words form → ((f : ServiceWord) → CallFor words f → f ≡ form)
+        → IsThere form left left' failed failed'
         → (status : ℕ) (text : List ℕ) → IsAnswer shown faults olds news words left left' status text → status ≡ 0
     only_told form failed failed' calls one there status text (IsAnswer.usage nothing same) = absurd (nothing form calls)
     only_told form failed failed' calls one there status text (IsAnswer.refusal form' calls' read refused same) =
@@ -324,14 +329,14 @@ module _ {D : Type 0} (shown : D → Option (List FrameOut)) (faults : D → ℕ
         let gives : Gives form' (Fits form') left left' failed failed' =
         gives_of form' left left' failed failed' (large_is_read form' large.reading.script large.large) here in
         let reads : gives.reading ≡ large.reading = reads_it form' (Fits form') left left' failed failed' gives bytes large.reading all large.read in
-        let fits : Fits form' large.reading.script = subst (λ (r : Reading). Fits form' r.script) reads gives.sort in
+        let fits : Fits form' large.reading.script = subst (λ (r : ParsedText). Fits form' r.script) reads gives.sort in
         absurd (too_large_to_fit form' large.reading.script fits large.large)
     only_told form failed failed' calls one there status text (IsAnswer.judged bytes calls' all is same) =
         absurd (subst (λ f. IsThere f left left' failed failed') (sym (one Judge calls')) there)
     only_told form failed failed' calls one there status text (IsAnswer.told form' bytes calls' of told) = refl
 
     -- or that a picture would be too large
-    pub only_large : (form : Form) (failed failed' : ℕ) → CallFor words form → ((f : Form) → CallFor words f → f ≡ form)
+    pub only_large : (form : ServiceWord) (failed failed' : ℕ) → CallFor words form → ((f : ServiceWord) → CallFor words f → f ≡ form)
         → Gives form (IsTooLarge form) left left' failed failed'
         → (status : ℕ) (text : List ℕ) → IsAnswer shown faults olds news words left left' status text → status ≡ 7
     only_large form failed failed' calls one there status text (IsAnswer.usage nothing same) = absurd (nothing form calls)
@@ -348,10 +353,10 @@ module _ {D : Type 0} (shown : D → Option (List FrameOut)) (faults : D → ℕ
         let tells : Tells form bytes text = subst (λ f. Tells f bytes text) is told.0 in
         let reads : there.reading ≡ tells.ran.reading = reads_it form (IsTooLarge form) left left' failed failed' there bytes tells.ran.reading all
         tells.read in
-        let large : IsTooLarge form tells.ran.reading.script = subst (λ (r : Reading). IsTooLarge form r.script) reads there.sort in
+        let large : IsTooLarge form tells.ran.reading.script = subst (λ (r : ParsedText). IsTooLarge form r.script) reads there.sort in
         absurd (too_large_to_fit form tells.ran.reading.script tells.has_run.fits large)
       where
-        all_of : (f : Form) → is_read f ≡ true → (bs : List ℕ) → AreTextOf f left left' bs → AreAll bs left left'
+        all_of : (f : ServiceWord) → is_read f ≡ true → (bs : List ℕ) → AreTextOf f left left' bs → AreAll bs left left'
         all_of (Stress asked) read bs it = absurd (let wrong : false ≡ true = read in cc)
         all_of Play read bs it = it
         all_of Race read bs it = it

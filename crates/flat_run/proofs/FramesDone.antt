@@ -6,10 +6,10 @@ use Rattle.std.proofs.lemmas.Grind.{common_steps}
 use Rattle.flat_base.specs.declared.ids.Actor.{Actor}
 use Rattle.flat_base.specs.declared.ids.Actor.TheVariants.{Display, Session, Probe}
 use Rattle.flat_scene.specs.declared.journal.Entry.{Entry}
-use Rattle.flat_scene.specs.declared.journal.Kind.{Kind}
-use Rattle.flat_scene.specs.declared.journal.Kind.TheVariants as kind
-use Rattle.flat_scene.specs.declared.script.Body.{Body}
-use Rattle.flat_scene.specs.declared.script.Body.TheVariants as body
+use Rattle.flat_scene.specs.declared.journal.EntryKind.{EntryKind}
+use Rattle.flat_scene.specs.declared.journal.EntryKind.TheVariants as kind
+use Rattle.flat_scene.specs.declared.script.LineBody.{LineBody}
+use Rattle.flat_scene.specs.declared.script.LineBody.TheVariants as body
 use Rattle.flat_scene.specs.declared.script.DisplayLine.{DisplayLine}
 use Rattle.flat_scene.specs.declared.script.DisplayLine.TheVariants as display
 use Rattle.flat_scene.specs.declared.script.ScriptLine.{ScriptLine}
@@ -121,7 +121,7 @@ counted lines (before ▹ entry) rise (follows, first) =
 
 -- ---- the lines of a script
 
-rises-more : (n number : ℕ) (text : Body) (later : List (ℕ × DisplayLine)) → n < number → Rises number later → Rises n (display_line number text ++ later)
+rises-more : (n number : ℕ) (text : LineBody) (later : List (ℕ × DisplayLine)) → n < number → Rises number later → Rises n (display_line number text ++ later)
 rises-more n number (body.Display text) later less rise = (less, rise)
 rises-more n number (body.Session text) later less rise = rises-below n number later (omega arith) rise
 rises-more n number (body.Probe text) later less rise = rises-below n number later (omega arith) rise
@@ -139,7 +139,7 @@ same-done (display.Wait c) = refl
 same-done (display.Hit x y) = refl
 same-done (display.Dpr ratio) = refl
 
-done-line : (number : ℕ) (text : Body) (later : List (ℕ × DisplayLine))
+done-line : (number : ℕ) (text : LineBody) (later : List (ℕ × DisplayLine))
     → dones_in (display_line number text ++ later) ≡ cond (ends_frame text) 1 0 + dones_in later
 done-line number (body.Display text) later = ap (λ b. cond b 1 0 + dones_in later) (sym (same-done text))
 done-line number (body.Session text) later = sym (zero-add (dones_in later))
@@ -160,7 +160,7 @@ abbrev number_of : Bool → ℕ
 number_of b = cond b 1 0
 
 -- how many frames an entry finishes, by who makes it
-one-more : (setup : Setup) (k : Kind) (actor : Actor) → may_act setup k actor ≡ true
+one-more : (setup : Setup) (k : EntryKind) (actor : Actor) → may_act setup k actor ≡ true
     → cond (is_display actor) (number_of (is_finish k)) 0 ≡ number_of (is_finish k)
 one-more setup k Display may = refl
 one-more setup k (Session s) may = ap number_of (sym (not-finish k (and-left (session_may k) _ may)))

@@ -1,9 +1,9 @@
 -- A script that isn't raced has one history, and one text for each form.
 use Rattle.std.proofs.Common.{◌≡◌, ◌≢◌, ℕ, List, [], ◌∷◌, map, reverse, refl, subst, sym, ap, ◌∙◌}
-use Rattle.flat_scene.specs.declared.frames.Lost.{Lost}
+use Rattle.flat_scene.specs.declared.frames.LostDisplay.{LostDisplay}
 use Rattle.flat_scene.specs.declared.journal.Entry.{Entry}
-use Rattle.flat_words.specs.declared.form.Form.{Form}
-use Rattle.flat_words.specs.declared.form.Form.TheVariants.{Play, Race, Stress, Render, Damage, Focus, Pointer, Judge, Why, Film}
+use Rattle.flat_words.specs.declared.service_word.ServiceWord.{ServiceWord}
+use Rattle.flat_words.specs.declared.service_word.ServiceWord.TheVariants.{Play, Race, Stress, Render, Damage, Focus, Pointer, Judge, Why, Film}
 use Rattle.flat_damage.specs.Unchanged.{DamageIsOne}
 use Rattle.flat_focus.specs.Text.{focus_text}
 use Rattle.flat_pointer.specs.Text.{pointer_text}
@@ -11,7 +11,7 @@ use Rattle.flat_report.specs.Report.{finished}
 use Rattle.flat_scene.specs.declared.frames.DrawItem.{DrawItem}
 use Rattle.flat_scene.specs.declared.frames.FrameOut.{FrameOut}
 use Rattle.flat_stress.specs.Summary.{summary_line}
-use Rattle.flat_texts.specs.declared.damage.Damaged.{Damaged}
+use Rattle.flat_texts.specs.declared.damage.FrameDamage.{FrameDamage}
 use Rattle.flat_texts.specs.Damages.{AreDamaged, damaged_text}
 use Rattle.flat_texts.specs.Lines.{finish_lines}
 use Rattle.flat_texts.specs.Films.{film_text}
@@ -20,7 +20,7 @@ use Rattle.flat_why.specs.Text.{why_text}
 use Rattle.flat_play.specs.Touches.{touch_of}
 use Rattle.flat_play.specs.InTurn.{seen_in_turn}
 use Rattle.flat_report.specs.Laws.{WrittenHistoriesAreOne}
-use Rattle.flat_run.specs.declared.reading.Reading.{Reading}
+use Rattle.flat_run.specs.declared.reading.ParsedText.{ParsedText}
 use Rattle.flat_run.specs.Answering.{ran_of}
 use Rattle.flat_run.specs.Forms.{form_read, report_of, IsTextOf, Ran}
 use Rattle.flat_run.specs.Totals.{totals_of}
@@ -30,10 +30,11 @@ use Rattle.flat_run.proofs.OneHistory.{same-read}
 
 module _ (law : WrittenHistoriesAreOne) where
   -- two runs of what was read
-  history-one : (form : Form) → form ≢ Race → (reading reading' : Reading) (h h' : List Entry) (l l' : List Lost) (n n' : List ℕ) → reading ≡ reading'
+  history-one : (form : ServiceWord) → form ≢ Race → (reading reading' : ParsedText) (h h' : List Entry) (l l' : List LostDisplay) (n n' : List ℕ)
+      → reading ≡ reading'
       → HasRun form (ran_of reading h l n) → HasRun form (ran_of reading' h' l' n') → h ≡ h'
   history-one form no_race reading reading' h h' l l' n n' same run run' =
-      subst (λ (r : Reading). HasRun form (ran_of r h' l' n') → h ≡ h') same
+      subst (λ (r : ParsedText). HasRun form (ran_of r h' l' n') → h ≡ h') same
       (λ run''. law reading.script.setup reading.script.count reading.script.lines h h' run.run.legal run''.run.legal run.run.interleaves run''.run.interleaves
       (run.written no_race) (run''.written no_race)) run'
 
@@ -45,12 +46,12 @@ module _ (law : WrittenHistoriesAreOne) where
       second.ran.seen reading first.has_run second.has_run in
       (reading, history, first.has_run.in_turn no_race ∙ (λ i. seen_in_turn (reading i).script (history i)) ∙ sym (second.has_run.in_turn no_race))
 
-same-damaged : (one one' : Damaged) (later later' : List Damaged) → one.frame ≡ one'.frame → one.rects ≡ one'.rects → later ≡ later'
+same-damaged : (one one' : FrameDamage) (later later' : List FrameDamage) → one.frame ≡ one'.frame → one.rects ≡ one'.rects → later ≡ later'
     → one ∷ later ≡ one' ∷ later'
 same-damaged one one' later later' frame rects rest = λ i. record { frame = frame i; rects = rects i } ∷ rest i
 
 -- two runs have one damage
-damaged-one : DamageIsOne → (before : List DrawItem) (frames : List FrameOut) (damaged others : List Damaged) → AreDamaged before frames damaged
+damaged-one : DamageIsOne → (before : List DrawItem) (frames : List FrameOut) (damaged others : List FrameDamage) → AreDamaged before frames damaged
     → AreDamaged before frames others → damaged ≡ others
 damaged-one law before frames damaged others AreDamaged.none AreDamaged.none = refl
 damaged-one law before (frame ∷ frames) (one ∷ later) [] (AreDamaged.next number is rest) other = elim other [ ]
@@ -59,7 +60,7 @@ damaged-one law before (frame ∷ frames) (one ∷ later) (one' ∷ later') (Are
     (damaged-one law frame.items frames later later' rest rest')
 
 -- what a form writes hangs on the run alone
-text-one : DamageIsOne → (form : Form) → form ≢ Race → (ran ran' : Ran) → ran.reading ≡ ran'.reading → ran.history ≡ ran'.history → ran.seen ≡ ran'.seen
+text-one : DamageIsOne → (form : ServiceWord) → form ≢ Race → (ran ran' : Ran) → ran.reading ≡ ran'.reading → ran.history ≡ ran'.history → ran.seen ≡ ran'.seen
     → (form ≡ Play → ran.lost ≡ ran'.lost) → (text text' : List ℕ) → IsTextOf form ran text → IsTextOf form ran' text' → text ≡ text'
 text-one damage Play no_race ran ran' reading history seen lost text text' is is' =
     is ∙ (λ i. report_of (ran_of (reading i) (history i) (lost refl i) (seen i))) ∙ sym is'

@@ -4,20 +4,20 @@ use Rattle.flat_io.specs.Counts.{has_risen}
 use Rattle.flat_display.specs.Had.{AreKept}
 use Rattle.flat_scene.specs.declared.frames.FrameOut.{FrameOut}
 use Rattle.flat_stress.specs.Load.{load_text}
-use Rattle.flat_words.specs.declared.form.Form.{Form}
-use Rattle.flat_words.specs.declared.form.Form.TheVariants.{Judge, Stress}
+use Rattle.flat_words.specs.declared.service_word.ServiceWord.{ServiceWord}
+use Rattle.flat_words.specs.declared.service_word.ServiceWord.TheVariants.{Judge, Stress}
 use Rattle.flat_words.specs.Forms.{CallFor}
 use Rattle.flat_play.specs.Beginning.{AreBegun}
 use Rattle.flat_play.proofs.lemmas.Seen.{kept_as, kept_none}
-use Rattle.flat_run.specs.declared.answers.Answer.{Answer}
-use Rattle.flat_run.specs.declared.answers.Unanswered.{Unanswered}
-use Rattle.flat_run.specs.declared.answers.Unanswered.TheVariants.{Fault, Memory}
+use Rattle.flat_run.specs.declared.answers.ServiceAnswer.{ServiceAnswer}
+use Rattle.flat_run.specs.declared.answers.NoAnswer.{NoAnswer}
+use Rattle.flat_run.specs.declared.answers.NoAnswer.TheVariants.{Fault, Memory}
 use Rattle.flat_run.specs.declared.given.Given.{Given}
 use Rattle.flat_run.specs.declared.given.Given.TheVariants.{Script}
-use Rattle.flat_run.specs.declared.reading.Reading.{Reading}
-use Rattle.flat_judge.specs.declared.cutting.Judged.{Judged}
-use Rattle.flat_judge.specs.declared.cutting.Judged.TheVariants.{Said, Refused}
-use Rattle.flat_judge.specs.declared.judging.Verdict.TheVariants.{Legal, Wrong}
+use Rattle.flat_run.specs.declared.reading.ParsedText.{ParsedText}
+use Rattle.flat_judge.specs.declared.cutting.JudgedText.{JudgedText}
+use Rattle.flat_judge.specs.declared.cutting.JudgedText.TheVariants.{Said, Refused}
+use Rattle.flat_judge.specs.declared.judging.ReportVerdict.TheVariants.{Legal, Wrong}
 use Rattle.flat_run.specs.Judging.{IsJudged, judged_status}
 use Rattle.flat_run.specs.Answering.{Answers, IsGiven, IsScriptFor, IsTurnedAway}
 use Rattle.flat_run.specs.Forms.{form_read, is_read}
@@ -29,11 +29,11 @@ use Rattle.flat_run.proofs.Answering.{load_told, none_given, read_told, text_of,
 pub ok_holds : {A E : Type 0} (P : A → Type 0) (r : Result A E) (v : A) → r ≡ Ok v → IfOk r P → P v
 ok_holds {A} {E} P r v is holds = let Q : Result A E → Type 0 = λ r. IfOk r P in subst Q is holds
 
-not_fault : {A : Type 0} (a : A) {P : Type 0} → ◌≡◌ {A = Result A Unanswered} (Ok a) (Err Fault) → P
-not_fault {A} a same = absurd (let wrong : ◌≡◌ {A = Result A Unanswered} (Ok a) (Err Fault) = same in cc)
+not_fault : {A : Type 0} (a : A) {P : Type 0} → ◌≡◌ {A = Result A NoAnswer} (Ok a) (Err Fault) → P
+not_fault {A} a same = absurd (let wrong : ◌≡◌ {A = Result A NoAnswer} (Ok a) (Err Fault) = same in cc)
 
 -- Displays of a type tell these frames, and have these counts of faults.
-module _ {D : Type 0} (shown : D → Option (List FrameOut)) (faults : D → ℕ) {K : Type 0} (kind : D → K) (form : Form) (source source' : SourceState)
+module _ {D : Type 0} (shown : D → Option (List FrameOut)) (faults : D → ℕ) {K : Type 0} (kind : D → K) (form : ServiceWord) (source source' : SourceState)
     (olds news : List D) where
   unshown : (words : List (List ℕ)) → news ≡ olds → AreKept shown faults (AreFramesFor words source.left source'.left) olds news kind
   unshown words same =
@@ -46,7 +46,7 @@ module _ {D : Type 0} (shown : D → Option (List FrameOut)) (faults : D → ℕ
   away_statuses status text (IsTurnedAway.too_large bytes all large) = refl
 
   -- what it gave was refused
-  pub answers_refused : is_read form ≡ true → (answer : Answer) → IsTurnedAway form source.left source'.left answer.status answer.text
+  pub answers_refused : is_read form ≡ true → (answer : ServiceAnswer) → IsTurnedAway form source.left source'.left answer.status answer.text
       → (given : List ℕ) × AreGiven given source.left source'.left → source.faults ≤ source'.faults → source'.faults ≡ source.faults → news ≡ olds
       → Answers shown faults kind form source source' olds news (Ok answer)
   answers_refused read answer away given counts steady same = record {
@@ -61,9 +61,9 @@ module _ {D : Type 0} (shown : D → Option (List FrameOut)) (faults : D → ℕ
   }
 
   -- it could not be read
-  pub answers_nothing : is_read form ≡ true → (why : Unanswered) → (given : List ℕ) × AreGiven given source.left source'.left → source.faults ≤ source'.faults
-      → (◌≢◌ {A = Result Answer Unanswered} (Err why) (Err Fault) → source'.faults ≡ source.faults)
-      → (◌≡◌ {A = Result Answer Unanswered} (Err why) (Err Fault) → IsTrue (has_risen source.faults source'.faults)) → news ≡ olds
+  pub answers_nothing : is_read form ≡ true → (why : NoAnswer) → (given : List ℕ) × AreGiven given source.left source'.left → source.faults ≤ source'.faults
+      → (◌≢◌ {A = Result ServiceAnswer NoAnswer} (Err why) (Err Fault) → source'.faults ≡ source.faults)
+      → (◌≡◌ {A = Result ServiceAnswer NoAnswer} (Err why) (Err Fault) → IsTrue (has_risen source.faults source'.faults)) → news ≡ olds
       → Answers shown faults kind form source source' olds news (Err why)
   answers_nothing read why given counts steady fault same = record {
     answer = λ words calls. tt;
@@ -77,7 +77,7 @@ module _ {D : Type 0} (shown : D → Option (List FrameOut)) (faults : D → ℕ
   }
 
   -- it was run
-  module _ (read : is_read form ≡ true) (reading : Reading) (script : IsGiven form source.left source'.left (Script reading))
+  module _ (read : is_read form ≡ true) (reading : ParsedText) (script : IsGiven form source.left source'.left (Script reading))
       (given : (given : List ℕ) × AreGiven given source.left source'.left) (counts : source.faults ≤ source'.faults) (steady : source'.faults ≡ source.faults)
       (kept : AreKept shown faults (AreBegun reading.script) olds news kind) where
     run_kept : (words : List (List ℕ)) → CallFor words form → AreKept shown faults (AreFramesFor words source.left source'.left) olds news kind
@@ -108,7 +108,7 @@ module _ {D : Type 0} (shown : D → Option (List FrameOut)) (faults : D → ℕ
       given = given;
       counts = counts;
       steady = λ not_fault. steady;
-      fault = λ same. absurd (let wrong : ◌≡◌ {A = Result Answer Unanswered} (Err Memory) (Err Fault) = same in cc);
+      fault = λ same. absurd (let wrong : ◌≡◌ {A = Result ServiceAnswer NoAnswer} (Err Memory) (Err Fault) = same in cc);
       reads = λ same. read;
     }
 
@@ -120,11 +120,11 @@ module _ {D : Type 0} (shown : D → Option (List FrameOut)) (faults : D → ℕ
       kept_as shown faults (AreFramesOf (Stress asked) (load_text asked)) (AreFramesFor words source.left source.left) kind olds news
       (λ frames of. AreFramesFor.some (Stress asked) (load_text asked) calls refl of) kept
 
-  pub load_answers : (form : Form) → form ≡ Stress asked → (answer : Answer) → answer.status ≡ 0
+  pub load_answers : (form : ServiceWord) → form ≡ Stress asked → (answer : ServiceAnswer) → answer.status ≡ 0
       → IsTold shown faults olds news (Stress asked) (load_text asked) answer.text → Answers shown faults kind form source source olds news (Ok answer)
   load_answers form is answer is_0 told =
       let among : ℕ → Type 0 = λ n. IsTrue (n == 0 || n == 3 || n == 7 || n == 8) in
-      let F : Form → Type 0 = λ f. Answers shown faults kind f source source olds news (Ok answer) in
+      let F : ServiceWord → Type 0 = λ f. Answers shown faults kind f source source olds news (Ok answer) in
       subst F (sym is) (record {
         answer = λ words calls. load_told shown faults olds news words source.left source.left asked answer.status answer.text calls is_0 told;
         statuses = subst among (sym is_0) refl;
@@ -136,9 +136,9 @@ module _ {D : Type 0} (shown : D → Option (List FrameOut)) (faults : D → ℕ
         reads = not_fault answer;
       })
 
-  pub load_unmade : (form : Form) → form ≡ Stress asked → Answers shown faults kind form source source olds news (Err Memory)
+  pub load_unmade : (form : ServiceWord) → form ≡ Stress asked → Answers shown faults kind form source source olds news (Err Memory)
   load_unmade form is =
-      let F : Form → Type 0 = λ f. Answers shown faults kind f source source olds news (Err Memory) in
+      let F : ServiceWord → Type 0 = λ f. Answers shown faults kind f source source olds news (Err Memory) in
       subst F (sym is) (record {
         answer = λ words calls. tt;
         statuses = tt;
@@ -146,8 +146,8 @@ module _ {D : Type 0} (shown : D → Option (List FrameOut)) (faults : D → ℕ
         given = none_given source.left source.left refl;
         counts = omega arith;
         steady = λ not_fault. refl;
-        fault = λ same. absurd (let wrong : ◌≡◌ {A = Result Answer Unanswered} (Err Memory) (Err Fault) = same in cc);
-        reads = λ same. absurd (let wrong : ◌≡◌ {A = Result Answer Unanswered} (Err Memory) (Err Fault) = same in cc);
+        fault = λ same. absurd (let wrong : ◌≡◌ {A = Result ServiceAnswer NoAnswer} (Err Memory) (Err Fault) = same in cc);
+        reads = λ same. absurd (let wrong : ◌≡◌ {A = Result ServiceAnswer NoAnswer} (Err Memory) (Err Fault) = same in cc);
       })
 
 -- A text was judged, or could not be: displays had no part in it.
@@ -156,19 +156,19 @@ module _ {D : Type 0} (shown : D → Option (List FrameOut)) (faults : D → ℕ
       → IsTrue (status == 0 || status == 3 || status == 7 || status == 8)
   judged_statuses bytes status text is = let P : ℕ → Type 0 = λ n. IsTrue (n == 0 || n == 3 || n == 7 || n == 8) in subst P (sym is.status_is) (by is.judged)
     where
-      by : (judged : Judged) → IsTrue (judged_status judged == 0 || judged_status judged == 3 || judged_status judged == 7 || judged_status judged == 8)
+      by : (judged : JudgedText) → IsTrue (judged_status judged == 0 || judged_status judged == 3 || judged_status judged == 7 || judged_status judged == 8)
       by (Said (Legal entries finished)) = refl
       by (Said (Wrong line want)) = refl
       by (Refused fault) = refl
 
-  pub judged_answers : (form : Form) → form ≡ Judge → (result : Result Answer Unanswered)
+  pub judged_answers : (form : ServiceWord) → form ≡ Judge → (result : Result ServiceAnswer NoAnswer)
       → IfOk result (λ a. (bytes : List ℕ) × AreAll bytes source.left source'.left × IsJudged bytes a.status a.text)
       → (given : List ℕ) × AreGiven given source.left source'.left → source.faults ≤ source'.faults
-      → (◌≢◌ {A = Result Answer Unanswered} result (Err Fault) → source'.faults ≡ source.faults)
-      → (◌≡◌ {A = Result Answer Unanswered} result (Err Fault) → IsTrue (has_risen source.faults source'.faults))
+      → (◌≢◌ {A = Result ServiceAnswer NoAnswer} result (Err Fault) → source'.faults ≡ source.faults)
+      → (◌≡◌ {A = Result ServiceAnswer NoAnswer} result (Err Fault) → IsTrue (has_risen source.faults source'.faults))
       → Answers shown faults kind form source source' displays displays result
   judged_answers form is result judged given counts steady fault =
-      let F : Form → Type 0 = λ f. Answers shown faults kind f source source' displays displays result in
+      let F : ServiceWord → Type 0 = λ f. Answers shown faults kind f source source' displays displays result in
       subst F (sym is) (record {
         answer = λ words calls. by_result words calls result judged;
         statuses = by_status result judged;
@@ -180,15 +180,15 @@ module _ {D : Type 0} (shown : D → Option (List FrameOut)) (faults : D → ℕ
         reads = λ same. refl;
       })
     where
-      Fine : Answer → Type 0
+      Fine : ServiceAnswer → Type 0
       Fine a = (bytes : List ℕ) × AreAll bytes source.left source'.left × IsJudged bytes a.status a.text
 
-      by_result : (words : List (List ℕ)) → CallFor words Judge → (result : Result Answer Unanswered) → IfOk result Fine
+      by_result : (words : List (List ℕ)) → CallFor words Judge → (result : Result ServiceAnswer NoAnswer) → IfOk result Fine
           → IfOk result (λ a. IsAnswer shown faults displays displays words source.left source'.left a.status a.text)
       by_result words calls (Ok a) fine = IsAnswer.judged fine.0 calls fine.1 fine.2 refl
       by_result words calls (Err why) fine = tt
 
-      by_status : (result : Result Answer Unanswered) → IfOk result Fine
+      by_status : (result : Result ServiceAnswer NoAnswer) → IfOk result Fine
           → IfOk result (λ a. IsTrue (a.status == 0 || a.status == 3 || a.status == 7 || a.status == 8))
       by_status (Ok a) fine = judged_statuses fine.0 a.status a.text fine.2
       by_status (Err why) fine = tt

@@ -4,12 +4,12 @@ use Rattle.std.specs.List.{list_all}
 use Rattle.flat_base.specs.declared.ids.Actor.{Actor}
 use Rattle.flat_base.specs.declared.ids.Actor.TheVariants.{Display, Session, Probe}
 use Rattle.flat_scene.specs.declared.frames.FrameOut.{FrameOut}
-use Rattle.flat_scene.specs.declared.frames.Lost.{Lost}
+use Rattle.flat_scene.specs.declared.frames.LostDisplay.{LostDisplay}
 use Rattle.flat_scene.specs.declared.journal.Entry.{Entry}
-use Rattle.flat_scene.specs.declared.journal.Post.{Post}
+use Rattle.flat_scene.specs.declared.journal.PostedEvent.{PostedEvent}
 use Rattle.flat_scene.specs.Journals.{history_of}
-use Rattle.flat_scene.specs.declared.script.Body.{Body}
-use Rattle.flat_scene.specs.declared.script.Body.TheVariants as body
+use Rattle.flat_scene.specs.declared.script.LineBody.{LineBody}
+use Rattle.flat_scene.specs.declared.script.LineBody.TheVariants as body
 use Rattle.flat_scene.specs.declared.script.ScriptLine.{ScriptLine}
 use Rattle.flat_scene.specs.declared.setup.Setup.{Setup}
 use Rattle.flat_scene.specs.Heads.{is_within_limits, owners_declared}
@@ -31,13 +31,13 @@ use Rattle.flat_scene.specs.Interleave.{IsWritten}
 use Rattle.flat_report.specs.declared.frame_texts.FrameTexts.{FrameTexts}
 use Rattle.flat_report.specs.FrameTexts.{frame_text, AreTexts}
 use Rattle.flat_play.specs.InTurn.{seen_in_turn}
-use Rattle.flat_play.specs.declared.kept.Kept.{Kept}
-use Rattle.flat_play.specs.declared.kept.Kept.TheVariants as kept
+use Rattle.flat_play.specs.declared.kept_frames.KeptFrames.{KeptFrames}
+use Rattle.flat_play.specs.declared.kept_frames.KeptFrames.TheVariants as kept
 use Rattle.flat_play.specs.Keeping.{Keeps}
 use Rattle.flat_play.specs.Playing.{HasPlayed}
-use Rattle.flat_words.specs.declared.form.Form.{Form}
-use Rattle.flat_words.specs.declared.form.Form.TheVariants.{Play, Race, Stress, Render, Damage, Focus, Pointer, Judge, Why, Film}
-use Rattle.flat_run.specs.declared.reading.Reading.{Reading}
+use Rattle.flat_words.specs.declared.service_word.ServiceWord.{ServiceWord}
+use Rattle.flat_words.specs.declared.service_word.ServiceWord.TheVariants.{Play, Race, Stress, Render, Damage, Focus, Pointer, Judge, Why, Film}
+use Rattle.flat_run.specs.declared.reading.ParsedText.{ParsedText}
 use Rattle.flat_run.specs.Answering.{ran_of}
 use Rattle.flat_run.specs.Forms.{AreAsked, Fits, is_read}
 use Rattle.flat_run.specs.Promise.{HasRun}
@@ -55,7 +55,7 @@ owners_are : (script : Script) → is_playable script ≡ true → owners_declar
 owners_are script playable = and-right (is_within_limits script.setup) (owners_declared script.setup) (and-left _ _ (setup_is script playable))
 
 -- each line of a probe asks, where each line is played
-line_asks : (setup : Setup) (actor : Actor) (text : Body) → is_played setup actor text ≡ true → is_asking actor text ≡ true
+line_asks : (setup : Setup) (actor : Actor) (text : LineBody) → is_played setup actor text ≡ true → is_asking actor text ≡ true
 line_asks setup (Probe p) (body.Probe asked) played = refl
 line_asks setup (Probe p) (body.Session said) played = absurd (let wrong : false ≡ true = played in cc)
 line_asks setup (Probe p) (body.Display said) played = absurd (let wrong : false ≡ true = played in cc)
@@ -71,7 +71,7 @@ lines_ask setup (line ∷ lines) played =
     rw here later
 
 -- a form whose script is read asks for no number of frames
-pub none_asked : (form : Form) (n : ℕ) → is_read form ≡ true → AreAsked form n
+pub none_asked : (form : ServiceWord) (n : ℕ) → is_read form ≡ true → AreAsked form n
 none_asked (Stress asked) n read = absurd (let wrong : false ≡ true = read in cc)
 none_asked Play n read = tt
 none_asked Race n read = tt
@@ -83,7 +83,7 @@ none_asked Judge n read = tt
 none_asked Why n read = tt
 none_asked Film n read = tt
 
-module _ (reading : Reading) (board : Machine) (kept_frames : Kept) (answers : List HitAnswer) (playable : is_playable reading.script ≡ true)
+module _ (reading : ParsedText) (board : Machine) (kept_frames : KeptFrames) (answers : List HitAnswer) (playable : is_playable reading.script ≡ true)
     (played : HasPlayed reading.script board kept_frames answers) where
   abbrev script : Script
   script = reading.script
@@ -92,7 +92,8 @@ module _ (reading : Reading) (board : Machine) (kept_frames : Kept) (answers : L
   legal_here legal = let L : Setup → Type 0 = λ st. Legal st board.history in subst L played.setup legal
 
   -- a run that came to its end, and what displays have had of it
-  pub has_run : {D : Type 0} (shown : D → Option (List FrameOut)) (faults : D → ℕ) (form : Form) (lost : List Lost) (seen : List ℕ) (olds news : List D)
+  pub has_run : {D : Type 0} (shown : D → Option (List FrameOut)) (faults : D → ℕ) (form : ServiceWord) (lost : List LostDisplay) (seen : List ℕ)
+      (olds news : List D)
       → (form ≢ Race → IsWritten script.setup board.history) → (form ≢ Race → seen ≡ seen_in_turn script board.history)
       → HaveSeen shown faults (finished script.setup board.history) board.history lost olds news → FamiliesAreAlone → DuePresentsAreTaken
       → Legal board.setup board.history → AreAsked form (frames board.history) → Fits form script → is_seeing script board.history seen ≡ true
@@ -108,7 +109,7 @@ module _ (reading : Reading) (board : Machine) (kept_frames : Kept) (answers : L
   }
 
   -- the displays have had the frames of the history
-  pub have_had : {D : Type 0} (told : D → Option (List FrameOut)) (count : D → ℕ) (lost : List Lost) (olds news : List D)
+  pub have_had : {D : Type 0} (told : D → Option (List FrameOut)) (count : D → ℕ) (lost : List LostDisplay) (olds news : List D)
       → HaveSeen told count (finished script.setup board.history) board.history lost olds news
       → AreDriven told count lost (finished script.setup board.history) olds news
   have_had told count lost olds news seen = seen.driven
@@ -120,10 +121,11 @@ module _ (reading : Reading) (board : Machine) (kept_frames : Kept) (answers : L
   -- what a run hands to the report is written as its report
   pub handed_whole : HandedIsReport → (texts : FrameTexts) → kept.Texts texts ≡ kept_frames → (probes given : List (List ProbeAnswer))
       → ProbesAnswered script board.history probes → given ≡ probes
-      → (lost handed : List Lost) (entries : List Entry) (sent : List Post) → history_of entries ≡ board.history → sent ≡ posts board.setup board.history
+      → (lost handed : List LostDisplay) (entries : List Entry) (sent : List PostedEvent) → history_of entries ≡ board.history
+      → sent ≡ posts board.setup board.history
       → handed ≡ lost → handed_report script entries sent texts.texts.items handed answers given ≡ report script board.history lost (frames_seen probes)
   handed_whole law texts texts_are probes given answered given_is lost handed entries sent entries_are sent_are lost_are =
-      let K : Kept → Type 0 = λ k. Keeps script k (finished script.setup board.history) in
+      let K : KeptFrames → Type 0 = λ k. Keeps script k (finished script.setup board.history) in
       let A : List Entry → Type 0 = λ h. ProbesAnswered script h probes in
       let written : AreTexts script (finished script.setup board.history) texts = subst K (sym texts_are) played.keeps in
       ap (λ (ps : List (List ProbeAnswer)). handed_report script entries sent texts.texts.items handed answers ps) given_is
@@ -133,4 +135,4 @@ module _ (reading : Reading) (board : Machine) (kept_frames : Kept) (answers : L
       (written.texts ∙ ap (λ (h : List Entry). map (frame_text script) (finished script.setup h)) (sym entries_are))
       (played.answering ∙ ap (answers_of script.setup) (sym entries_are))
       ∙ ap (λ (h : List Entry). report script h handed (frames_seen probes)) entries_are
-      ∙ ap (λ (ls : List Lost). report script board.history ls (frames_seen probes)) lost_are
+      ∙ ap (λ (ls : List LostDisplay). report script board.history ls (frames_seen probes)) lost_are

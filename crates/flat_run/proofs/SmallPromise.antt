@@ -1,7 +1,7 @@
 -- What is said of bytes and of forms, on small examples.
 use Rattle.std.proofs.Common.{◌≡◌, ℕ, true, false, List, [], ◌∷◌, None, Some, refl}
 use Rattle.flat_stress.specs.Load.{load_text}
-use Rattle.flat_words.specs.declared.form.Form.TheVariants.{Play, Race, Stress}
+use Rattle.flat_words.specs.declared.service_word.ServiceWord.TheVariants.{Play, Race, Stress}
 use Rattle.flat_run.specs.Forms.{AreAsked, Ran, IsTextOf, is_read}
 use Rattle.flat_run.specs.Promise.{AreGiven, AreAll, AreTextOf}
 

@@ -7,14 +7,14 @@ use Rattle.std.proofs.lemmas.Grind.{common_steps}
 use Rattle.std.proofs.lemmas.List.Elements.{All-append}
 use Rattle.flat_base.proofs.lemmas.Tests.{and-left, and-right, and-true}
 use Rattle.flat_places.specs.declared.script.Script.{Script}
-use Rattle.flat_play.specs.declared.kept.Kept.{Kept}
-use Rattle.flat_play.specs.declared.kept.Kept.TheVariants as kept
+use Rattle.flat_play.specs.declared.kept_frames.KeptFrames.{KeptFrames}
+use Rattle.flat_play.specs.declared.kept_frames.KeptFrames.TheVariants as kept
 use Rattle.flat_play.specs.declared.trees.FrameTrees.{FrameTrees}
 use Rattle.flat_play.specs.Keeping.{AreTrees, Keeps}
 use Rattle.flat_play.specs.Touches.{touch_of}
 use Rattle.flat_pointer.specs.declared.pointers.TheConstants.{POINTERS}
 use Rattle.flat_pointer.specs.declared.text.PointerLine.{PointerLine}
-use Rattle.flat_pointer.specs.declared.text.Touch.{Touch}
+use Rattle.flat_pointer.specs.declared.text.PointerTouch.{PointerTouch}
 use Rattle.flat_drawable.specs.Drawable.{IsDrawable}
 use Rattle.flat_rules.specs.Drawable.{ItemsAreDrawable}
 use Rattle.flat_rules.specs.Ends.{to_begin}
@@ -75,9 +75,9 @@ last-drawn law setup history last is = let P : Option FrameOut → Type 0 =
 -- ---- view trees
 
 -- the view trees that are kept are those of the finished frames
-pub trees-kept : (script : Script) (frames : List FrameOut) (all : Kept) (trees : FrameTrees) → kept.Trees trees ≡ all → Keeps script all frames
+pub trees-kept : (script : Script) (frames : List FrameOut) (all : KeptFrames) (trees : FrameTrees) → kept.Trees trees ≡ all → Keeps script all frames
     → AreTrees frames trees
-trees-kept script frames all trees is keeps = let K : Kept → Type 0 = λ it. Keeps script it frames in subst K (sym is) keeps
+trees-kept script frames all trees is keeps = let K : KeptFrames → Type 0 = λ it. Keeps script it frames in subst K (sym is) keeps
 
 -- frames without their items have the same views
 pub few-left : (sessions : ℕ) (frames : List FrameOut) → list_all (λ (out : FrameOut). nat_le (length out.tree.nodes) sessions) frames ≡ true
@@ -109,7 +109,7 @@ module _ (setup : Setup) (is : is_setup setup ≡ true) where
 -- lines of known pointers, with whom they hit
 pub pointers_touched : (setup : Setup) (history : List Entry) (lines : List PointerLine)
     → list_all (λ (line : PointerLine). nat_lt line.pointer POINTERS) lines ≡ true
-    → list_all (λ (touch : Touch). nat_lt touch.line.pointer POINTERS) (map (touch_of setup history) lines) ≡ true
+    → list_all (λ (touch : PointerTouch). nat_lt touch.line.pointer POINTERS) (map (touch_of setup history) lines) ≡ true
 pointers_touched setup history [] all = refl
 pointers_touched setup history (line ∷ later) all =
     and-true (and-left (nat_lt line.pointer POINTERS) _ all) (pointers_touched setup history later (and-right (nat_lt line.pointer POINTERS) _ all))

@@ -6,9 +6,9 @@ use Rattle.flat_forms.specs.Body.{dones}
 use Rattle.flat_pointer.specs.Text.{pointer_text}
 use Rattle.flat_places.specs.declared.script.Script.{Script}
 use Rattle.flat_play.specs.Touches.{touch_of}
-use Rattle.flat_render.specs.declared.grid.TheConstants.{PIXELS_MAX}
+use Rattle.flat_render.specs.declared.tile_grid.TheConstants.{PIXELS_MAX}
 use Rattle.flat_report.specs.Report.{report, finished}
-use Rattle.flat_scene.specs.declared.frames.Lost.{Lost}
+use Rattle.flat_scene.specs.declared.frames.LostDisplay.{LostDisplay}
 use Rattle.flat_scene.specs.declared.journal.Entry.{Entry}
 use Rattle.flat_script.specs.declared.script.ScriptFault.{ScriptFault}
 use Rattle.flat_script.specs.Grammar.{text_read}
@@ -18,30 +18,30 @@ use Rattle.flat_texts.specs.Films.{film_text}
 use Rattle.flat_texts.specs.Lines.{finish_lines}
 use Rattle.flat_texts.specs.Pictures.{picture_text}
 use Rattle.flat_why.specs.Text.{why_text}
-use Rattle.flat_words.specs.declared.form.Form.{Form}
-use Rattle.flat_words.specs.declared.form.Form.TheVariants.{Play, Race, Stress, Render, Damage, Focus}
-use Rattle.flat_words.specs.declared.form.Form.TheVariants.{Pointer, Judge, Why, Film}
+use Rattle.flat_words.specs.declared.service_word.ServiceWord.{ServiceWord}
+use Rattle.flat_words.specs.declared.service_word.ServiceWord.TheVariants.{Play, Race, Stress, Render, Damage, Focus}
+use Rattle.flat_words.specs.declared.service_word.ServiceWord.TheVariants.{Pointer, Judge, Why, Film}
 use Rattle.flat_run.specs.declared.given.TheConstants.{FILM_PIXELS_MAX}
-use Rattle.flat_run.specs.declared.reading.Reading.{Reading}
+use Rattle.flat_run.specs.declared.reading.ParsedText.{ParsedText}
 use Rattle.flat_run.specs.Totals.{totals_of}
 
 -- ---- reading
 
 -- whether the script of a form is read; that of a load is made
-abbrev pub is_read : Form → Bool
+abbrev pub is_read : ServiceWord → Bool
 is_read (Stress asked) = false
 is_read _ = true
 
 -- a script without extra lines
-abbrev pub plain : Script → Reading
+abbrev pub plain : Script → ParsedText
 plain script = record { script = script; focus = []; pointers = [] }
 
-abbrev pub read_as : {A : Type 0} → (A → Reading) → Result A ScriptFault → Result Reading ScriptFault
+abbrev pub read_as : {A : Type 0} → (A → ParsedText) → Result A ScriptFault → Result ParsedText ScriptFault
 read_as reading (Ok value) = Ok (reading value)
 read_as reading (Err fault) = Err fault
 
 -- what a form reads of a text: its script, and the values of the extra lines that the form knows
-abbrev pub form_read : Form → List ℕ → Result Reading ScriptFault
+abbrev pub form_read : ServiceWord → List ℕ → Result ParsedText ScriptFault
 form_read Focus bytes =
     read_as (λ both. record { script = both.script; focus = both.lines; pointers = [] }) (focus_read bytes)
 form_read Pointer bytes =
@@ -54,7 +54,7 @@ pixels script = script.setup.width * script.setup.height
 
 -- the display isn't too large for what a form writes: a picture has only so many pixels, and so have the pictures
 -- of all frames together
-abbrev pub Fits : Form → Script → Type 0
+abbrev pub Fits : ServiceWord → Script → Type 0
 Fits Render script = pixels script ≤ PIXELS_MAX
 Fits Film script = (pixels script ≤ PIXELS_MAX) × (dones script * pixels script ≤ FILM_PIXELS_MAX)
 Fits _ script = ⊤
@@ -63,13 +63,13 @@ Fits _ script = ⊤
 
 -- what was read, a history of its script, the displays that were lost, and the frames that the lines of its probes saw
 pub record Ran : Type 0 where
-  pub reading : Reading
+  pub reading : ParsedText
   pub history : List Entry
-  pub lost : List Lost
+  pub lost : List LostDisplay
   pub seen : List ℕ
 
 -- So many frames were finished as the form asked for: a load says how many.
-abbrev pub AreAsked : Form → ℕ → Type 0
+abbrev pub AreAsked : ServiceWord → ℕ → Type 0
 AreAsked (Stress asked) finished_frames = finished_frames ≡ asked
 AreAsked _ finished_frames = ⊤
 
@@ -82,7 +82,7 @@ report_of ran = report ran.reading.script ran.history ran.lost ran.seen
 -- last frame, what changed from frame to frame, who had the focus, to whom the pointers' lines went, why
 -- each session was on the display or not, or the pictures of all frames. A judge runs nothing that it
 -- writes of.
-abbrev pub IsTextOf : Form → Ran → List ℕ → Type 0
+abbrev pub IsTextOf : ServiceWord → Ran → List ℕ → Type 0
 IsTextOf Play ran text = text ≡ report_of ran
 IsTextOf Race ran text = text ≡ report_of ran
 IsTextOf (Stress asked) ran text = text ≡ summary_line (totals_of asked ran.reading.script.setup ran.history)

@@ -3,9 +3,9 @@ use Rattle.std.specs.Prelude.{◌≡◌, ℕ, List, [], ◌∷◌, ◌++◌, Opt
 use Rattle.std.specs.Fmt.{decimal}
 use Rattle.flat_script.specs.declared.script.ScriptFault.{ScriptFault}
 use Rattle.flat_places.specs.Kinds.{number}
-use Rattle.flat_judge.specs.declared.cutting.Judged.{Judged}
-use Rattle.flat_judge.specs.declared.cutting.Judged.TheVariants.{Said, Refused}
-use Rattle.flat_judge.specs.declared.judging.Verdict.TheVariants.{Legal, Wrong}
+use Rattle.flat_judge.specs.declared.cutting.JudgedText.{JudgedText}
+use Rattle.flat_judge.specs.declared.cutting.JudgedText.TheVariants.{Said, Refused}
+use Rattle.flat_judge.specs.declared.judging.ReportVerdict.TheVariants.{Legal, Wrong}
 use Rattle.flat_judge.specs.Cuts.{IsSaid}
 
 -- what is written of a script with a fault
@@ -28,20 +28,20 @@ abbrev pub wrong_lines : ℕ → Option (List ℕ) → List ℕ
 wrong_lines line want = codes "wrong line " ++ decimal line ++ 10 ∷ want_line want
 
 -- the status of what is said
-abbrev pub judged_status : Judged → ℕ
+abbrev pub judged_status : JudgedText → ℕ
 judged_status (Said (Legal entries finished)) = 0
 judged_status (Said (Wrong line want)) = 8
 judged_status (Refused fault) = 3
 
 -- its text
-abbrev pub judged_text : Judged → List ℕ
+abbrev pub judged_text : JudgedText → List ℕ
 judged_text (Said (Legal entries finished)) = legal_line entries finished
 judged_text (Said (Wrong line want)) = wrong_lines line want
 judged_text (Refused fault) = fault_line fault
 
 -- These bytes were judged, and this status and this text say how.
 pub record IsJudged (bytes : List ℕ) (status : ℕ) (text : List ℕ) : Type 0 where
-  pub judged : Judged
+  pub judged : JudgedText
   pub is : IsSaid bytes judged
   pub status_is : status ≡ judged_status judged
   pub text_is : text ≡ judged_text judged

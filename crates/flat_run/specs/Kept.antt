@@ -1,12 +1,12 @@
 -- What a run keeps of its frames.
-use Rattle.flat_play.specs.declared.kept.Keeping.{Keeping}
-use Rattle.flat_play.specs.declared.kept.Keeping.TheVariants as keeping
-use Rattle.flat_words.specs.declared.form.Form.{Form}
-use Rattle.flat_words.specs.declared.form.Form.TheVariants.{Play, Race, Damage, Focus}
-use Rattle.flat_words.specs.declared.form.Form.TheVariants.{Pointer}
+use Rattle.flat_play.specs.declared.kept_frames.FramesToKeep.{FramesToKeep}
+use Rattle.flat_play.specs.declared.kept_frames.FramesToKeep.TheVariants as keeping
+use Rattle.flat_words.specs.declared.service_word.ServiceWord.{ServiceWord}
+use Rattle.flat_words.specs.declared.service_word.ServiceWord.TheVariants.{Play, Race, Damage, Focus}
+use Rattle.flat_words.specs.declared.service_word.ServiceWord.TheVariants.{Pointer}
 
 -- what a run keeps of its frames for what a form writes
-abbrev pub keeping_for : Form → Keeping
+abbrev pub keeping_for : ServiceWord → FramesToKeep
 keeping_for Play = keeping.Texts
 keeping_for Race = keeping.Texts
 keeping_for Damage = keeping.Damages

@@ -19,14 +19,14 @@ use Rattle.flat_play.specs.Beginning.{AreBegun}
 use Rattle.flat_play.specs.InTurn.{seen_in_turn}
 use Rattle.flat_report.specs.Runs.{IsRun}
 use Rattle.flat_stress.specs.Load.{load_text}
-use Rattle.flat_words.specs.declared.form.Form.{Form}
-use Rattle.flat_words.specs.declared.form.Form.TheVariants.{Race, Stress, Render, Judge, Film}
+use Rattle.flat_words.specs.declared.service_word.ServiceWord.{ServiceWord}
+use Rattle.flat_words.specs.declared.service_word.ServiceWord.TheVariants.{Race, Stress, Render, Judge, Film}
 use Rattle.flat_words.specs.Forms.{CallFor}
-use Rattle.flat_render.specs.declared.grid.TheConstants.{PIXELS_MAX}
+use Rattle.flat_render.specs.declared.tile_grid.TheConstants.{PIXELS_MAX}
 use Rattle.flat_places.specs.declared.script.Script.{Script}
 use Rattle.flat_forms.specs.Body.{dones}
 use Rattle.flat_run.specs.declared.given.TheConstants.{FILM_PIXELS_MAX}
-use Rattle.flat_run.specs.declared.reading.Reading.{Reading}
+use Rattle.flat_run.specs.declared.reading.ParsedText.{ParsedText}
 use Rattle.flat_run.specs.Judging.{IsJudged, fault_line}
 use Rattle.flat_run.specs.Forms.{is_read, form_read, pixels, Fits, Ran, AreAsked, IsTextOf}
 
@@ -34,7 +34,7 @@ use Rattle.flat_run.specs.Forms.{is_read, form_read, pixels, Fits, Ran, AreAsked
 
 -- The words call for no form.
 abbrev pub CallForNothing : List (List ℕ) → Type 0
-CallForNothing words = (form : Form) → CallFor words form → ⊥
+CallForNothing words = (form : ServiceWord) → CallFor words form → ⊥
 
 -- what is written where the words call for no form
 abbrev pub usage_line : List ℕ
@@ -52,18 +52,18 @@ abbrev pub AreAll : List ℕ → Option (List ℕ) → Option (List ℕ) → Typ
 AreAll given left left' = WhereTold left left' (λ before after. (before ≡ given) × (after ≡ []))
 
 -- These bytes are the text of a form's script.
-abbrev pub AreTextOf : Form → Option (List ℕ) → Option (List ℕ) → List ℕ → Type 0
+abbrev pub AreTextOf : ServiceWord → Option (List ℕ) → Option (List ℕ) → List ℕ → Type 0
 AreTextOf (Stress asked) left left' bytes = bytes ≡ load_text asked
 AreTextOf _ left left' bytes = AreAll bytes left left'
 
 -- A form can't read these bytes, and the text says where and why.
-pub record Refuses (form : Form) (bytes text : List ℕ) : Type 0 where
+pub record Refuses (form : ServiceWord) (bytes text : List ℕ) : Type 0 where
   pub fault : ScriptFault
   pub read : form_read form bytes ≡ Err fault
   pub is : text ≡ fault_line fault
 
 -- What the source gave is refused: all that it had left, or more than a script may have.
-pub record IsRefused (form : Form) (left left' : Option (List ℕ)) (text : List ℕ) : Type 0 where
+pub record IsRefused (form : ServiceWord) (left left' : Option (List ℕ)) (text : List ℕ) : Type 0 where
   pub bytes : List ℕ
   pub given : AreAll bytes left left' ⊎ ((SCRIPT_BYTES_MAX < length bytes) × AreGiven bytes left left')
   pub refuses : Refuses form bytes text
@@ -71,7 +71,7 @@ pub record IsRefused (form : Form) (left left' : Option (List ℕ)) (text : List
 -- ---- pictures
 
 -- A script's display has more pixels than a picture may have, or the pictures of all its frames have too many.
-abbrev pub IsTooLarge : Form → Script → Type 0
+abbrev pub IsTooLarge : ServiceWord → Script → Type 0
 IsTooLarge Render script = PIXELS_MAX < pixels script
 IsTooLarge Film script = (PIXELS_MAX < pixels script) ⊎ (FILM_PIXELS_MAX < dones script * pixels script)
 IsTooLarge _ script = ⊥
@@ -81,8 +81,8 @@ abbrev pub large_line : List ℕ
 large_line = codes "picture too large" ++ 10 ∷ []
 
 -- These bytes are a script of which a form would write too large a picture.
-pub record AreTooLarge (form : Form) (bytes : List ℕ) : Type 0 where
-  pub reading : Reading
+pub record AreTooLarge (form : ServiceWord) (bytes : List ℕ) : Type 0 where
+  pub reading : ParsedText
   pub read : form_read form bytes ≡ Ok reading
   pub large : IsTooLarge form reading.script
 
@@ -94,7 +94,7 @@ pub record AreTooLarge (form : Form) (bytes : List ℕ) : Type 0 where
 -- of each session's family and the frames alone are legal too, with the same replies. They send the family the
 -- same events at the same entries; no other entry sends the family an event. Each frame takes at its begin
 -- every present that is due.
-pub record HasRun (form : Form) (ran : Ran) : Type 0 where
+pub record HasRun (form : ServiceWord) (ran : Ran) : Type 0 where
   pub run : IsRun ran.reading.script ran.history ran.lost ran.seen
   pub written : form ≢ Race → IsWritten ran.reading.script.setup ran.history
   pub in_turn : form ≢ Race → ran.seen ≡ seen_in_turn ran.reading.script ran.history
@@ -104,7 +104,7 @@ pub record HasRun (form : Form) (ran : Ran) : Type 0 where
   pub due : TakesDue ran.reading.script.setup ran.history
 
 -- These bytes are a script, which ran for the form, and the text is what is written of it.
-pub record Tells (form : Form) (bytes text : List ℕ) : Type 0 where
+pub record Tells (form : ServiceWord) (bytes text : List ℕ) : Type 0 where
   pub ran : Ran
   pub read : form_read form bytes ≡ Ok ran.reading
   pub has_run : HasRun form ran
@@ -115,7 +115,7 @@ pub record Tells (form : Form) (bytes text : List ℕ) : Type 0 where
 -- Displays of a type tell these frames, and have these counts of faults; a call found them so, and left them so.
 module _ {D : Type 0} (shown : D → Option (List FrameOut)) (faults : D → ℕ) (olds news : List D) where
   -- The displays have had the frames of what is told, but for those of them that were lost.
-  abbrev pub IsTold : Form → List ℕ → List ℕ → Type 0
+  abbrev pub IsTold : ServiceWord → List ℕ → List ℕ → Type 0
   IsTold form bytes text =
       (tells : Tells form bytes text)
       × AreDriven shown faults tells.ran.lost (finished tells.ran.reading.script.setup tells.ran.history) olds news
@@ -124,13 +124,15 @@ module _ {D : Type 0} (shown : D → Option (List FrameOut)) (faults : D → ℕ
   -- large, what is said of a script with a report behind it, or what their form tells of what ran.
   pub data IsAnswer (words : List (List ℕ)) (left left' : Option (List ℕ)) : ℕ → List ℕ → Type 0 where
     usage : CallForNothing words → news ≡ olds → IsAnswer words left left' 2 usage_line
-    refusal : (form : Form) {text : List ℕ} → CallFor words form → is_read form ≡ true → IsRefused form left left' text
+    refusal : (form : ServiceWord) {text : List ℕ} → CallFor words form → is_read form ≡ true
+        → IsRefused form left left' text
         → news ≡ olds → IsAnswer words left left' 3 text
-    too_large : (form : Form) (bytes : List ℕ) → CallFor words form → AreAll bytes left left' → AreTooLarge form bytes
+    too_large : (form : ServiceWord) (bytes : List ℕ) → CallFor words form → AreAll bytes left left'
+        → AreTooLarge form bytes
         → news ≡ olds → IsAnswer words left left' 7 large_line
     judged : (bytes : List ℕ) {status : ℕ} {text : List ℕ} → CallFor words Judge → AreAll bytes left left'
         → IsJudged bytes status text → news ≡ olds → IsAnswer words left left' status text
-    told : (form : Form) (bytes : List ℕ) {text : List ℕ} → CallFor words form → AreTextOf form left left' bytes
+    told : (form : ServiceWord) (bytes : List ℕ) {text : List ℕ} → CallFor words form → AreTextOf form left left' bytes
         → IsTold form bytes text → IsAnswer words left left' 0 text
 
   -- The whole text of a status was written.
@@ -149,15 +151,16 @@ module _ {D : Type 0} (shown : D → Option (List FrameOut)) (faults : D → ℕ
 -- ---- what displays were shown, however far a run came
 
 -- These are the frames of a run of a form's script as far as it came; where nothing ran there are none.
-pub data AreFramesOf (form : Form) (bytes : List ℕ) : List FrameOut → Type 0 where
+pub data AreFramesOf (form : ServiceWord) (bytes : List ℕ) : List FrameOut → Type 0 where
   none : AreFramesOf form bytes []
-  some : (reading : Reading) {frames : List FrameOut} → form_read form bytes ≡ Ok reading
+  some : (reading : ParsedText) {frames : List FrameOut} → form_read form bytes ≡ Ok reading
       → AreBegun reading.script frames → AreFramesOf form bytes frames
 
 -- They are those of a form that the words call for, and the bytes are the text of its script.
 pub data AreFramesFor (words : List (List ℕ)) (left left' : Option (List ℕ)) : List FrameOut → Type 0 where
   none : AreFramesFor words left left' []
-  some : (form : Form) (bytes : List ℕ) {frames : List FrameOut} → CallFor words form → AreTextOf form left left' bytes
+  some : (form : ServiceWord) (bytes : List ℕ) {frames : List FrameOut} → CallFor words form
+      → AreTextOf form left left' bytes
       → AreFramesOf form bytes frames → AreFramesFor words left left' frames
 
 -- whether a sink's count of faults rose, or its count of stalls
@@ -167,11 +170,11 @@ either_rose failed failed' stalled stalled' = has_risen failed failed' || has_ri
 -- ---- where a script is given
 
 -- The source tells its bytes, what it gave is a script for the form, of this sort, and no read of it failed.
-pub record Gives (form : Form) (IsOfSort : Script → Type 0) (left left' : Option (List ℕ))
+pub record Gives (form : ServiceWord) (IsOfSort : Script → Type 0) (left left' : Option (List ℕ))
     (failed failed' : ℕ) : Type 0 where
   pub given : List ℕ
   pub after : List ℕ
-  pub reading : Reading
+  pub reading : ParsedText
   pub before_is : left ≡ Some (given ++ after)
   pub after_is : left' ≡ Some after
   pub read : form_read form given ≡ Ok reading
@@ -180,7 +183,7 @@ pub record Gives (form : Form) (IsOfSort : Script → Type 0) (left left' : Opti
 
 -- The script of a form is there, and its display isn't too large: that of a load always is. A judge is promised
 -- no status 0, whatever it reads.
-abbrev pub IsThere : Form → Option (List ℕ) → Option (List ℕ) → ℕ → ℕ → Type 0
+abbrev pub IsThere : ServiceWord → Option (List ℕ) → Option (List ℕ) → ℕ → ℕ → Type 0
 IsThere (Stress asked) left left' failed failed' = ⊤
 IsThere Judge left left' failed failed' = ⊥
 IsThere form left left' failed failed' = Gives form (Fits form) left left' failed failed'

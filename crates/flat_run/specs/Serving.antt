@@ -4,7 +4,7 @@ use Rattle.flat_io.specs.Counts.{has_risen}
 use Rattle.flat_io.specs.Told.{Appends}
 use Rattle.flat_display.specs.Had.{AreKept}
 use Rattle.flat_scene.specs.declared.frames.FrameOut.{FrameOut}
-use Rattle.flat_words.specs.declared.form.Form.{Form}
+use Rattle.flat_words.specs.declared.service_word.ServiceWord.{ServiceWord}
 use Rattle.flat_words.specs.Forms.{CallFor}
 use Rattle.flat_run.specs.Promise.{AreFramesFor, AreGiven, CallForNothing, Gives, IsCutOff, IsThere, IsTooLarge}
 use Rattle.flat_run.specs.Promise.{IsWhole}
@@ -47,10 +47,10 @@ module _ {D : Type 0} (shown : D → Option (List FrameOut)) (faults : D → ℕ
     pub written : status ≢ 5 → (sink'.faults ≡ sink.faults) × (sink'.stalls ≡ sink.stalls)
     pub counts : (source.faults ≤ source'.faults) × (sink.faults ≤ sink'.faults) × (sink.stalls ≤ sink'.stalls)
     pub usage : CallForNothing words → IsTrue (status == 2 || status == 5 || status == 6)
-    pub complete : (form : Form) → CallFor words form
+    pub complete : (form : ServiceWord) → CallFor words form
         → IsThere form source.left source'.left source.faults source'.faults
         → either_rose sink.faults sink'.faults sink.stalls sink'.stalls ≡ false → IsTrue (status == 0 || status == 6)
-    pub too_large : (form : Form) → CallFor words form
+    pub too_large : (form : ServiceWord) → CallFor words form
         → Gives form (IsTooLarge form) source.left source'.left source.faults source'.faults
         → either_rose sink.faults sink'.faults sink.stalls sink'.stalls ≡ false → IsTrue (status == 7 || status == 6)
     pub statuses : IsTrue

@@ -4,14 +4,14 @@ use Rattle.std.specs.Option.{option_map_or}
 use Rattle.flat_base.specs.Last.{last_item}
 use Rattle.flat_scene.specs.declared.frames.FrameOut.{FrameOut}
 use Rattle.flat_scene.specs.declared.journal.Entry.{Entry}
-use Rattle.flat_scene.specs.declared.journal.Kind.{Kind}
-use Rattle.flat_scene.specs.declared.journal.Kind.TheVariants.{Present}
+use Rattle.flat_scene.specs.declared.journal.EntryKind.{EntryKind}
+use Rattle.flat_scene.specs.declared.journal.EntryKind.TheVariants.{Present}
 use Rattle.flat_scene.specs.declared.setup.Setup.{Setup}
 use Rattle.flat_rules.specs.Legal.{frames}
 use Rattle.flat_report.specs.Report.{finished}
-use Rattle.flat_stress.specs.declared.totals.Totals.{Totals}
+use Rattle.flat_stress.specs.declared.load_totals.LoadTotals.{LoadTotals}
 
-unfoldable pub is_present : Kind → Bool
+unfoldable pub is_present : EntryKind → Bool
 is_present (Present args) = true
 is_present _ = false
 
@@ -20,7 +20,7 @@ abbrev pub items_of : Option FrameOut → ℕ
 items_of last = option_map_or (λ frame. length frame.items) last 0
 
 -- the numbers of a history, for a load of so many frames
-abbrev pub totals_of : ℕ → Setup → List Entry → Totals
+abbrev pub totals_of : ℕ → Setup → List Entry → LoadTotals
 totals_of asked setup history = record {
   load = asked;
   sessions = setup.sessions;

@@ -5,7 +5,7 @@ ghost use Rattle.flat_run.specs.Promise.{large_line};
 
 use flat_base::NoMemory;
 use flat_page::Page;
-use flat_report::Pieces;
+use flat_report::TextPieces;
 use flat_script::ScriptFault;
 use std::alloc::Global;
 
@@ -38,28 +38,28 @@ const LARGE: &[u8] = b"picture too large\n";
 
 /// What is to be written, and the status of a call that wrote it.
 #[derive(Drop)]
-pub struct Answer {
+pub struct ServiceAnswer {
     pub status: u8,
-    pub text: Pieces,
+    pub text: TextPieces,
 }
 
 /// Why there is nothing to be written.
 #[derive(Drop)]
-pub enum Unanswered {
+pub enum NoAnswer {
     /// A read failed.
     Fault,
     /// Memory ran out.
     Memory,
 }
 
-impl From<NoMemory> for Unanswered {
+impl From<NoMemory> for NoAnswer {
     ghost use Rattle.std.specs.Prelude.{◌≡◌};
-    ghost use Rattle.flat_run.specs.declared.answers.Unanswered.TheVariants.{Memory};
+    ghost use Rattle.flat_run.specs.declared.answers.NoAnswer.TheVariants.{Memory};
 
     ghost from_gives = { λ _ why. why ≡ Memory };
 
-    fn from(_e: NoMemory) -> Unanswered {
-        Unanswered::Memory
+    fn from(_e: NoMemory) -> NoAnswer {
+        NoAnswer::Memory
     }
 }
 
@@ -75,25 +75,25 @@ fn fault_text(alloc: Global, fault: ScriptFault) -> Result<Vec<u8>, NoMemory>
 }
 
 /// The answer to a text that is no script.
-pub(crate) fn refusal(alloc: Global, fault: ScriptFault) -> Result<Answer, NoMemory>
+pub(crate) fn refusal(alloc: Global, fault: ScriptFault) -> Result<ServiceAnswer, NoMemory>
     ensures status { IfOk result (λ answer. answer.status ≡ REFUSED) }
     ensures text { IfOk result (λ answer. answer.text ≡ fault_line fault) }
 {
     let text = fault_text(alloc, fault)?;
-    Ok(Answer {
+    Ok(ServiceAnswer {
         status: REFUSED,
-        text: Pieces::one(alloc, text)?,
+        text: TextPieces::one(alloc, text)?,
     })
 }
 
 /// The answer where a picture would have too many pixels.
-pub(crate) fn large(alloc: Global) -> Result<Answer, NoMemory>
+pub(crate) fn large(alloc: Global) -> Result<ServiceAnswer, NoMemory>
     ensures status { IfOk result (λ answer. answer.status ≡ TOO_LARGE) }
     ensures text { IfOk result (λ answer. answer.text ≡ large_line) }
 {
     let text = Vec::from_slice(alloc, LARGE)?;
-    Ok(Answer {
+    Ok(ServiceAnswer {
         status: TOO_LARGE,
-        text: Pieces::one(alloc, text)?,
+        text: TextPieces::one(alloc, text)?,
     })
 }

@@ -3,22 +3,22 @@
 ghost use Rattle.std.specs.Prelude.{◌≡◌, ◌≢◌, ◌≤◌, ◌<◌, ◌*◌, ◌↔◌, ℕ, List, IfOk, IsFalse, IsTrue, Err, Ok, true};
 ghost use Rattle.flat_io.specs.Counts.{has_risen};
 ghost use Rattle.flat_forms.specs.Body.{dones, ends_frame};
-ghost use Rattle.flat_render.specs.declared.grid.TheConstants.{PIXELS_MAX};
+ghost use Rattle.flat_render.specs.declared.tile_grid.TheConstants.{PIXELS_MAX};
 ghost use Rattle.flat_run.specs.Answering.{IsGiven, IsRead, IsRunnable};
 ghost use Rattle.flat_run.specs.Forms.{Fits, form_read, is_read, pixels};
 ghost use Rattle.flat_run.specs.Promise.{AreGiven, IsTooLarge};
 
-use crate::answers::{Answer, Unanswered, large, refusal};
-use crate::reading::{Reading, read_text};
+use crate::answers::{NoAnswer, ServiceAnswer, large, refusal};
+use crate::reading::{ParsedText, read_text};
 use flat_base::{NoMemory, SCRIPT_BYTES_MAX};
 use flat_extra::{extra_laws, pointers_rise, rests_are_read};
 use flat_io::{ReadAll, Source, read_all};
 use flat_places::{FaultKind, Script};
 use flat_playable::scripts_are_playable;
 use flat_render::is_too_large;
-use flat_scene::{Body, DisplayLine};
+use flat_scene::{DisplayLine, LineBody};
 use flat_script::{ScriptError, ScriptFault};
-use flat_words::Form;
+use flat_words::ServiceWord;
 use std::alloc::Global;
 use std::thread::Threads;
 
@@ -26,19 +26,19 @@ use std::thread::Threads;
 #[derive(Drop)]
 pub(crate) enum Given {
     /// A script that can be run.
-    Script(Reading),
+    Script(ParsedText),
     /// None; this is the answer.
-    Refused(Answer),
+    Refused(ServiceAnswer),
 }
 
 /// The pictures of all frames together have no more pixels than these.
 pub const FILM_PIXELS_MAX: u64 = 268_435_456;
 
 /// Whether a line of a script ends a frame.
-fn ends_frame(body: &Body) -> bool
+fn ends_frame(body: &LineBody) -> bool
     ensures { result ≡ ends_frame body.now }
 {
-    matches!(body, Body::Display(DisplayLine::Done))
+    matches!(body, LineBody::Display(DisplayLine::Done))
 }
 
 /// How many frames a script finishes.
@@ -61,13 +61,13 @@ fn is_film_too_large(script: &Script) -> bool
 }
 
 /// Whether a form writes a picture that would have too many pixels.
-fn is_too_large_for(form: Form, script: &Script) -> bool
+fn is_too_large_for(form: ServiceWord, script: &Script) -> bool
     ensures large { IsTrue result → IsTooLarge form script.now }
     ensures fits { IsFalse result → Fits form script.now }
 {
     match form {
-        Form::Render => is_too_large(script.setup.width, script.setup.height),
-        Form::Film => {
+        ServiceWord::Render => is_too_large(script.setup.width, script.setup.height),
+        ServiceWord::Film => {
             is_too_large(script.setup.width, script.setup.height) || is_film_too_large(script)
         }
         _ => false,
@@ -75,7 +75,7 @@ fn is_too_large_for(form: Form, script: &Script) -> bool
 }
 
 /// What was read, unless its display is too large for the form.
-fn fitting(alloc: Global, form: Form, reading: Reading) -> Result<Given, NoMemory>
+fn fitting(alloc: Global, form: ServiceWord, reading: ParsedText) -> Result<Given, NoMemory>
     requires runnable { IsRunnable reading }
     ensures { (bytes : List ℕ) → form_read form bytes ≡ Ok reading →
         IfOk result (λ given. IsRead form bytes given) }
@@ -92,7 +92,7 @@ fn fitting(alloc: Global, form: Form, reading: Reading) -> Result<Given, NoMemor
 fn read_bytes<T: Threads + Sync>(
     rt: &T,
     alloc: Global,
-    form: Form,
+    form: ServiceWord,
     bytes: &[u8],
 ) -> Result<Given, NoMemory>
     ensures { IfOk result (λ given. IsRead form bytes.now given) }
@@ -112,17 +112,17 @@ fn read_bytes<T: Threads + Sync>(
 pub(crate) fn read_source<T: Threads + Sync, R: Source>(
     rt: &T,
     alloc: Global,
-    form: Form,
+    form: ServiceWord,
     source: &mut R,
-) -> Result<Given, Unanswered>
+) -> Result<Given, NoAnswer>
     requires { is_read form ≡ true }
     ensures is { IfOk result (λ given. IsGiven form (R.left source.old) (R.left source.new)
         given) }
-    ensures fault { result ≡ Err Unanswered.Fault →
+    ensures fault { result ≡ Err NoAnswer.Fault →
         IsTrue (has_risen (R.faults source.old) (R.faults source.new)) }
     ensures given { (given : List ℕ) × AreGiven given (R.left source.old) (R.left source.new) }
     ensures counts { R.faults source.old ≤ R.faults source.new }
-    ensures steady { result ≢ Err Unanswered.Fault → R.faults source.new ≡ R.faults source.old }
+    ensures steady { result ≢ Err NoAnswer.Fault → R.faults source.new ≡ R.faults source.old }
 {
     match read_all(alloc, source, SCRIPT_BYTES_MAX) {
         Ok(bytes) => Ok(read_bytes(rt, alloc, form, bytes.as_slice())?),
@@ -133,7 +133,7 @@ pub(crate) fn read_source<T: Threads + Sync, R: Source>(
             };
             Ok(Given::Refused(refusal(alloc, fault)?))
         }
-        Err(ReadAll::Fault) => Err(Unanswered::Fault),
-        Err(ReadAll::Memory) => Err(Unanswered::Memory),
+        Err(ReadAll::Fault) => Err(NoAnswer::Fault),
+        Err(ReadAll::Memory) => Err(NoAnswer::Memory),
     }
 }

@@ -2,18 +2,18 @@
 //! run for displays, and they are shown nothing.
 ghost use Rattle.std.specs.Prelude.{◌≡◌, ◌≢◌, ◌≤◌, ℕ, List, IfOk, OnOk, IsTrue, Err};
 ghost use Rattle.flat_io.specs.Counts.{has_risen};
-ghost use Rattle.flat_judge.specs.declared.cutting.Judged.TheVariants.{Said};
+ghost use Rattle.flat_judge.specs.declared.cutting.JudgedText.TheVariants.{Said};
 ghost use Rattle.flat_page.specs.Pages.{Puts};
 ghost use Rattle.flat_run.specs.Judging.{IsJudged, judged_status, judged_text, legal_line};
 ghost use Rattle.flat_run.specs.Judging.{want_line, wrong_lines};
 ghost use Rattle.flat_run.specs.Promise.{AreAll, AreGiven};
 
-use crate::answers::{Answer, DONE, Unanswered, WRONG, refusal};
+use crate::answers::{DONE, NoAnswer, ServiceAnswer, WRONG, refusal};
 use flat_base::{Items, NoMemory};
 use flat_io::{ReadAll, Source, read_all};
-use flat_judge::{Judged, Verdict, judge_text};
+use flat_judge::{JudgedText, ReportVerdict, judge_text};
 use flat_page::Page;
-use flat_report::Pieces;
+use flat_report::TextPieces;
 use std::alloc::Global;
 
 /// The most bytes that are judged: for a script with more of them behind it, memory would run
@@ -55,44 +55,47 @@ fn wrong_text(alloc: Global, number: u64, want: &Option<Items<u8>>) -> Result<Ve
 }
 
 /// What is written of a verdict.
-fn verdict_answer(alloc: Global, verdict: &Verdict) -> Result<Answer, NoMemory>
+fn verdict_answer(alloc: Global, verdict: &ReportVerdict) -> Result<ServiceAnswer, NoMemory>
     ensures status { IfOk result (λ answer. answer.status ≡ judged_status (Said verdict.now)) }
     ensures text { IfOk result (λ answer. answer.text ≡ judged_text (Said verdict.now)) }
 {
     let (status, text) = match verdict {
-        Verdict::Legal(entries, frames) => (DONE, legal_text(alloc, *entries, *frames)?),
-        Verdict::Wrong(line, want) => (WRONG, wrong_text(alloc, *line, want)?),
+        ReportVerdict::Legal(entries, frames) => (DONE, legal_text(alloc, *entries, *frames)?),
+        ReportVerdict::Wrong(line, want) => (WRONG, wrong_text(alloc, *line, want)?),
     };
-    Ok(Answer {
+    Ok(ServiceAnswer {
         status,
-        text: Pieces::one(alloc, text)?,
+        text: TextPieces::one(alloc, text)?,
     })
 }
 
 /// What is written of a text.
-fn judged_answer(alloc: Global, bytes: &[u8]) -> Result<Answer, NoMemory>
+fn judged_answer(alloc: Global, bytes: &[u8]) -> Result<ServiceAnswer, NoMemory>
     ensures { IfOk result (λ answer. IsJudged bytes.now answer.status answer.text) }
 {
     match judge_text(alloc, bytes)? {
-        Judged::Said(verdict) => verdict_answer(alloc, &verdict),
-        Judged::Refused(fault) => refusal(alloc, fault),
+        JudgedText::Said(verdict) => verdict_answer(alloc, &verdict),
+        JudgedText::Refused(fault) => refusal(alloc, fault),
     }
 }
 
 /// Reads a source to its end, and judges it.
-pub(crate) fn answer_judged<R: Source>(alloc: Global, source: &mut R) -> Result<Answer, Unanswered>
+pub(crate) fn answer_judged<R: Source>(
+    alloc: Global,
+    source: &mut R,
+) -> Result<ServiceAnswer, NoAnswer>
     ensures judged { IfOk result (λ answer. (bytes : List ℕ)
         × AreAll bytes (R.left source.old) (R.left source.new)
         × IsJudged bytes answer.status answer.text) }
-    ensures fault { result ≡ Err Unanswered.Fault →
+    ensures fault { result ≡ Err NoAnswer.Fault →
         IsTrue (has_risen (R.faults source.old) (R.faults source.new)) }
     ensures given { (given : List ℕ) × AreGiven given (R.left source.old) (R.left source.new) }
     ensures counts { R.faults source.old ≤ R.faults source.new }
-    ensures steady { result ≢ Err Unanswered.Fault → R.faults source.new ≡ R.faults source.old }
+    ensures steady { result ≢ Err NoAnswer.Fault → R.faults source.new ≡ R.faults source.old }
 {
     match read_all(alloc, source, JUDGED_BYTES_MAX) {
         Ok(bytes) => Ok(judged_answer(alloc, bytes.as_slice())?),
-        Err(ReadAll::Fault) => Err(Unanswered::Fault),
-        Err(ReadAll::TooLong | ReadAll::Memory) => Err(Unanswered::Memory),
+        Err(ReadAll::Fault) => Err(NoAnswer::Fault),
+        Err(ReadAll::TooLong | ReadAll::Memory) => Err(NoAnswer::Memory),
     }
 }

@@ -20,4 +20,4 @@ mod why;
 mod writing;
 
 pub use laws::{reports_have_one_run, runs_are_one};
-pub use top::{flatland, serve};
+pub use top::{RaceHost, flatland, serve};

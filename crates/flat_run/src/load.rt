@@ -10,23 +10,23 @@ ghost use Rattle.flat_base.specs.Last.{last_item};
 ghost use Rattle.std.specs.Option.{option_copied};
 ghost use Rattle.flat_script.specs.Grammar.{text_read};
 ghost use Rattle.flat_stress.specs.Load.{load_text};
-ghost use Rattle.flat_words.specs.declared.form.Form.TheVariants.{Stress};
+ghost use Rattle.flat_words.specs.declared.service_word.ServiceWord.TheVariants.{Stress};
 ghost use Rattle.flat_display.specs.Had.{AreKept};
 ghost use Rattle.flat_play.specs.Beginning.{AreBegun};
 ghost use Rattle.flat_run.specs.Promise.{AreFramesOf, IsTold};
 ghost use Rattle.flat_run.specs.Totals.{is_present, items_of, totals_of};
 
-use crate::answers::{Answer, DONE};
+use crate::answers::{DONE, ServiceAnswer};
 use flat_base::NoMemory;
 use flat_display::Display;
 use flat_places::Script;
-use flat_play::{Keeping, play_script};
+use flat_play::{FramesToKeep, play_script};
 use flat_playable::scripts_are_playable;
-use flat_report::{Pieces, due_presents_are_taken, frames_are_seen};
+use flat_report::{TextPieces, due_presents_are_taken, frames_are_seen};
 use flat_rules::families_are_alone;
-use flat_scene::{Entry, FrameOut, Journal, Kind, Setup};
+use flat_scene::{Entry, EntryKind, FrameOut, Journal, Setup};
 use flat_script::{ScriptError, parse};
-use flat_stress::{Totals, loads_are_scripts, loads_have_their_frames, summary};
+use flat_stress::{LoadTotals, loads_are_scripts, loads_have_their_frames, summary};
 use std::alloc::Global;
 
 /// How many of some entries end a frame, and how many are presents.
@@ -43,17 +43,17 @@ fn finishes_and_presents(entries: &[Entry]) -> (usize, usize)
     (finishes, presents)
 }
 
-fn is_finish(kind: &Kind) -> bool
+fn is_finish(kind: &EntryKind) -> bool
     ensures { result ≡ is_finish kind.now }
 {
-    matches!(kind, Kind::Finish)
+    matches!(kind, EntryKind::Finish)
 }
 
 #[tactic(auto, unfolding(crate::specs::Totals::is_present))]
-fn is_present(kind: &Kind) -> bool
+fn is_present(kind: &EntryKind) -> bool
     ensures { result ≡ is_present kind.now }
 {
-    matches!(kind, Kind::Present(_))
+    matches!(kind, EntryKind::Present(_))
 }
 
 /// How many items the last frame has.
@@ -68,14 +68,14 @@ fn items_of(last: Option<&FrameOut>) -> usize
 
 /// What a run of the load of so many frames comes to, by its setup, its journal and the
 /// last of the frames that it finished.
-fn totals_of(frames: u32, setup: &Setup, journal: &Journal, last: Option<&FrameOut>) -> Totals
+fn totals_of(frames: u32, setup: &Setup, journal: &Journal, last: Option<&FrameOut>) -> LoadTotals
     requires { option_copied last ≡
         last_item (finished setup.now (history_of journal.now.entries.items)) }
     ensures { result ≡ totals_of frames setup.now (history_of journal.now.entries.items) }
 {
     let entries = journal.entries.as_slice();
     let (finishes, presents) = finishes_and_presents(entries);
-    Totals {
+    LoadTotals {
         load: frames,
         sessions: setup.sessions,
         entries: entries.len(),
@@ -106,7 +106,7 @@ fn summed(
     frames_are_seen();
     scripts_are_playable();
     loads_have_their_frames();
-    let played = play_script(alloc, script, Keeping::Last, displays)?;
+    let played = play_script(alloc, script, FramesToKeep::Last, displays)?;
     let journal = played.board.journal();
     let totals = totals_of(frames, &script.setup, journal, played.kept.last());
     played.let_go();
@@ -153,7 +153,7 @@ pub fn stress(
     alloc: Global,
     frames: u32,
     displays: &mut Vec<Box<dyn Display>>,
-) -> Result<Answer, NoMemory>
+) -> Result<ServiceAnswer, NoMemory>
     requires first { 1 ≤ frames }
     requires last { frames ≤ LOAD_FRAMES_MAX }
     requires few { length displays.old.items < 2 ^ 32 }
@@ -164,8 +164,8 @@ pub fn stress(
         (load_text frames)) displays.old.items displays.new.items (λ d. d.vtable) }
 {
     let text = load_summary(alloc, frames, displays)?;
-    Ok(Answer {
+    Ok(ServiceAnswer {
         status: DONE,
-        text: Pieces::one(alloc, text)?,
+        text: TextPieces::one(alloc, text)?,
     })
 }

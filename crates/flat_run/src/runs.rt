@@ -2,7 +2,7 @@
 //! the first byte is written. So the program never runs out of memory halfway through a
 //! report.
 ghost use Rattle.std.specs.Prelude.{◌≡◌, ◌≢◌, ◌<◌, ◌^◌, [], ℕ, List, true, false, map, length, IfOk, Ok, Err};
-ghost use Rattle.flat_words.specs.declared.form.Form.TheVariants.{Film, Judge, Pointer, Race, Why};
+ghost use Rattle.flat_words.specs.declared.service_word.ServiceWord.TheVariants.{Film, Judge, Pointer, Race, Why};
 ghost use Rattle.flat_words.specs.Forms.{IsAllowed};
 ghost use Rattle.flat_display.specs.Had.{AreKept};
 ghost use Rattle.flat_play.specs.Beginning.{AreBegun};
@@ -13,23 +13,23 @@ ghost use Rattle.flat_run.specs.Forms.{Fits, form_read, is_read};
 ghost use Rattle.flat_run.specs.Kept.{keeping_for};
 ghost use Rattle.flat_run.specs.Promise.{IsTold};
 
-use crate::answers::{Answer, DONE, Unanswered};
+use crate::answers::{DONE, NoAnswer, ServiceAnswer};
 use crate::film::film_told;
 use crate::given::{Given, read_source};
 use crate::judging::answer_judged;
 use crate::load::stress;
-use crate::reading::Reading;
+use crate::reading::ParsedText;
 use crate::texts::{keeping_for, text_of};
 use crate::why::why_told;
 use flat_base::NoMemory;
 use flat_display::Display;
 use flat_io::Source;
-use flat_play::{Keeping, Played, play_script, play_touched};
-use flat_pointer::Touch;
+use flat_play::{FinishedPlay, FramesToKeep, play_script, play_touched};
+use flat_pointer::PointerTouch;
 use flat_race::{Gate, race_script};
-use flat_report::{Pieces, due_presents_are_taken, frames_are_seen};
+use flat_report::{TextPieces, due_presents_are_taken, frames_are_seen};
 use flat_rules::families_are_alone;
-use flat_words::Form;
+use flat_words::ServiceWord;
 use std::alloc::Global;
 use std::sync::Wait;
 use std::thread::Threads;
@@ -37,10 +37,10 @@ use std::thread::Threads;
 /// Plays what was read, in written order. Pointers' lines are answered on the way.
 fn play_reading(
     alloc: Global,
-    form: Form,
-    reading: &Reading,
+    form: ServiceWord,
+    reading: &ParsedText,
     displays: &mut Vec<Box<dyn Display>>,
-) -> Result<(Played, Vec<Touch>), NoMemory>
+) -> Result<(FinishedPlay, Vec<PointerTouch>), NoMemory>
     requires runnable { IsRunnable reading.now }
     requires few { length displays.old.items < 2 ^ 32 }
     ensures run { IfOk result (λ ran. HasRunInOrder (λ d. shown d) (λ d. faults d)
@@ -52,7 +52,7 @@ fn play_reading(
 {
     let keeping = keeping_for(form);
     match form {
-        Form::Pointer => {
+        ServiceWord::Pointer => {
             let lines = reading.pointers.as_slice();
             play_touched(alloc, &reading.script, keeping, lines, displays)
         }
@@ -67,10 +67,10 @@ fn play_reading(
 fn told<T: Threads + Sync>(
     rt: &T,
     alloc: Global,
-    form: Form,
-    reading: &Reading,
+    form: ServiceWord,
+    reading: &ParsedText,
     displays: &mut Vec<Box<dyn Display>>,
-) -> Result<Pieces, NoMemory>
+) -> Result<TextPieces, NoMemory>
     requires read { is_read form ≡ true }
     requires of_run { form ≢ Why }
     requires no_judge { form ≢ Judge }
@@ -88,6 +88,7 @@ fn told<T: Threads + Sync>(
     due_presents_are_taken();
     frames_are_seen();
     let (played, touches) = play_reading(alloc, form, reading, displays)?;
+    // proof: the entries so far are legal.
     let _journal = played.board.journal();
     text_of(rt, alloc, form, reading, played, touches.as_slice())
 }
@@ -96,10 +97,10 @@ fn told<T: Threads + Sync>(
 fn told_for<T: Threads + Sync>(
     rt: &T,
     alloc: Global,
-    form: Form,
-    reading: &Reading,
+    form: ServiceWord,
+    reading: &ParsedText,
     displays: &mut Vec<Box<dyn Display>>,
-) -> Result<Pieces, NoMemory>
+) -> Result<TextPieces, NoMemory>
     requires read { is_read form ≡ true }
     requires no_judge { form ≢ Judge }
     requires runnable { IsRunnable reading.now }
@@ -112,8 +113,8 @@ fn told_for<T: Threads + Sync>(
         displays.old.items displays.new.items (λ d. d.vtable) }
 {
     match form {
-        Form::Why => why_told(alloc, reading, displays),
-        Form::Film => film_told(rt, alloc, reading, displays),
+        ServiceWord::Why => why_told(alloc, reading, displays),
+        ServiceWord::Film => film_told(rt, alloc, reading, displays),
         _ => told(rt, alloc, form, reading, displays),
     }
 }
@@ -122,10 +123,10 @@ fn told_for<T: Threads + Sync>(
 fn raced<T: Threads + Wait + Sync, G: Gate>(
     rt: &T,
     alloc: Global,
-    reading: &Reading,
+    reading: &ParsedText,
     displays: &mut Vec<Box<dyn Display>>,
     gate: &G,
-) -> Result<Pieces, NoMemory>
+) -> Result<TextPieces, NoMemory>
     requires runnable { IsRunnable reading.now }
     requires few { length displays.old.items < 2 ^ 32 }
     ensures told { (bytes : List ℕ) → form_read Race bytes ≡ Ok reading.now →
@@ -137,19 +138,27 @@ fn raced<T: Threads + Wait + Sync, G: Gate>(
     families_are_alone();
     due_presents_are_taken();
     frames_are_seen();
-    let played = race_script(rt, alloc, &reading.script, Keeping::Texts, displays, gate)?;
+    let played = race_script(
+        rt,
+        alloc,
+        &reading.script,
+        FramesToKeep::Texts,
+        displays,
+        gate,
+    )?;
+    // proof: the entries so far are legal.
     let _journal = played.board.journal();
-    text_of(rt, alloc, Form::Race, reading, played, &[])
+    text_of(rt, alloc, ServiceWord::Race, reading, played, &[])
 }
 
 /// Reads a source, and plays what it gives.
 fn answer_read<T: Threads + Sync, R: Source>(
     rt: &T,
     alloc: Global,
-    form: Form,
+    form: ServiceWord,
     source: &mut R,
     displays: &mut Vec<Box<dyn Display>>,
-) -> Result<Answer, Unanswered>
+) -> Result<ServiceAnswer, NoAnswer>
     requires read { is_read form ≡ true }
     requires in_order { form ≢ Race }
     requires no_judge { form ≢ Judge }
@@ -161,7 +170,7 @@ fn answer_read<T: Threads + Sync, R: Source>(
         displays.old.items displays.new.items result }
     ensures untouched { IfOk result
         (λ answer. answer.status ≢ DONE → displays.new ≡ displays.old) }
-    ensures failed { result ≡ Err Unanswered.Fault → displays.new ≡ displays.old }
+    ensures failed { result ≡ Err NoAnswer.Fault → displays.new ≡ displays.old }
 {
     let reading = match read_source(rt, alloc, form, source) {
         Ok(Given::Script(reading)) => reading,
@@ -171,8 +180,8 @@ fn answer_read<T: Threads + Sync, R: Source>(
     let text = told_for(rt, alloc, form, &reading, displays);
     drop(reading);
     match text {
-        Ok(text) => Ok(Answer { status: DONE, text }),
-        Err(NoMemory) => Err(Unanswered::Memory),
+        Ok(text) => Ok(ServiceAnswer { status: DONE, text }),
+        Err(NoMemory) => Err(NoAnswer::Memory),
     }
 }
 
@@ -180,10 +189,10 @@ fn answer_read<T: Threads + Sync, R: Source>(
 pub(crate) fn answer_in_order<T: Threads + Sync, R: Source>(
     rt: &T,
     alloc: Global,
-    form: Form,
+    form: ServiceWord,
     source: &mut R,
     displays: &mut Vec<Box<dyn Display>>,
-) -> Result<Answer, Unanswered>
+) -> Result<ServiceAnswer, NoAnswer>
     requires allowed { IsAllowed form }
     requires in_order { form ≢ Race }
     requires few { length displays.old.items < 2 ^ 32 }
@@ -194,15 +203,15 @@ pub(crate) fn answer_in_order<T: Threads + Sync, R: Source>(
         displays.old.items displays.new.items result }
     ensures untouched { IfOk result
         (λ answer. answer.status ≢ DONE → displays.new ≡ displays.old) }
-    ensures failed { result ≡ Err Unanswered.Fault → displays.new ≡ displays.old }
+    ensures failed { result ≡ Err NoAnswer.Fault → displays.new ≡ displays.old }
     ensures unread { is_read form ≡ false → source.new ≡ source.old }
 {
     match form {
-        Form::Stress(frames) => match stress(alloc, frames, displays) {
+        ServiceWord::Stress(frames) => match stress(alloc, frames, displays) {
             Ok(answer) => Ok(answer),
-            Err(NoMemory) => Err(Unanswered::Memory),
+            Err(NoMemory) => Err(NoAnswer::Memory),
         },
-        Form::Judge => answer_judged(alloc, source),
+        ServiceWord::Judge => answer_judged(alloc, source),
         _ => answer_read(rt, alloc, form, source, displays),
     }
 }
@@ -214,7 +223,7 @@ pub(crate) fn answer_race<T: Threads + Wait + Sync, R: Source, G: Gate>(
     source: &mut R,
     displays: &mut Vec<Box<dyn Display>>,
     gate: &G,
-) -> Result<Answer, Unanswered>
+) -> Result<ServiceAnswer, NoAnswer>
     requires few { length displays.old.items < 2 ^ 32 }
     ensures answers { Answers (λ d. shown d) (λ d. (Display-box d).faults d.value)
         (λ d. d.vtable) Race
@@ -223,9 +232,9 @@ pub(crate) fn answer_race<T: Threads + Wait + Sync, R: Source, G: Gate>(
         displays.old.items displays.new.items result }
     ensures untouched { IfOk result
         (λ answer. answer.status ≢ DONE → displays.new ≡ displays.old) }
-    ensures failed { result ≡ Err Unanswered.Fault → displays.new ≡ displays.old }
+    ensures failed { result ≡ Err NoAnswer.Fault → displays.new ≡ displays.old }
 {
-    let reading = match read_source(rt, alloc, Form::Race, source) {
+    let reading = match read_source(rt, alloc, ServiceWord::Race, source) {
         Ok(Given::Script(reading)) => reading,
         Ok(Given::Refused(answer)) => return Ok(answer),
         Err(why) => return Err(why),
@@ -233,7 +242,7 @@ pub(crate) fn answer_race<T: Threads + Wait + Sync, R: Source, G: Gate>(
     let text = raced(rt, alloc, &reading, displays, gate);
     drop(reading);
     match text {
-        Ok(text) => Ok(Answer { status: DONE, text }),
-        Err(NoMemory) => Err(Unanswered::Memory),
+        Ok(text) => Ok(ServiceAnswer { status: DONE, text }),
+        Err(NoMemory) => Err(NoAnswer::Memory),
     }
 }

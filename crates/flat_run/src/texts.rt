@@ -11,9 +11,9 @@ ghost use Rattle.flat_focus.specs.Text.{focus_text};
 ghost use Rattle.flat_report.specs.Probes.{ProbesAnswered, frames_seen};
 ghost use Rattle.flat_report.specs.Report.{finished, report};
 ghost use Rattle.flat_rules.specs.Legal.{Legal};
-ghost use Rattle.flat_play.specs.declared.kept.Keeping.TheVariants as keeping;
+ghost use Rattle.flat_play.specs.declared.kept_frames.FramesToKeep.TheVariants as keeping;
 ghost use Rattle.flat_play.specs.Keeping.{keeping_of};
-ghost use Rattle.flat_words.specs.declared.form.Form.TheVariants.{Film, Judge, Pointer, Render, Why};
+ghost use Rattle.flat_words.specs.declared.service_word.ServiceWord.TheVariants.{Film, Judge, Pointer, Render, Why};
 ghost use Rattle.flat_texts.specs.Damages.{IsDamageText};
 ghost use Rattle.flat_texts.specs.Lines.{finish_lines};
 ghost use Rattle.flat_texts.specs.Pictures.{picture_text};
@@ -21,31 +21,35 @@ ghost use Rattle.flat_run.specs.Answering.{IsRunnable, ran_of};
 ghost use Rattle.flat_run.specs.Forms.{is_read, Fits, IsTextOf};
 ghost use Rattle.flat_run.specs.Kept.{keeping_for};
 
-use crate::reading::Reading;
+use crate::reading::ParsedText;
 use flat_base::{Items, NoMemory};
 use flat_core::shown_states_fit;
 use flat_focus::{focus_laws, print_focus};
 use flat_places::Script;
-use flat_play::{Keeping, Played, let_go};
-use flat_pointer::{Touch, pointer_laws, print_pointers};
-use flat_report::{Pieces, RunRecord, handed_is_report, print_report_on};
+use flat_play::{FinishedPlay, FramesToKeep, let_go};
+use flat_pointer::{PointerTouch, pointer_laws, print_pointers};
+use flat_report::{RunRecord, TextPieces, handed_is_report, print_report_on};
 use flat_rules::items_are_drawable;
 use flat_scene::FrameOut;
 use flat_texts::{finish_lines, picture_of};
 use flat_tree::views_are_a_tree;
-use flat_words::Form;
+use flat_words::ServiceWord;
 use std::alloc::Global;
 use std::thread::Threads;
 
 /// What a run keeps of its frames for what a form writes.
-pub(crate) fn keeping_for(form: Form) -> Keeping
+pub(crate) fn keeping_for(form: ServiceWord) -> FramesToKeep
     ensures { result ≡ keeping_for form }
 {
     match form {
-        Form::Play | Form::Race => Keeping::Texts,
-        Form::Damage => Keeping::Damages,
-        Form::Focus | Form::Pointer => Keeping::Trees,
-        Form::Render | Form::Stress(_) | Form::Judge | Form::Why | Form::Film => Keeping::Last,
+        ServiceWord::Play | ServiceWord::Race => FramesToKeep::Texts,
+        ServiceWord::Damage => FramesToKeep::Damages,
+        ServiceWord::Focus | ServiceWord::Pointer => FramesToKeep::Trees,
+        ServiceWord::Render
+        | ServiceWord::Stress(_)
+        | ServiceWord::Judge
+        | ServiceWord::Why
+        | ServiceWord::Film => FramesToKeep::Last,
     }
 }
 
@@ -54,8 +58,8 @@ fn report_of<T: Threads + Sync>(
     rt: &T,
     alloc: Global,
     script: &Script,
-    played: Played,
-) -> Result<Pieces, NoMemory>
+    played: FinishedPlay,
+) -> Result<TextPieces, NoMemory>
     requires playable { is_playable script.now ≡ true }
     requires played { HasPlayed script.now played.board played.kept played.answers }
     requires probes { ProbesAnswered script.now played.board.history played.probes.items }
@@ -64,7 +68,7 @@ fn report_of<T: Threads + Sync>(
         report script.now played.board.history played.set.lost (frames_seen played.probes.items)) }
 {
     handed_is_report();
-    let Played {
+    let FinishedPlay {
         board,
         kept,
         answers,
@@ -92,8 +96,8 @@ fn last_picture<T: Threads + Sync>(
     rt: &T,
     alloc: Global,
     script: &Script,
-    played: &Played,
-) -> Result<Pieces, NoMemory>
+    played: &FinishedPlay,
+) -> Result<TextPieces, NoMemory>
     requires playable { is_playable script.now ≡ true }
     requires played { HasPlayed script.now played.now.board played.now.kept played.now.answers }
     requires fits { Fits Render script.now }
@@ -109,7 +113,7 @@ fn last_picture<T: Threads + Sync>(
 fn finished_of(
     alloc: Global,
     script: &Script,
-    played: Played,
+    played: FinishedPlay,
 ) -> Result<(Vec<u32>, Items<FrameOut>), NoMemory>
     requires played { HasPlayed script.now played.board played.kept played.answers }
     requires keeping { keeping_of played.kept ≡ keeping.Trees }
@@ -127,7 +131,7 @@ fn finished_of(
 }
 
 /// Who had the focus in a run.
-fn focus_of(alloc: Global, reading: &Reading, played: Played) -> Result<Vec<u8>, NoMemory>
+fn focus_of(alloc: Global, reading: &ParsedText, played: FinishedPlay) -> Result<Vec<u8>, NoMemory>
     requires played { HasPlayed reading.now.script played.board played.kept played.answers }
     requires keeping { keeping_of played.kept ≡ keeping.Trees }
     ensures { IfOk result (λ text. text.items ≡
@@ -152,9 +156,9 @@ fn focus_of(alloc: Global, reading: &Reading, played: Played) -> Result<Vec<u8>,
 /// To which sessions the pointers' lines went in a run.
 fn pointers_of(
     alloc: Global,
-    reading: &Reading,
-    played: Played,
-    touches: &[Touch],
+    reading: &ParsedText,
+    played: FinishedPlay,
+    touches: &[PointerTouch],
 ) -> Result<Vec<u8>, NoMemory>
     requires runnable { IsRunnable reading.now }
     requires played { HasPlayed reading.now.script played.board played.kept played.answers }
@@ -178,7 +182,7 @@ fn pointers_of(
 }
 
 /// What changed from frame to frame in a run.
-fn damages_of(script: &Script, played: Played) -> Result<Vec<u8>, NoMemory>
+fn damages_of(script: &Script, played: FinishedPlay) -> Result<Vec<u8>, NoMemory>
     requires played { HasPlayed script.now played.board played.kept played.answers }
     requires keeping { keeping_of played.kept ≡ keeping.Damages }
     ensures { IfOk result
@@ -190,10 +194,10 @@ fn damages_of(script: &Script, played: Played) -> Result<Vec<u8>, NoMemory>
 /// The lines that a form writes of a run in place of its report.
 fn lines_of(
     alloc: Global,
-    form: Form,
-    reading: &Reading,
-    played: Played,
-    touches: &[Touch],
+    form: ServiceWord,
+    reading: &ParsedText,
+    played: FinishedPlay,
+    touches: &[PointerTouch],
 ) -> Result<Vec<u8>, NoMemory>
     requires read { is_read form ≡ true }
     requires other { form ≢ Why }
@@ -211,16 +215,16 @@ fn lines_of(
         played.set.lost (frames_seen played.probes.items)) text.items) }
 {
     match form {
-        Form::Play
-        | Form::Race
-        | Form::Render
-        | Form::Stress(_)
-        | Form::Judge
-        | Form::Why
-        | Form::Film => unreachable!(),
-        Form::Damage => damages_of(&reading.script, played),
-        Form::Focus => focus_of(alloc, reading, played),
-        Form::Pointer => pointers_of(alloc, reading, played, touches),
+        ServiceWord::Play
+        | ServiceWord::Race
+        | ServiceWord::Render
+        | ServiceWord::Stress(_)
+        | ServiceWord::Judge
+        | ServiceWord::Why
+        | ServiceWord::Film => unreachable!(),
+        ServiceWord::Damage => damages_of(&reading.script, played),
+        ServiceWord::Focus => focus_of(alloc, reading, played),
+        ServiceWord::Pointer => pointers_of(alloc, reading, played, touches),
     }
 }
 
@@ -228,11 +232,11 @@ fn lines_of(
 pub(crate) fn text_of<T: Threads + Sync>(
     rt: &T,
     alloc: Global,
-    form: Form,
-    reading: &Reading,
-    played: Played,
-    touches: &[Touch],
-) -> Result<Pieces, NoMemory>
+    form: ServiceWord,
+    reading: &ParsedText,
+    played: FinishedPlay,
+    touches: &[PointerTouch],
+) -> Result<TextPieces, NoMemory>
     requires read { is_read form ≡ true }
     requires other { form ≢ Why }
     requires no_judge { form ≢ Judge }
@@ -248,15 +252,15 @@ pub(crate) fn text_of<T: Threads + Sync>(
         played.set.lost (frames_seen played.probes.items)) text) }
 {
     match form {
-        Form::Play | Form::Race => report_of(rt, alloc, &reading.script, played),
-        Form::Render => {
+        ServiceWord::Play | ServiceWord::Race => report_of(rt, alloc, &reading.script, played),
+        ServiceWord::Render => {
             let text = last_picture(rt, alloc, &reading.script, &played);
             played.let_go();
             text
         }
         _ => {
             let text = lines_of(alloc, form, reading, played, touches)?;
-            let pieces = Pieces::one(alloc, text)?;
+            let pieces = TextPieces::one(alloc, text)?;
             Ok(pieces)
         }
     }

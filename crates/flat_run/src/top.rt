@@ -5,8 +5,8 @@
 ghost use Rattle.std.specs.Prelude.{◌≡◌, ◌<◌, ◌^◌, ◌||◌, ◌==◌, None, true, false};
 ghost use Rattle.std.specs.Prelude.{length, map, IfSome, IsTrue};
 ghost use Rattle.std.specs.String.{string_bytes};
-ghost use Rattle.flat_words.specs.declared.form.Form.{Form};
-ghost use Rattle.flat_words.specs.declared.form.Form.TheVariants.{Race};
+ghost use Rattle.flat_words.specs.declared.service_word.ServiceWord.{ServiceWord};
+ghost use Rattle.flat_words.specs.declared.service_word.ServiceWord.TheVariants.{Race};
 ghost use Rattle.flat_words.specs.Forms.{CallFor};
 ghost use Rattle.flat_run.specs.Forms.{is_read};
 ghost use Rattle.flat_run.specs.Serving.{Serves};
@@ -17,7 +17,7 @@ use crate::writing::{write_answer, write_text};
 use flat_display::Display;
 use flat_io::{Sink, Source};
 use flat_race::Gate;
-use flat_words::{Form, read};
+use flat_words::{ServiceWord, read};
 use std::alloc::Global;
 use std::sync::Wait;
 use std::thread::Threads;
@@ -25,6 +25,13 @@ use std::thread::Threads;
 /// What is written where the words call for no form.
 const USAGE: &[u8] =
     b"usage: flatland play | race | stress N | render | damage | focus | pointer | judge | why | film\n";
+
+/// What a call of the service runs on: a runtime, and the gate that the actors of a `race` ask.
+#[derive(Clone, Copy)]
+pub struct RaceHost<'a, T, G> {
+    pub rt: &'a T,
+    pub gate: &'a G,
+}
 
 /// Serves a call as [`flatland`] does, unless its words are `race`: then nothing is done, and
 /// None is answered. It waits for nobody, so it always returns.
@@ -38,7 +45,7 @@ pub fn serve<T: Threads + Sync, R: Source, W: Sink>(
 ) -> Option<u8>
     requires { length displays.old.items < 2 ^ 32 }
     ensures race { result ≡ None → CallFor (map string_bytes words.now) Race
-        × ((form : Form) → CallFor (map string_bytes words.now) form → form ≡ Race) }
+        × ((form : ServiceWord) → CallFor (map string_bytes words.now) form → form ≡ Race) }
     ensures nothing { result ≡ None → (source.new ≡ source.old) × (sink.new ≡ sink.old)
         × (displays.new ≡ displays.old) }
     ensures serves { IfSome result (Serves (λ d. shown d)
@@ -53,12 +60,12 @@ pub fn serve<T: Threads + Sync, R: Source, W: Sink>(
         displays.new ≡ displays.old) }
     ensures unwritten { IfSome result (λ status. IsTrue (status == READ_FAULT
         || status == NO_MEMORY) → sink.new ≡ sink.old) }
-    ensures unread { IfSome result (λ _. ((form : Form) →
+    ensures unread { IfSome result (λ _. ((form : ServiceWord) →
         CallFor (map string_bytes words.now) form → is_read form ≡ false) →
         source.new ≡ source.old) }
 {
     match read(alloc, words) {
-        Ok(Some(Form::Race)) => None,
+        Ok(Some(ServiceWord::Race)) => None,
         Ok(Some(form)) => {
             let answer = answer_in_order(rt, alloc, form, source, displays);
             Some(write_answer(sink, alloc, answer))
@@ -83,21 +90,20 @@ pub fn serve<T: Threads + Sync, R: Source, W: Sink>(
 /// With any other status these counts are as they were. If the source tells a script and no
 /// count rose, the status is 0 or 6; for `render` or `film` of what is too large, 7 or 6.
 ///
-/// With 0 for any word but `judge`, and with 5 if the text was that of 0, each display that tells its frames has had
-/// those of the history, in order and once, or those before the frame at which it was lost.
-/// With 6 it has had frames of a legal history that the script's actors began, or none. With
-/// any other status, the displays are as they were.
+/// With 0 for any word but `judge`, and with 5 if the text was that of 0, each display that tells
+/// its frames has had those of the history, in order and once, or those before the frame at which
+/// it was lost. With 6 it has had frames of a legal history that the script's actors began, or
+/// none. With any other status, the displays are as they were.
 ///
 /// Whatever the status, the source has lost bytes from its front alone, the sink has only
 /// gained some, no count has fallen, and each display stands at its place.
 pub fn flatland<T: Threads + Wait + Sync, R: Source, W: Sink, G: Gate>(
-    rt: &T,
+    host: &RaceHost<'_, T, G>,
     alloc: Global,
     words: &[String],
     source: &mut R,
     sink: &mut W,
     displays: &mut Vec<Box<dyn Display>>,
-    gate: &G,
 ) -> u8
     requires { length displays.old.items < 2 ^ 32 }
     ensures serves { Serves (λ d. shown d) (λ d. (Display-box d).faults d.value) (λ d. d.vtable)
@@ -111,13 +117,13 @@ pub fn flatland<T: Threads + Wait + Sync, R: Source, W: Sink, G: Gate>(
         || result == READ_FAULT || result == TOO_LARGE || result == WRONG) →
         displays.new ≡ displays.old }
     ensures unwritten { IsTrue (result == READ_FAULT || result == NO_MEMORY) → sink.new ≡ sink.old }
-    ensures unread { ((form : Form) → CallFor (map string_bytes words.now) form →
+    ensures unread { ((form : ServiceWord) → CallFor (map string_bytes words.now) form →
         is_read form ≡ false) → source.new ≡ source.old }
 {
-    match serve(rt, alloc, words, source, sink, displays) {
+    match serve(host.rt, alloc, words, source, sink, displays) {
         Some(status) => status,
         None => {
-            let answer = answer_race(rt, alloc, source, displays, gate);
+            let answer = answer_race(host.rt, alloc, source, displays, host.gate);
             write_answer(sink, alloc, answer)
         }
     }

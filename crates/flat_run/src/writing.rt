@@ -3,14 +3,14 @@
 ghost use Rattle.std.specs.Prelude.{◌≡◌, ◌≢◌, ◌≤◌, ◌||◌, ◌==◌, ◌++◌, ℕ, List, IsTrue, Err, Ok, false};
 ghost use Rattle.flat_io.specs.Told.{Appends};
 ghost use Rattle.flat_io.specs.Whole.{AppendsPrefix};
-ghost use Rattle.flat_run.specs.declared.answers.Answer.{Answer};
-ghost use Rattle.flat_run.specs.declared.answers.Unanswered.TheVariants.{Fault, Memory};
+ghost use Rattle.flat_run.specs.declared.answers.ServiceAnswer.{ServiceAnswer};
+ghost use Rattle.flat_run.specs.declared.answers.NoAnswer.TheVariants.{Fault, Memory};
 ghost use Rattle.flat_run.specs.Promise.{either_rose};
 ghost use Rattle.flat_run.specs.Writing.{Writes};
 
-use crate::answers::{Answer, NO_MEMORY, READ_FAULT, Unanswered, WRITE_FAULT};
+use crate::answers::{NO_MEMORY, NoAnswer, READ_FAULT, ServiceAnswer, WRITE_FAULT};
 use flat_io::{Sink, write_all};
-use flat_report::Pieces;
+use flat_report::TextPieces;
 use std::alloc::Global;
 
 /// Writes a text that stands whole, and answers its status.
@@ -85,7 +85,7 @@ fn write_run<W: Sink>(sink: &mut W, waiting: &mut Vec<u8>, run: &[u8], status: u
 
 /// Writes a text in pieces, short runs together, and answers its status. If memory is refused
 /// for these, each is written by itself.
-fn write_pieces<W: Sink>(sink: &mut W, alloc: Global, text: &Pieces, status: u8) -> u8
+fn write_pieces<W: Sink>(sink: &mut W, alloc: Global, text: &TextPieces, status: u8) -> u8
     requires { status ≢ WRITE_FAULT }
     ensures whole { result ≡ status → Appends text.now (W.held sink.old) (W.held sink.new) }
     ensures part { result ≡ WRITE_FAULT →
@@ -115,10 +115,10 @@ fn write_pieces<W: Sink>(sink: &mut W, alloc: Global, text: &Pieces, status: u8)
 pub(crate) fn write_answer<W: Sink>(
     sink: &mut W,
     alloc: Global,
-    answer: Result<Answer, Unanswered>,
+    answer: Result<ServiceAnswer, NoAnswer>,
 ) -> u8
-    requires { (one : Answer) → answer ≡ Ok one → one.status ≢ WRITE_FAULT }
-    ensures writes { (one : Answer) → answer ≡ Ok one → Writes one.text one.status
+    requires { (one : ServiceAnswer) → answer ≡ Ok one → one.status ≢ WRITE_FAULT }
+    ensures writes { (one : ServiceAnswer) → answer ≡ Ok one → Writes one.text one.status
         (record { held = W.held sink.old; faults = W.faults sink.old; stalls = W.stalls sink.old })
         (record { held = W.held sink.new; faults = W.faults sink.new; stalls = W.stalls sink.new })
         result }
@@ -127,7 +127,7 @@ pub(crate) fn write_answer<W: Sink>(
 {
     match answer {
         Ok(answer) => write_pieces(sink, alloc, &answer.text, answer.status),
-        Err(Unanswered::Fault) => READ_FAULT,
-        Err(Unanswered::Memory) => NO_MEMORY,
+        Err(NoAnswer::Fault) => READ_FAULT,
+        Err(NoAnswer::Memory) => NO_MEMORY,
     }
 }

@@ -5,8 +5,8 @@ use Rattle.flat_base.specs.declared.ids.Actor.{Actor}
 use Rattle.flat_base.specs.declared.ids.Actor.TheVariants.{Display, Session, Probe}
 use Rattle.flat_base.specs.declared.ids.SessionNo.{SessionNo}
 use Rattle.flat_scene.specs.declared.journal.Entry.{Entry}
-use Rattle.flat_scene.specs.declared.journal.Kind.{Kind}
-use Rattle.flat_scene.specs.declared.journal.Kind.TheVariants.{Signal, Begin, Finish, Dpr}
+use Rattle.flat_scene.specs.declared.journal.EntryKind.{EntryKind}
+use Rattle.flat_scene.specs.declared.journal.EntryKind.TheVariants.{Signal, Begin, Finish, Dpr}
 use Rattle.flat_scene.specs.declared.setup.FenceDecl.{FenceDecl}
 use Rattle.flat_scene.specs.declared.setup.PairDecl.{PairDecl}
 use Rattle.flat_scene.specs.declared.setup.Setup.{Setup}
@@ -32,7 +32,7 @@ abbrev pub family : Setup → SessionNo → SessionNo → Bool
 family setup s t = s.0 == t.0 || is_reached_by (is_linked setup) (sessions_to setup.sessions) s t
 
 -- what the compositor does to all sessions: frames, signals, and pixel ratios
-abbrev pub is_frame_entry : Kind → Bool
+abbrev pub is_frame_entry : EntryKind → Bool
 is_frame_entry (Begin time) = true
 is_frame_entry Finish = true
 is_frame_entry (Signal f) = true
@@ -40,7 +40,7 @@ is_frame_entry (Dpr ratio) = true
 is_frame_entry _ = false
 
 -- an entry of that kind and that actor is kept
-abbrev pub keeps : (SessionNo → Bool) → Kind → Actor → Bool
+abbrev pub keeps : (SessionNo → Bool) → EntryKind → Actor → Bool
 keeps of_family kind (Session s) = of_family s
 keeps of_family kind Display = is_frame_entry kind
 keeps of_family kind (Probe p) = false

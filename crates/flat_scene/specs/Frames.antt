@@ -7,8 +7,8 @@ use Rattle.flat_base.specs.declared.ids.FenceNo.{FenceNo}
 use Rattle.flat_base.specs.declared.limits.TheConstants.{FIRST_CREDITS, FULL_CREDITS}
 use Rattle.flat_scene.specs.declared.calls.PresentArgs.{PresentArgs}
 use Rattle.flat_scene.specs.declared.journal.Entry.{Entry}
-use Rattle.flat_scene.specs.declared.journal.Kind.{Kind}
-use Rattle.flat_scene.specs.declared.journal.Kind.TheVariants.{Signal, Begin, Finish, Dpr}
+use Rattle.flat_scene.specs.declared.journal.EntryKind.{EntryKind}
+use Rattle.flat_scene.specs.declared.journal.EntryKind.TheVariants.{Signal, Begin, Finish, Dpr}
 use Rattle.flat_scene.specs.declared.setup.Setup.{Setup}
 use Rattle.flat_scene.specs.History.{◌▹◌, is_closed, presents, Published}
 use Rattle.flat_scene.specs.Setups.{at_ratio}
@@ -45,13 +45,13 @@ abbrev pub ready_prefix : ℕ → (FenceNo → Bool) → List Published → List
 ready_prefix time is_signalled waiting = up_to_first is_unsquashable (ready_run time is_signalled waiting)
 
 -- what an entry of this kind takes of what waits; nothing of a closed session
-abbrev pub takes : Kind → (FenceNo → Bool) → Bool → List Published → List Published
+abbrev pub takes : EntryKind → (FenceNo → Bool) → Bool → List Published → List Published
 takes (Begin time) is_signalled closed waiting = cond closed [] (ready_prefix time is_signalled waiting)
 takes _ is_signalled closed waiting = []
 
 -- What the end of the frame begun last lets go of a session:
 -- at a Begin it is what that takes, or all that waits of a session closed before.
-abbrev pub lets_go : Kind → (FenceNo → Bool) → Bool → List Published → List Published → List Published
+abbrev pub lets_go : EntryKind → (FenceNo → Bool) → Bool → List Published → List Published → List Published
 lets_go (Begin time) is_signalled closed waiting going = cond closed waiting (ready_prefix time is_signalled waiting)
 lets_go _ is_signalled closed waiting going = going
 
@@ -60,13 +60,13 @@ abbrev pub is_released_by : List Published → FenceNo → Bool
 is_released_by presents fence = list_any (λ present. is_among present.args.release fence) presents
 
 -- whether an entry of this kind signals a fence, where the open frame lets these presents of each session go
-abbrev pub signals : List SessionNo → Kind → (SessionNo → List Published) → FenceNo → Bool
+abbrev pub signals : List SessionNo → EntryKind → (SessionNo → List Published) → FenceNo → Bool
 signals sessions (Signal other) going fence = other.0 == fence.0
 signals sessions Finish going fence = list_any (λ s. is_released_by (going s) fence) sessions
 signals sessions _ going fence = false
 
 -- the pixel ratio that an entry of this kind sets
-abbrev pub ratio_set : Kind → Option ℕ
+abbrev pub ratio_set : EntryKind → Option ℕ
 ratio_set (Dpr ratio) = Some ratio
 ratio_set _ = None
 

@@ -7,8 +7,8 @@ use Rattle.flat_base.specs.declared.ids.SessionNo.{SessionNo}
 use Rattle.flat_scene.specs.declared.calls.Call.{Call}
 use Rattle.flat_scene.specs.declared.calls.PresentArgs.{PresentArgs}
 use Rattle.flat_scene.specs.declared.journal.Entry.{Entry}
-use Rattle.flat_scene.specs.declared.journal.Kind.{Kind}
-use Rattle.flat_scene.specs.declared.journal.Kind.TheVariants.{Present, Begin, Finish, End}
+use Rattle.flat_scene.specs.declared.journal.EntryKind.{EntryKind}
+use Rattle.flat_scene.specs.declared.journal.EntryKind.TheVariants.{Present, Begin, Finish, End}
 use Rattle.flat_scene.specs.declared.journal.Reply.{Reply}
 use Rattle.flat_scene.specs.declared.journal.Reply.TheVariants.{Presented, Closed}
 
@@ -18,15 +18,15 @@ pattern abbrev pub ◌▹◌ : List Entry → Entry → List Entry
 before ▹ entry = entry ∷ before
 
 -- the kinds of entry by which others are told apart
-abbrev pub is_begin : Kind → Bool
+abbrev pub is_begin : EntryKind → Bool
 is_begin (Begin time) = true
 is_begin _ = false
 
-abbrev pub is_finish : Kind → Bool
+abbrev pub is_finish : EntryKind → Bool
 is_finish Finish = true
 is_finish _ = false
 
-abbrev pub is_end : Kind → Bool
+abbrev pub is_end : EntryKind → Bool
 is_end (End refused) = true
 is_end _ = false
 
@@ -69,7 +69,7 @@ pub record Published : Type 0 where
   pub made : List Call
 
 -- what an entry publishes, once its session has made these calls
-abbrev pub published : Kind → Reply → List Call → List Published
+abbrev pub published : EntryKind → Reply → List Call → List Published
 published (Present args) (Presented number credits) made = record { args = args; made = made } ∷ []
 published _ _ _ = []
 

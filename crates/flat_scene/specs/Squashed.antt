@@ -3,19 +3,19 @@ use Rattle.std.specs.Prelude.{ℕ, ◌+◌, Bool, false, cond, ◌||◌, List, [
 use Rattle.flat_base.specs.declared.ids.SessionNo.{SessionNo}
 use Rattle.flat_base.specs.declared.ids.FenceNo.{FenceNo}
 use Rattle.flat_scene.specs.declared.journal.Entry.{Entry}
-use Rattle.flat_scene.specs.declared.journal.Kind.{Kind}
-use Rattle.flat_scene.specs.declared.journal.Kind.TheVariants.{Begin}
+use Rattle.flat_scene.specs.declared.journal.EntryKind.{EntryKind}
+use Rattle.flat_scene.specs.declared.journal.EntryKind.TheVariants.{Begin}
 use Rattle.flat_scene.specs.declared.setup.Setup.{Setup}
 use Rattle.flat_scene.specs.Frames.{ready_run, sessions_to, signals}
 use Rattle.flat_scene.specs.History.{◌▹◌, is_closed, presents, Published}
 
 -- what an entry of this kind takes of what waits; nothing of a closed session
-abbrev pub takes_all : Kind → (FenceNo → Bool) → Bool → List Published → List Published
+abbrev pub takes_all : EntryKind → (FenceNo → Bool) → Bool → List Published → List Published
 takes_all (Begin time) is_signalled closed waiting = cond closed [] (ready_run time is_signalled waiting)
 takes_all _ is_signalled closed waiting = []
 
 -- what the end of the frame begun last lets go of a session
-abbrev pub lets_all_go : Kind → (FenceNo → Bool) → Bool → List Published → List Published → List Published
+abbrev pub lets_all_go : EntryKind → (FenceNo → Bool) → Bool → List Published → List Published → List Published
 lets_all_go (Begin time) is_signalled closed waiting going = cond closed waiting (ready_run time is_signalled waiting)
 lets_all_go _ is_signalled closed waiting going = going
 

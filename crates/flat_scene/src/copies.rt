@@ -4,8 +4,8 @@ ghost use Rattle.flat_scene.specs.declared.trees.Children.TheVariants.{More};
 
 use crate::calls::{Call, PresentArgs, RegionList};
 use crate::frames::{FrameOut, ViewTree};
-use crate::journal::{Entry, Kind};
-use crate::script::{Body, Line, ScriptLine};
+use crate::journal::{Entry, EntryKind};
+use crate::script::{LineBody, ScriptLine, SessionLine};
 use crate::setup::{FenceDecl, Setup};
 use crate::trees::{Children, Node, Tree};
 use flat_base::{Boxed, NoMemory, TryCopy};
@@ -134,26 +134,26 @@ impl TryCopy for Setup {
     }
 }
 
-impl TryCopy for Line {
-    fn copy(&self, alloc: Global) -> Result<Line, NoMemory> {
+impl TryCopy for SessionLine {
+    fn copy(&self, alloc: Global) -> Result<SessionLine, NoMemory> {
         Ok(match self {
-            Line::Call(call) => Line::Call(call.copy(alloc)?),
-            Line::Present(args) => Line::Present(args.copy(alloc)?),
-            Line::Get(watch) => Line::Get(*watch),
-            Line::Signal(f) => Line::Signal(*f),
-            Line::Poll => Line::Poll,
-            Line::Wait(c) => Line::Wait(*c),
-            Line::Disconnect => Line::Disconnect,
+            SessionLine::Call(call) => SessionLine::Call(call.copy(alloc)?),
+            SessionLine::Present(args) => SessionLine::Present(args.copy(alloc)?),
+            SessionLine::Get(watch) => SessionLine::Get(*watch),
+            SessionLine::Signal(f) => SessionLine::Signal(*f),
+            SessionLine::Poll => SessionLine::Poll,
+            SessionLine::Wait(c) => SessionLine::Wait(*c),
+            SessionLine::Disconnect => SessionLine::Disconnect,
         })
     }
 }
 
-impl TryCopy for Body {
-    fn copy(&self, alloc: Global) -> Result<Body, NoMemory> {
+impl TryCopy for LineBody {
+    fn copy(&self, alloc: Global) -> Result<LineBody, NoMemory> {
         Ok(match self {
-            Body::Session(line) => Body::Session(line.copy(alloc)?),
-            Body::Display(line) => Body::Display(*line),
-            Body::Probe(line) => Body::Probe(*line),
+            LineBody::Session(line) => LineBody::Session(line.copy(alloc)?),
+            LineBody::Display(line) => LineBody::Display(*line),
+            LineBody::Probe(line) => LineBody::Probe(*line),
         })
     }
 }
@@ -168,22 +168,22 @@ impl TryCopy for ScriptLine {
     }
 }
 
-impl TryCopy for Kind {
-    fn copy(&self, alloc: Global) -> Result<Kind, NoMemory> {
+impl TryCopy for EntryKind {
+    fn copy(&self, alloc: Global) -> Result<EntryKind, NoMemory> {
         Ok(match self {
-            Kind::View(p) => Kind::View(*p),
-            Kind::Viewport(p, props) => Kind::Viewport(*p, *props),
-            Kind::Present(args) => Kind::Present(args.copy(alloc)?),
-            Kind::Get(watch) => Kind::Get(*watch),
-            Kind::Signal(f) => Kind::Signal(*f),
-            Kind::Poll => Kind::Poll,
-            Kind::Wait(c) => Kind::Wait(*c),
-            Kind::Close(why) => Kind::Close(*why),
-            Kind::End(refused) => Kind::End(*refused),
-            Kind::Begin(time) => Kind::Begin(*time),
-            Kind::Finish => Kind::Finish,
-            Kind::Hit(x, y) => Kind::Hit(*x, *y),
-            Kind::Dpr(ratio) => Kind::Dpr(*ratio),
+            EntryKind::View(p) => EntryKind::View(*p),
+            EntryKind::Viewport(p, props) => EntryKind::Viewport(*p, *props),
+            EntryKind::Present(args) => EntryKind::Present(args.copy(alloc)?),
+            EntryKind::Get(watch) => EntryKind::Get(*watch),
+            EntryKind::Signal(f) => EntryKind::Signal(*f),
+            EntryKind::Poll => EntryKind::Poll,
+            EntryKind::Wait(c) => EntryKind::Wait(*c),
+            EntryKind::Close(why) => EntryKind::Close(*why),
+            EntryKind::End(refused) => EntryKind::End(*refused),
+            EntryKind::Begin(time) => EntryKind::Begin(*time),
+            EntryKind::Finish => EntryKind::Finish,
+            EntryKind::Hit(x, y) => EntryKind::Hit(*x, *y),
+            EntryKind::Dpr(ratio) => EntryKind::Dpr(*ratio),
         })
     }
 }

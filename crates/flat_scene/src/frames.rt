@@ -111,7 +111,7 @@ pub type HitList = Items<Hit>;
 
 /// A display that failed, and the frame at which it did. It is shown no more.
 #[derive(Clone, Copy)]
-pub struct Lost {
+pub struct LostDisplay {
     /// The display's number, from 1, as handed in.
     pub display: u32,
     pub frame: FrameNo,

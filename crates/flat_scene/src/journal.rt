@@ -1,5 +1,5 @@
 use crate::calls::{Call, Inset, PresentArgs, ViewportProps, Watch};
-use crate::script::Cond;
+use crate::script::WaitCondition;
 use flat_base::{Actor, FenceNo, FlatlandError, Items, PairNo, Reason, SessionNo};
 
 /// The layout that a parent gives to a view.
@@ -15,7 +15,7 @@ pub struct Layout {
 
 /// What a watcher tells.
 #[derive(Clone, Copy, PartialEq, Eq)]
-pub enum Told {
+pub enum WatcherValue {
     Layout(Layout),
     /// The view is shown on the display.
     Connected,
@@ -31,7 +31,7 @@ pub enum Told {
 #[derive(Clone, Copy)]
 pub enum Event {
     /// A held get of that pair's watcher is answered.
-    Told(PairNo, Watch, Told),
+    Told(PairNo, Watch, WatcherValue),
     /// A frame ended that took so many presents of the session.
     FramePresented(u32),
     /// The viewport end of a pair may be used again.
@@ -50,7 +50,7 @@ pub enum Reply {
     /// The get waits for a value.
     Held,
     /// The get is answered at once.
-    Now(Told),
+    Now(WatcherValue),
     /// So many events were handed over.
     Polled(u32),
     /// The value looked at is at least what was asked.
@@ -64,7 +64,7 @@ pub enum Reply {
 
 /// The kind of an entry.
 #[derive(Drop)]
-pub enum Kind {
+pub enum EntryKind {
     /// CreateView.
     View(PairNo),
     /// CreateViewport.
@@ -73,7 +73,7 @@ pub enum Kind {
     Get(Watch),
     Signal(FenceNo),
     Poll,
-    Wait(Cond),
+    Wait(WaitCondition),
     /// The session closes: with the reason of a misuse, or by its own wish.
     Close(Option<Reason>),
     /// The session's lines are at their end; so many of them came after the one
@@ -101,13 +101,13 @@ pub struct Entry {
     pub line: u32,
     /// The calls of its session since the session's entry before, in order.
     pub calls: CallList,
-    pub kind: Kind,
+    pub kind: EntryKind,
     pub reply: Reply,
 }
 
 /// An event, with the place in the journal, from 0, of the entry that posts it.
 #[derive(Clone, Copy)]
-pub struct Post {
+pub struct PostedEvent {
     pub entry: u32,
     pub session: SessionNo,
     pub event: Event,
@@ -117,5 +117,5 @@ pub struct Post {
 #[derive(Drop)]
 pub struct Journal {
     pub entries: Vec<Entry>,
-    pub posts: Vec<Post>,
+    pub posts: Vec<PostedEvent>,
 }

@@ -24,11 +24,15 @@ pub use calls::{
     TransformList, ViewportProps, Watch,
 };
 pub use frames::{
-    DrawItem, FrameOut, Hit, HitList, ItemList, Lost, NodeList, Paint, RectList, SceneMatrix,
-    SessionSet, ViewNode, ViewTree, is_node,
+    DrawItem, FrameOut, Hit, HitList, ItemList, LostDisplay, NodeList, Paint, RectList,
+    SceneMatrix, SessionSet, ViewNode, ViewTree, is_node,
 };
-pub use journal::{CallList, Entry, Event, Journal, Kind, Layout, Post, Reply, Told};
+pub use journal::{
+    CallList, Entry, EntryKind, Event, Journal, Layout, PostedEvent, Reply, WatcherValue,
+};
 pub use laws::{draft_laws, history_laws};
-pub use script::{Body, Cond, DisplayLine, Line, LineList, ProbeLine, ScriptLine};
+pub use script::{
+    DisplayLine, LineBody, LineList, ProbeLine, ScriptLine, SessionLine, WaitCondition,
+};
 pub use setup::{BufferDecl, BufferList, FenceDecl, FenceDeclList, PairDecl, PairList, Setup};
-pub use trees::{Children, Content, GraphFault, Held, Node, Tree, UseList, ViewportUse};
+pub use trees::{Children, Content, GraphFault, HeldContent, Node, Tree, UseList, ViewportUse};

@@ -3,7 +3,7 @@ use flat_base::{Actor, FenceNo, Items, SessionNo};
 
 /// What a Wait asks for: at least so many of them.
 #[derive(Clone, Copy)]
-pub enum Cond {
+pub enum WaitCondition {
     /// Finished frames.
     Frames(u32),
     /// Credits of the session.
@@ -20,13 +20,13 @@ pub enum Cond {
 
 /// A line of a session.
 #[derive(Drop)]
-pub enum Line {
+pub enum SessionLine {
     Call(Call),
     Present(PresentArgs),
     Get(Watch),
     Signal(FenceNo),
     Poll,
-    Wait(Cond),
+    Wait(WaitCondition),
     /// Closes the session without an error.
     Disconnect,
 }
@@ -39,7 +39,7 @@ pub enum DisplayLine {
     /// Ends the open frame.
     Done,
     Signal(FenceNo),
-    Wait(Cond),
+    Wait(WaitCondition),
     /// Asks who is hit at a point of the display, in units.
     Hit(i32, i32),
     /// Sets the display's pixel ratio, in fixed point, from the next begin on. Only
@@ -58,8 +58,8 @@ pub enum ProbeLine {
 
 /// What a line says, by the sort of its actor.
 #[derive(Drop)]
-pub enum Body {
-    Session(Line),
+pub enum LineBody {
+    Session(SessionLine),
     Display(DisplayLine),
     Probe(ProbeLine),
 }
@@ -70,7 +70,7 @@ pub struct ScriptLine {
     /// Its place among all lines of the text, from 1.
     pub number: u32,
     pub actor: Actor,
-    pub body: Body,
+    pub body: LineBody,
 }
 
 /// Body lines, in the order of the text.

@@ -83,7 +83,7 @@ pub struct Tree {
 /// A content, as a transform holds it: its serial number, and whether it is a
 /// viewport.
 #[derive(Clone, Copy, Debug, PartialEq, Eq)]
-pub struct Held {
+pub struct HeldContent {
     pub serial: u32,
     pub viewport: bool,
 }

@@ -1,7 +1,7 @@
 -- What is seen of a display that keeps its picture.
 use Rattle.std.specs.Prelude.{ℕ, ◌*◌, Bool, ◌&&◌, nat_lt, nat_le, cond, List, Option, None, Some}
 use Rattle.flat_io.specs.Kept.{counted}
-use Rattle.flat_render.specs.declared.grid.TheConstants.{PIXELS_MAX}
+use Rattle.flat_render.specs.declared.tile_grid.TheConstants.{PIXELS_MAX}
 use Rattle.flat_ink.specs.Pixels.{pixel}
 use Rattle.flat_scene.specs.declared.frames.DrawItem.{DrawItem}
 

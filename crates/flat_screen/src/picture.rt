@@ -11,7 +11,7 @@ use flat_base::NoMemory;
 use flat_damage::redraw;
 use flat_display::Display;
 use flat_drawable::are_drawable;
-use flat_io::{Failed, counted};
+use flat_io::{StreamFailed, counted};
 use flat_render::{Picture, is_too_large, render};
 use flat_scene::{FrameOut, ItemList};
 use std::alloc::Global;
@@ -119,7 +119,7 @@ impl Display for PictureDisplay {
     ghost faults = { λ d. d.faults };
 
     /// Repaints what changed since the frame before.
-    fn show(&mut self, frame: &FrameOut) -> Result<(), Failed>
+    fn show(&mut self, frame: &FrameOut) -> Result<(), StreamFailed>
         ensures shown { OnOk result (self.new ≡ record self.old { items = frame.now.items }) }
         ensures failed { OnErr result (self.new ≡ after_failure self.old) }
         ensures drawable { OnOk result (All IsDrawable frame.now.items) }
@@ -128,6 +128,6 @@ impl Display for PictureDisplay {
             return Ok(());
         }
         self.faults = counted(self.faults);
-        Err(Failed)
+        Err(StreamFailed)
     }
 }

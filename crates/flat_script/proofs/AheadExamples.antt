@@ -2,10 +2,10 @@
 use Rattle.std.proofs.Common.{◌≡◌, true, false, [], ◌∷◌, refl, codes, arith}
 use Rattle.std.specs.List.{list_all}
 use Rattle.flat_base.specs.declared.ids.Actor.TheVariants.{Session}
-use Rattle.flat_scene.specs.declared.script.Line.TheVariants as line
-use Rattle.flat_scene.specs.declared.script.Body.TheVariants as body
+use Rattle.flat_scene.specs.declared.script.SessionLine.TheVariants as line
+use Rattle.flat_scene.specs.declared.script.LineBody.TheVariants as body
 use Rattle.flat_places.specs.declared.script.Script.{Script}
-use Rattle.flat_forms.specs.declared.lines.Part.TheVariants as part
+use Rattle.flat_forms.specs.declared.lines.TextPart.TheVariants as part
 use Rattle.flat_script.specs.declared.ahead.Ahead.TheVariants.{Skipped, Said, Unknown}
 use Rattle.flat_script.specs.Ahead.{AreAhead, IsAhead}
 use Rattle.flat_script.specs.Plain.{is_text_byte}

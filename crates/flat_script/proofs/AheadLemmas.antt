@@ -7,7 +7,7 @@ use Rattle.std.specs.declared.collections.VecDeque.{VecDeque}
 use Rattle.std.proofs.lemmas.Bool.{le-ltb}
 use Rattle.flat_base.specs.declared.ids.Actor.{Actor}
 use Rattle.flat_text.specs.Pieces.{lines_of, words_of}
-use Rattle.flat_scene.specs.declared.script.Body.{Body}
+use Rattle.flat_scene.specs.declared.script.LineBody.{LineBody}
 use Rattle.flat_places.specs.declared.kinds.FaultKind.{FaultKind}
 use Rattle.flat_places.specs.declared.kinds.FaultKind.TheVariants.{NotAscii, LongLine, UnknownActor, Limit, BadHead}
 use Rattle.flat_places.specs.declared.script.Script.{Script}
@@ -15,8 +15,8 @@ use Rattle.flat_places.specs.Forms.{Word, Reading, mapped}
 use Rattle.flat_places.specs.Names.{actor_named}
 use Rattle.flat_forms.specs.declared.lines.LineError.{LineError}
 use Rattle.flat_forms.specs.declared.lines.LineError.TheVariants.{Kind, Memory}
-use Rattle.flat_forms.specs.declared.lines.Part.{Part}
-use Rattle.flat_forms.specs.declared.lines.Part.TheVariants as part
+use Rattle.flat_forms.specs.declared.lines.TextPart.{TextPart}
+use Rattle.flat_forms.specs.declared.lines.TextPart.TheVariants as part
 use Rattle.flat_forms.specs.Ahead.{IsSaid, head_of, taken_line, with_lines}
 use Rattle.flat_forms.specs.Body.{actor_line, body_line, counted_line, lines_of_actor, with_line}
 use Rattle.flat_forms.specs.Head.{empty}
@@ -38,7 +38,7 @@ pub read_skipped : (n : ℕ) (sofar : Sofar) (line : List ℕ) → list_all is_p
     → line_read n sofar line ≡ Ok sofar
 read_skipped n sofar line plain short skipped = let long : nat_lt 1024 (length line) ≡ false = le-ltb 1024 (length line) short in rw (plain, long, skipped) refl
 
-pub said_behind : (s : Script) (line : List ℕ) (a : Actor) (b : Body) → list_all is_plain line ≡ true → length line ≤ 1024 → is_skipped line ≡ false
+pub said_behind : (s : Script) (line : List ℕ) (a : Actor) (b : LineBody) → list_all is_plain line ≡ true → length line ≤ 1024 → is_skipped line ≡ false
     → IsSaid s (words_of line) a b → IsSaidBehind (head_of s) line a b
 said_behind s line a b plain short says said = record {
   counted = said.counted;
@@ -46,7 +46,7 @@ said_behind s line a b plain short says said = record {
 }
 
 -- a step in the body says a step of the script
-pub steps_in_body : (result : Result (Unit {0}) LineError) (r : Reading Script) (new : Script) (old : Reading Sofar) (p : Part) → p ≡ part.Body
+pub steps_in_body : (result : Result (Unit {0}) LineError) (r : Reading Script) (new : Script) (old : Reading Sofar) (p : TextPart) → p ≡ part.Body
     → old ≡ mapped (λ t. (part.Body, t)) r → Steps result r new → Steps result old (p, new)
 steps_in_body (Ok u) r new old p body is step = is ∙ ap (mapped (λ t. (part.Body, t))) step ∙ ap (λ q. Ok (q, new)) (sym body)
 steps_in_body (Err (Kind k)) r new old p body is step = is ∙ ap (mapped (λ t. (part.Body, t))) step
@@ -92,7 +92,7 @@ stays s n line next is =
     (by_tests (list_all is_plain line) (nat_lt 1024 (length line)) (is_skipped line) (part.Body, s) next (words_read n (part.Body, s) (words_of line)) is)
 
 pub line_stays : (old next : Sofar) (n : ℕ) (line : List ℕ) → old.0 ≡ part.Body → line_read n old line ≡ Ok next → StaysInBody old.1 next
-line_stays (p, s) next n line body is = stays s n line next (ap (λ (q : Part). line_read n (q, s) line) (sym body) ∙ is)
+line_stays (p, s) next n line body is = stays s n line next (ap (λ (q : TextPart). line_read n (q, s) line) (sym body) ∙ is)
 
 -- ---- lines one after another
 
@@ -154,17 +154,18 @@ ahead_in_all head (k ∷ known) (p ∷ pieces) each = (
 
 -- ---- the end
 
-pub ends_early : (n : ℕ) (p : Part) (s : Script) → is_body p ≡ false → end_read n (p, s) ≡ Err (record { line = n; kind = BadHead })
+pub ends_early : (n : ℕ) (p : TextPart) (s : Script) → is_body p ≡ false → end_read n (p, s) ≡ Err (record { line = n; kind = BadHead })
 ends_early n part.Start s none = refl
 ends_early n part.Head s none = refl
 ends_early n part.Body s none = absurd (cc)
 
 -- ---- a line that was read ahead
 
-pub said_step : (result : Result (Unit {0}) LineError) (s new : Script) (p q : Part) (n : ℕ) (line : List ℕ) (a : Actor) (b : Body) → p ≡ part.Body
+pub said_step : (result : Result (Unit {0}) LineError) (s new : Script) (p q : TextPart) (n : ℕ) (line : List ℕ) (a : Actor) (b : LineBody) → p ≡ part.Body
     → q ≡ part.Body → IsSaidBehind (head_of s) line a b → Steps result (taken_line s n a b) new → Steps result (line_read n (p, s) line) (q, new)
 said_step result s new p q n line a b before after said step =
-    steps_in_body result (taken_line s n a b) new (line_read n (p, s) line) q after (ap (λ (x : Part). line_read n (x, s) line) before ∙ said.reads n s.lines)
+    steps_in_body result (taken_line s n a b) new (line_read n (p, s) line) q after
+    (ap (λ (x : TextPart). line_read n (x, s) line) before ∙ said.reads n s.lines)
     step
 
 known_is : (head : Script) (line : List ℕ) (known : Option Ahead) (one other : Ahead) → known ≡ Some one → one ≡ other → IfSome known (λ x. IsAhead head x line)
@@ -173,7 +174,7 @@ known_is head line known one other is same given =
     let first : IsAhead head one line = subst (λ (k : Option Ahead). IfSome k (λ x. IsAhead head x line)) is given in
     subst (λ (x : Ahead). IsAhead head x line) same first
 
-pub known_said : (head : Script) (line : List ℕ) (known : Option Ahead) (one : Ahead) (a : Actor) (b : Body) → known ≡ Some one → one ≡ Said a b
+pub known_said : (head : Script) (line : List ℕ) (known : Option Ahead) (one : Ahead) (a : Actor) (b : LineBody) → known ≡ Some one → one ≡ Said a b
     → IfSome known (λ x. IsAhead head x line) → IsSaidBehind head line a b
 known_said head line known one a b is same given = known_is head line known one (Said a b) is same given
 

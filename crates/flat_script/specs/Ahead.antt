@@ -4,13 +4,13 @@ use Rattle.std.specs.Borrow.{Bor}
 use Rattle.std.specs.declared.collections.VecDeque.{VecDeque}
 use Rattle.flat_base.specs.declared.ids.Actor.{Actor}
 use Rattle.flat_text.specs.Pieces.{lines_of}
-use Rattle.flat_scene.specs.declared.script.Body.{Body}
+use Rattle.flat_scene.specs.declared.script.LineBody.{LineBody}
 use Rattle.flat_scene.specs.declared.script.ScriptLine.{ScriptLine}
 use Rattle.flat_places.specs.declared.script.Script.{Script}
 use Rattle.flat_places.specs.Forms.{mapped}
 use Rattle.flat_places.specs.Slots.{IsCounted}
-use Rattle.flat_forms.specs.declared.lines.Part.{Part}
-use Rattle.flat_forms.specs.declared.lines.Part.TheVariants as part
+use Rattle.flat_forms.specs.declared.lines.TextPart.{TextPart}
+use Rattle.flat_forms.specs.declared.lines.TextPart.TheVariants as part
 use Rattle.flat_forms.specs.declared.parser.Parser.{Parser}
 use Rattle.flat_forms.specs.Ahead.{taken_line, with_lines}
 use Rattle.flat_forms.specs.Lines.{Sofar}
@@ -22,7 +22,7 @@ use Rattle.flat_script.specs.Answers.{Fails}
 use Rattle.flat_script.specs.Grammar.{line_read, lines_read}
 
 -- A line behind this head is this actor's and says this, whatever lines stand before it.
-pub record IsSaidBehind (head : Script) (line : List ℕ) (a : Actor) (b : Body) : Type 0 where
+pub record IsSaidBehind (head : Script) (line : List ℕ) (a : Actor) (b : LineBody) : Type 0 where
   pub counted : IsCounted a
   pub reads : (n : ℕ) (lines : List ScriptLine) → line_read n (part.Body, with_lines head lines) line
       ≡ mapped (λ t. (part.Body, t)) (taken_line (with_lines head lines) n a b)
@@ -67,6 +67,6 @@ pub record StandsBefore (n : ℕ) (p : Parser) : Type 0 where
   pub dones : p.dones < n
 
 -- the next line is one of the body
-abbrev pub is_body : Part → Bool
+abbrev pub is_body : TextPart → Bool
 is_body part.Body = true
 is_body _ = false

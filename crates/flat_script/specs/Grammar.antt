@@ -7,7 +7,7 @@ use Rattle.flat_base.specs.declared.limits.TheConstants.{LINE_BYTES_MAX, SCRIPT_
 use Rattle.flat_places.specs.declared.kinds.FaultKind.TheVariants.{TooLong, NotAscii, LongLine, BadHead, BadOrder}
 use Rattle.flat_places.specs.declared.script.Script.{Script}
 use Rattle.flat_script.specs.declared.script.ScriptFault.{ScriptFault}
-use Rattle.flat_forms.specs.declared.lines.Part.TheVariants.{Start, Body}
+use Rattle.flat_forms.specs.declared.lines.TextPart.TheVariants.{Start, Body}
 use Rattle.flat_places.specs.Forms.{Reading}
 use Rattle.flat_forms.specs.Head.{empty}
 use Rattle.flat_forms.specs.Body.{is_open}

@@ -13,8 +13,8 @@ use crate::parser::is_skipped;
 use crate::plain::{is_plain_line, is_plain_text};
 use flat_base::{Actor, LINE_BYTES_MAX};
 use flat_forms::said_ahead;
-use flat_places::Indexed;
-use flat_scene::Body;
+use flat_places::IndexedScript;
+use flat_scene::LineBody;
 use flat_text::line;
 use std::alloc::Global;
 use std::collections::VecDeque;
@@ -27,13 +27,13 @@ pub(crate) enum Ahead {
     /// It is empty or a remark.
     Skipped,
     /// It is this actor's, and says this.
-    Said(Actor, Body),
+    Said(Actor, LineBody),
     /// Nothing.
     Unknown,
 }
 
 /// What is known of a line behind the head, where it may be known that it is plain.
-fn line_ahead(alloc: Global, script: &Indexed, line: &[u8], plain: bool) -> Ahead
+fn line_ahead(alloc: Global, script: &IndexedScript, line: &[u8], plain: bool) -> Ahead
     requires indexed { IsIndexed script.now }
     requires plain { plain ≡ true → list_all is_plain line.now ≡ true }
     ensures { IsAhead (head_of script.now.script) result line.now }
@@ -62,7 +62,7 @@ fn note(known: &mut Vec<Ahead>, one: Ahead) -> bool
 
 /// What is known of the lines of a piece behind the head, from its first one on. Where
 /// memory runs out, it is known of fewer lines.
-fn piece_ahead(alloc: Global, script: &Indexed, piece: &[u8]) -> VecDeque<Ahead>
+fn piece_ahead(alloc: Global, script: &IndexedScript, piece: &[u8]) -> VecDeque<Ahead>
     requires { IsIndexed script.now }
     ensures { AreAhead (head_of script.now.script) result.items (lines_of piece.now) }
 {
@@ -83,7 +83,7 @@ fn piece_ahead(alloc: Global, script: &Indexed, piece: &[u8]) -> VecDeque<Ahead>
 pub(crate) fn pieces_ahead<T: Threads + Sync>(
     rt: &T,
     alloc: Global,
-    script: &Indexed,
+    script: &IndexedScript,
     pieces: &[&[u8]],
 ) -> VecDeque<VecDeque<Ahead>>
     requires { IsIndexed script.now }

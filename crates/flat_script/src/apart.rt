@@ -4,7 +4,7 @@ ghost use Rattle.flat_text.specs.Pieces.{lines_of};
 ghost use Rattle.flat_forms.specs.Ahead.{head_of};
 ghost use Rattle.flat_forms.specs.Progress.{Kept, sofar_of};
 ghost use Rattle.flat_forms.specs.Steps.{Steps};
-ghost use Rattle.flat_forms.specs.declared.lines.Part.TheVariants.{Body};
+ghost use Rattle.flat_forms.specs.declared.lines.TextPart.TheVariants.{Body};
 ghost use Rattle.flat_script.specs.Ahead.{AreAhead, AreAheadIn, IsAhead, ReadsOn, StandsBefore};
 ghost use Rattle.flat_script.specs.Ahead.{lines_in};
 ghost use Rattle.flat_script.specs.Grammar.{line_read};

@@ -4,7 +4,7 @@ ghost use Rattle.flat_text.specs.Pieces.{lines_of};
 ghost use Rattle.flat_forms.specs.Steps.{Steps};
 ghost use Rattle.flat_forms.specs.Progress.{Kept, sofar_of};
 ghost use Rattle.flat_script.specs.Ahead.{is_body};
-ghost use Rattle.flat_forms.specs.declared.lines.Part.TheVariants.{Start};
+ghost use Rattle.flat_forms.specs.declared.lines.TextPart.TheVariants.{Start};
 ghost use Rattle.flat_forms.specs.Head.{empty};
 ghost use Rattle.flat_script.specs.declared.script.ScriptError.TheVariants.{Fault};
 ghost use Rattle.flat_script.specs.Ahead.{StandsBefore};
@@ -16,7 +16,7 @@ use crate::apart::read_apart;
 use crate::plain::{is_plain_line, is_plain_text};
 use crate::script::{ScriptError, ScriptFault};
 use flat_base::{LINE_BYTES_MAX, SCRIPT_BYTES_MAX};
-use flat_forms::{LineError, Parser, Part};
+use flat_forms::{LineError, Parser, TextPart};
 use flat_places::{FaultKind, Script};
 use flat_text::line;
 use rayon::current_num_threads;
@@ -126,7 +126,7 @@ fn read_head<'a>(
 fn is_in_body(parser: &Parser) -> bool
     ensures { result ≡ is_body parser.now.part }
 {
-    matches!(parser.part, Part::Body)
+    matches!(parser.part, TextPart::Body)
 }
 
 /// Reads all lines of a text as `read_text` does, by several threads.
@@ -214,7 +214,7 @@ fn end_fault(parser: &Parser) -> Option<FaultKind>
         ≡ ends_by number result (sofar_of parser.now).1 }
 {
     match parser.part {
-        Part::Body => {
+        TextPart::Body => {
             if parser.dones < parser.begins {
                 return Some(FaultKind::BadOrder);
             }

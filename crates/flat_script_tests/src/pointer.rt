@@ -4,7 +4,7 @@ use crate::frames::{frame, tree, two_names};
 use flat_base::{Items, NoMemory, SessionNo};
 use flat_places::NameList;
 use flat_pointer::{
-    POINTERS, PointerAnswer, PointerCall, PointerLine, Pointers, Touch, print_pointers,
+    POINTERS, PointerAnswer, PointerCall, PointerLine, PointerTouch, Pointers, print_pointers,
 };
 use flat_scene::{FrameOut, Hit, HitList, Interaction};
 use std::alloc::Global;
@@ -138,7 +138,7 @@ fn text_without_lines(rt: HostRuntime) -> Result<(), Fail> {
 }
 
 /// A line of pointer 3, and whom its point hits.
-fn touch(number: u32, call: PointerCall, hits: HitList) -> Touch
+fn touch(number: u32, call: PointerCall, hits: HitList) -> PointerTouch
     ensures { result.line.pointer ≡ 3 }
 {
     let line = PointerLine {
@@ -146,7 +146,7 @@ fn touch(number: u32, call: PointerCall, hits: HitList) -> Touch
         pointer: 3,
         call,
     };
-    Touch { line, hits }
+    PointerTouch { line, hits }
 }
 
 /// The pointer text of four lines, and of two frames that were finished behind the seventh

@@ -1,7 +1,7 @@
 use crate::outcome::{HEAD, outcome};
 use flat_base::TransformId;
 use flat_places::Script;
-use flat_scene::{Body, Call, DisplayLine, Line, ScriptLine};
+use flat_scene::{Call, DisplayLine, LineBody, ScriptLine, SessionLine};
 use flat_script::{ScriptError, parse};
 use std::alloc::{AllocError, Global};
 
@@ -17,13 +17,13 @@ fn are_lines(lines: &[ScriptLine]) -> bool {
     };
     let translates = matches!(
         first.body,
-        Body::Session(Line::Call(Call::SetTranslation {
+        LineBody::Session(SessionLine::Call(Call::SetTranslation {
             t: TransformId(7),
             x: -5,
             y: 40
         }))
     );
-    let ends = matches!(last.body, Body::Display(DisplayLine::Done));
+    let ends = matches!(last.body, LineBody::Display(DisplayLine::Done));
     first.number == 8 && translates && ends
 }
 

@@ -5,13 +5,13 @@ use Rattle.flat_scene.specs.Draft.{empty_draft}
 use Rattle.flat_scene.specs.Setups.{is_declared}
 use Rattle.flat_draft.specs.Laws.{EmptyStands}
 use Rattle.flat_draft.specs.State.{empty_state}
-use Rattle.flat_session.specs.declared.reader.Reader.{Reader}
+use Rattle.flat_session.specs.declared.session_reader.SessionReader.{SessionReader}
 use Rattle.flat_session.specs.Reads.{IsNew}
 
-pub is_new : EmptyStands → (setup : Setup) (reader : Reader) → is_declared setup reader.session ≡ true
+pub is_new : EmptyStands → (setup : Setup) (reader : SessionReader) → is_declared setup reader.session ≡ true
     → reader ≡ record reader { draft = empty_state setup.buffers; pending = []; events = []; refused = 0; closed = false } → IsNew setup reader.session reader
 is_new empty setup reader declared rest =
-    let R : Reader → Type 0 = IsNew setup reader.session in
+    let R : SessionReader → Type 0 = IsNew setup reader.session in
     subst R (sym rest) (record {
       session = refl;
       stands = record {

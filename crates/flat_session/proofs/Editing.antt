@@ -6,10 +6,10 @@ use Rattle.flat_base.specs.declared.errors.Reason.{Reason}
 use Rattle.flat_base.specs.declared.ids.SessionNo.{SessionNo}
 use Rattle.flat_scene.specs.declared.calls.Call.{Call}
 use Rattle.flat_scene.specs.declared.calls.Call.TheVariants.{CreateView, CreateViewport}
-use Rattle.flat_scene.specs.declared.journal.Kind.{Kind}
-use Rattle.flat_scene.specs.declared.journal.Kind.TheVariants.{Present, Get}
-use Rattle.flat_scene.specs.declared.script.Line.{Line}
-use Rattle.flat_scene.specs.declared.script.Line.TheVariants as line
+use Rattle.flat_scene.specs.declared.journal.EntryKind.{EntryKind}
+use Rattle.flat_scene.specs.declared.journal.EntryKind.TheVariants.{Present, Get}
+use Rattle.flat_scene.specs.declared.script.SessionLine.{SessionLine}
+use Rattle.flat_scene.specs.declared.script.SessionLine.TheVariants as line
 use Rattle.flat_scene.specs.declared.setup.Setup.{Setup}
 use Rattle.flat_scene.specs.Draft.{Draft}
 use Rattle.flat_scene.specs.Interleave.{entry_of_call, entry_of_line, get_tests, or_close}
@@ -18,7 +18,7 @@ use Rattle.flat_scene.specs.Tree.{present_tests}
 use Rattle.flat_draft.specs.Answers.{IsTried, uses_an_end}
 use Rattle.flat_draft.specs.State.{DraftState}
 use Rattle.flat_rules.specs.Owned.{is_played_line}
-use Rattle.flat_session.specs.declared.reader.Reader.{Reader}
+use Rattle.flat_session.specs.declared.session_reader.SessionReader.{SessionReader}
 use Rattle.flat_session.specs.Reads.{Tells}
 use Rattle.flat_session.proofs.lemmas.Entering.{last_call}
 use Rattle.flat_session.proofs.lemmas.Standing.{all_but_one}
@@ -26,16 +26,16 @@ use Rattle.flat_session.proofs.lemmas.Tellings.{call_done}
 
 -- ---- which lines make an entry
 
-closes_or_enters : (misused : Option Reason) (kind : Kind) → is_some (or_close misused (Some kind)) ≡ true
+closes_or_enters : (misused : Option Reason) (kind : EntryKind) → is_some (or_close misused (Some kind)) ≡ true
 closes_or_enters None kind = refl
 closes_or_enters (Some reason) kind = refl
 
 -- a line that is no call makes one
-abbrev is_call : Line → Bool
+abbrev is_call : SessionLine → Bool
 is_call (line.Call call) = true
 is_call _ = false
 
-pub others_enter : (setup : Setup) (draft : Draft) (text : Line) → is_call text ≡ false → is_some (entry_of_line setup draft text) ≡ true
+pub others_enter : (setup : Setup) (draft : Draft) (text : SessionLine) → is_call text ≡ false → is_some (entry_of_line setup draft text) ≡ true
 others_enter setup draft (line.Call call) other = absurd (cc)
 others_enter setup draft (line.Present args) other = closes_or_enters (first_reason (present_tests draft args)) (Present args)
 others_enter setup draft (line.Get get) other = closes_or_enters (first_reason (get_tests draft get)) (Get get)
@@ -73,7 +73,7 @@ module _ (old pushed : List Call) (call : Call) (is : pushed ≡ old ++ call ∷
   taken_back rest taken = taken ∙ ap (λ p. take (length p - 1) p) is ∙ all_but_one old call
 
 -- a reader with the calls and the draft that it had
-pub same_reader : (reader : Reader) (pending : List Call) (draft : DraftState) → pending ≡ reader.pending → draft ≡ reader.draft
+pub same_reader : (reader : SessionReader) (pending : List Call) (draft : DraftState) → pending ≡ reader.pending → draft ≡ reader.draft
     → record reader { pending = pending; draft = draft } ≡ reader
 same_reader reader pending draft same_calls same_draft =
     ap (λ p. record reader { pending = p; draft = draft }) same_calls ∙ ap (λ d. record reader { draft = d }) same_draft

@@ -2,14 +2,14 @@
 use Rattle.std.proofs.Common.{◌≡◌, ℕ, Bool, true, false, List, refl, sym, ◌∙◌, subst}
 use Rattle.flat_base.specs.declared.ids.Actor.TheVariants.{Session}
 use Rattle.flat_scene.specs.declared.calls.Call.{Call}
-use Rattle.flat_scene.specs.declared.journal.Kind.TheVariants.{End}
+use Rattle.flat_scene.specs.declared.journal.EntryKind.TheVariants.{End}
 use Rattle.flat_scene.specs.History.{own}
 use Rattle.flat_core.specs.Machines.{Machine, MayCall, HasShare}
-use Rattle.flat_session.specs.declared.reader.Reader.{Reader}
+use Rattle.flat_session.specs.declared.session_reader.SessionReader.{SessionReader}
 use Rattle.flat_session.specs.Reads.{Stands, IsOpen}
 use Rattle.flat_session.proofs.lemmas.Entering.{may_end, may_end_closed}
 
-pub may_end_as : (m : Machine) (reader : Reader) → HasShare m (Session reader.session) → Stands m.setup (own reader.session m.history) reader
+pub may_end_as : (m : Machine) (reader : SessionReader) → HasShare m (Session reader.session) → Stands m.setup (own reader.session m.history) reader
     → MayCall m (Session reader.session) reader.pending (End reader.refused)
 may_end_as m reader share stands = by_closed reader.closed refl
   where

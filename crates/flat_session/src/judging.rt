@@ -1,21 +1,21 @@
 ghost use Rattle.std.specs.Prelude.{◌≡◌, true, false, OnErr, IfOk, Some};
 ghost use Rattle.flat_base.specs.declared.ids.SessionNo.{SessionNo};
 ghost use Rattle.flat_scene.specs.declared.calls.Call.TheVariants as calls;
-ghost use Rattle.flat_scene.specs.declared.script.Line.TheVariants as line;
+ghost use Rattle.flat_scene.specs.declared.script.SessionLine.TheVariants as line;
 ghost use Rattle.flat_scene.specs.declared.setup.Setup.{Setup};
 ghost use Rattle.flat_scene.specs.Draft as scene;
 ghost use Rattle.flat_draft.specs.Stands.{StandsFor};
 ghost use Rattle.flat_rules.specs.Owned.{is_played_line};
 ghost use Rattle.flat_session.specs.Reads.{HasDraft, Tells, view_made, makes_viewport};
 
-use crate::made::Made;
+use crate::requested_entry::RequestedEntry;
 use flat_base::{ContentId, NoMemory, PairNo};
 use flat_draft::{Draft, DraftFault};
 use flat_scene::{Call, PresentArgs, ViewportProps, Watch};
 
 /// What a draft makes of a call: its entry, or none. A viewport's call is only
 /// tested, and its room taken. If memory runs out, the draft is as it was.
-pub fn called(draft: &mut Draft, call: &Call) -> Result<Option<Made>, NoMemory>
+pub fn called(draft: &mut Draft, call: &Call) -> Result<Option<RequestedEntry>, NoMemory>
     requires stands { HasDraft draft.old }
     requires opened { draft.old.closed ≡ false }
     ensures tells { (setup : Setup) (s : SessionNo) (before : scene.Draft) →
@@ -43,17 +43,17 @@ pub fn called(draft: &mut Draft, call: &Call) -> Result<Option<Made>, NoMemory>
 }
 
 /// The view that a call makes, if it makes one.
-fn view_made(call: &Call) -> Option<Made>
+fn view_made(call: &Call) -> Option<RequestedEntry>
     ensures { result ≡ view_made call.now }
 {
     match call {
-        Call::CreateView { pair } => Some(Made::View(*pair)),
+        Call::CreateView { pair } => Some(RequestedEntry::View(*pair)),
         _ => None,
     }
 }
 
 /// The same for a call that makes no viewport: it is made.
-fn done(draft: &mut Draft, call: &Call) -> Result<Option<Made>, NoMemory>
+fn done(draft: &mut Draft, call: &Call) -> Result<Option<RequestedEntry>, NoMemory>
     requires stands { HasDraft draft.old }
     requires opened { draft.old.closed ≡ false }
     requires other { makes_viewport call.now ≡ false }
@@ -67,7 +67,7 @@ fn done(draft: &mut Draft, call: &Call) -> Result<Option<Made>, NoMemory>
             let made = view_made(call);
             Ok(made)
         }
-        Err(DraftFault::Bad(reason)) => Ok(Some(Made::Close(Some(reason)))),
+        Err(DraftFault::Bad(reason)) => Ok(Some(RequestedEntry::Close(Some(reason)))),
         Err(DraftFault::Memory) => Err(NoMemory),
         Err(DraftFault::Closed) => unreachable!(),
     }
@@ -80,7 +80,7 @@ fn tested(
     c: ContentId,
     pair: PairNo,
     props: ViewportProps,
-) -> Result<Option<Made>, NoMemory>
+) -> Result<Option<RequestedEntry>, NoMemory>
     requires stands { HasDraft draft.old }
     requires opened { draft.old.closed ≡ false }
     requires own { call.now ≡ calls.CreateViewport c pair props.w props.h props.inset }
@@ -90,15 +90,15 @@ fn tested(
     ensures same { OnErr result (draft.new ≡ draft.old) }
 {
     match draft.ready(call) {
-        Ok(()) => Ok(Some(Made::Viewport(c, pair, props))),
-        Err(DraftFault::Bad(reason)) => Ok(Some(Made::Close(Some(reason)))),
+        Ok(()) => Ok(Some(RequestedEntry::Viewport(c, pair, props))),
+        Err(DraftFault::Bad(reason)) => Ok(Some(RequestedEntry::Close(Some(reason)))),
         Err(DraftFault::Memory) => Err(NoMemory),
         Err(DraftFault::Closed) => unreachable!(),
     }
 }
 
 /// What a draft makes of a present: its entry.
-pub fn presented(draft: &mut Draft, args: PresentArgs) -> Result<Option<Made>, NoMemory>
+pub fn presented(draft: &mut Draft, args: PresentArgs) -> Result<Option<RequestedEntry>, NoMemory>
     requires stands { HasDraft draft.old }
     requires opened { draft.old.closed ≡ false }
     ensures tells { (setup : Setup) (s : SessionNo) (before : scene.Draft) →
@@ -107,15 +107,15 @@ pub fn presented(draft: &mut Draft, args: PresentArgs) -> Result<Option<Made>, N
     ensures same { OnErr result (draft.new ≡ draft.old) }
 {
     match draft.present(&args) {
-        Ok(snapshot) => Ok(Some(Made::Present(args, snapshot))),
-        Err(DraftFault::Bad(reason)) => Ok(Some(Made::Close(Some(reason)))),
+        Ok(snapshot) => Ok(Some(RequestedEntry::Present(args, snapshot))),
+        Err(DraftFault::Bad(reason)) => Ok(Some(RequestedEntry::Close(Some(reason)))),
         Err(DraftFault::Memory) => Err(NoMemory),
         Err(DraftFault::Closed) => unreachable!(),
     }
 }
 
 /// What a draft makes of a get: its entry. It takes no memory.
-pub fn asked(draft: &mut Draft, get: Watch) -> Made
+pub fn asked(draft: &mut Draft, get: Watch) -> RequestedEntry
     requires stands { HasDraft draft.old }
     requires opened { draft.old.closed ≡ false }
     ensures { (setup : Setup) (s : SessionNo) (before : scene.Draft) →
@@ -123,8 +123,8 @@ pub fn asked(draft: &mut Draft, get: Watch) -> Made
         (Some result) }
 {
     match draft.get(get) {
-        Ok(pair) => Made::Get(get, pair),
-        Err(DraftFault::Bad(reason)) => Made::Close(Some(reason)),
+        Ok(pair) => RequestedEntry::Get(get, pair),
+        Err(DraftFault::Bad(reason)) => RequestedEntry::Close(Some(reason)),
         Err(DraftFault::Memory) => unreachable!(),
         Err(DraftFault::Closed) => unreachable!(),
     }

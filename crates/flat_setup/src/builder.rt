@@ -131,9 +131,11 @@ impl SetupBuilder {
         w: u32,
         h: u32,
     ) -> Result<BufferNo, SetupFault>
-        ensures fault { let decl : BufferDecl = record { owner = owner; count = count; w = w; h = h } in
+        ensures fault { let decl : BufferDecl = record
+            { owner = owner; count = count; w = w; h = h } in
             IfSome (buffers_fault self.old decl) (λ fault. result ≡ Err fault) }
-        ensures said { let decl : BufferDecl = record { owner = owner; count = count; w = w; h = h } in
+        ensures said { let decl : BufferDecl = record
+            { owner = owner; count = count; w = w; h = h } in
             IfNone (buffers_fault self.old decl) (MatchResult result
             (λ b. self.new ≡ with_buffers self.old decl) (λ fault. fault ≡ SetupFault.NoMemory)) }
         ensures number { IfOk result (λ b. b.0 ≡ length self.old.setup.buffers) }
@@ -195,7 +197,7 @@ impl SetupBuilder {
 
     /// The setup that was said, and what each actor may make in it.
     #[tactic(auto, using(crate::proofs::Keeping::sum_first))]
-    pub fn build(self) -> Result<NewSetup, SetupFault>
+    pub fn build(self) -> Result<BuiltSetup, SetupFault>
         ensures fault { IfSome (fault_of self) (λ fault. result ≡ Err fault) }
         ensures made { IfNone (fault_of self) (MatchResult result
             (λ made. (made ≡ built self) × IsNewSetup made)
@@ -205,7 +207,7 @@ impl SetupBuilder {
             return Err(fault);
         }
         let shares = shares_of(self.alloc, self.display, self.sessions.as_slice())?;
-        Ok(NewSetup {
+        Ok(BuiltSetup {
             setup: self.setup,
             shares,
         })
@@ -305,12 +307,12 @@ fn shares_of(alloc: Global, display: u32, sessions: &[u32]) -> Result<ShareList,
 /// A setup that a [`SetupBuilder`] built, and how many entries each actor may make in it: the
 /// display first, then the sessions.
 #[derive(Drop)]
-pub struct NewSetup {
+pub struct BuiltSetup {
     setup: Setup,
     shares: ShareList,
 }
 
-impl Model for NewSetup {
+impl Model for BuiltSetup {
     ghost use Rattle.flat_setup.specs.Builders.{Built, IsNewSetup};
 
     ghost Value = { Built };
@@ -320,7 +322,7 @@ impl Model for NewSetup {
     ghost invariant = { λ it. IsNewSetup (record { setup = it.setup; shares = it.shares }) };
 }
 
-impl NewSetup {
+impl BuiltSetup {
     ghost use Rattle.flat_setup.specs.Builders.{IsNewSetup};
 
     pub fn setup(&self) -> &Setup
@@ -336,7 +338,7 @@ impl NewSetup {
         ensures shares { result.1 ≡ self.shares }
         ensures good { IsNewSetup self }
     {
-        let NewSetup { setup, shares } = self;
+        let BuiltSetup { setup, shares } = self;
         (setup, shares)
     }
 }

@@ -11,7 +11,7 @@ mod laws;
 mod owned;
 mod parts;
 
-pub use builder::{NewSetup, SetupBuilder};
+pub use builder::{BuiltSetup, SetupBuilder};
 pub use fault::{DISPLAY_OWES, ENTRIES_MAX, SESSION_OWES, SetupFault};
 pub use laws::faultless_is_setup;
 pub use owned::{may_call, may_direct, may_use, may_wait};

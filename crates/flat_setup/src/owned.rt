@@ -7,24 +7,24 @@ ghost use Rattle.flat_rules.specs.Owned.{is_played_call, is_played_condition, is
 
 use crate::parts::{is_declared, is_display, is_ratio};
 use flat_base::{Actor, BufferNo, FenceNo, PairNo, SessionNo};
-use flat_scene::{Call, Cond, DisplayLine, Line, Setup};
+use flat_scene::{Call, DisplayLine, SessionLine, Setup, WaitCondition};
 
 /// Whether session `s` may send this line: the line names only what the session owns.
 /// The test takes no memory, and `setup` may be any setup.
-pub fn may_use(setup: &Setup, s: SessionNo, line: &Line) -> bool
+pub fn may_use(setup: &Setup, s: SessionNo, line: &SessionLine) -> bool
     ensures { result ≡ is_played_line setup.now s line.now }
 {
     match line {
-        Line::Call(call) => may_call(setup, s, call),
-        Line::Present(args) => {
+        SessionLine::Call(call) => may_call(setup, s, call),
+        SessionLine::Present(args) => {
             owns_fences(setup, s, args.acquire.as_slice())
                 && owns_fences(setup, s, args.release.as_slice())
         }
-        Line::Get(_) => true,
-        Line::Signal(f) => owns_fence(setup, s, *f),
-        Line::Poll => true,
-        Line::Wait(cond) => may_wait(setup, s, *cond),
-        Line::Disconnect => true,
+        SessionLine::Get(_) => true,
+        SessionLine::Signal(f) => owns_fence(setup, s, *f),
+        SessionLine::Poll => true,
+        SessionLine::Wait(cond) => may_wait(setup, s, *cond),
+        SessionLine::Disconnect => true,
     }
 }
 
@@ -43,16 +43,16 @@ pub fn may_call(setup: &Setup, s: SessionNo, call: &Call) -> bool
 
 /// Whether session `s` may wait for this condition: a fence must be its own, and only the
 /// compositor waits for a session's presents.
-pub fn may_wait(setup: &Setup, s: SessionNo, cond: Cond) -> bool
+pub fn may_wait(setup: &Setup, s: SessionNo, cond: WaitCondition) -> bool
     ensures { result ≡ is_played_condition setup.now s cond }
 {
     match cond {
-        Cond::Frames(_) => true,
-        Cond::Credits(_) => true,
-        Cond::Taken(_) => true,
-        Cond::Answers(_) => true,
-        Cond::Fence(f) => owns_fence(setup, s, f),
-        Cond::Presents(_, _) => false,
+        WaitCondition::Frames(_) => true,
+        WaitCondition::Credits(_) => true,
+        WaitCondition::Taken(_) => true,
+        WaitCondition::Answers(_) => true,
+        WaitCondition::Fence(f) => owns_fence(setup, s, f),
+        WaitCondition::Presents(_, _) => false,
     }
 }
 
@@ -72,12 +72,12 @@ pub fn may_direct(setup: &Setup, line: DisplayLine) -> bool
 }
 
 /// Whether the compositor may wait for this condition.
-fn may_await(setup: &Setup, cond: Cond) -> bool
+fn may_await(setup: &Setup, cond: WaitCondition) -> bool
     ensures { result ≡ is_played_display setup.now (display.Wait cond) }
 {
     match cond {
-        Cond::Presents(s, _) => is_declared(setup, s),
-        Cond::Fence(f) => display_owns(setup, f),
+        WaitCondition::Presents(s, _) => is_declared(setup, s),
+        WaitCondition::Fence(f) => display_owns(setup, f),
         _ => false,
     }
 }

@@ -9,8 +9,8 @@ use Rattle.flat_base.specs.Last.{last_item}
 use Rattle.flat_base.specs.declared.ids.Actor.TheVariants.{Display}
 use Rattle.flat_scene.specs.declared.frames.FrameOut.{FrameOut}
 use Rattle.flat_scene.specs.declared.journal.Entry.{Entry}
-use Rattle.flat_scene.specs.declared.journal.Kind.{Kind}
-use Rattle.flat_scene.specs.declared.journal.Kind.TheVariants.{Begin, Finish}
+use Rattle.flat_scene.specs.declared.journal.EntryKind.{EntryKind}
+use Rattle.flat_scene.specs.declared.journal.EntryKind.TheVariants.{Begin, Finish}
 use Rattle.flat_scene.specs.declared.journal.Reply.{Reply}
 use Rattle.flat_scene.specs.declared.journal.Reply.TheVariants.{Done}
 use Rattle.flat_topology.specs.Changes.{AreSame}
@@ -35,12 +35,13 @@ use Rattle.flat_play.proofs.lemmas.Seen.{frames_more}
 use Rattle.flat_stage.specs.Displays.{CompositorView, DisplayEnters, DisplaySees, DisplayView, IsNewCompositor}
 use Rattle.flat_core.specs.Starts.{IsStart, StartsFrame}
 use Rattle.flat_stage.specs.Seats.{StageView, entries_of_seat, setup_of, shares_of}
-use Rattle.flat_shell.specs.declared.keeper.Keeper.{Keeper}
+use Rattle.flat_shell.specs.declared.compositor_parts.CompositorParts.{CompositorParts}
 use Rattle.flat_shell.specs.Live.{HasLast, IsComposed, IsKept, MayBegin, MayGoBefore, left, next_frame}
 use Rattle.flat_shell.proofs.Beside.{HasEntered, IsBeside, has_entered, seen_beside}
 
 -- What is kept beside a seat after an entry: nothing changed but its number, the time and the frames.
-pub record IsNext (keeper : Keeper) (seat : DisplayView) (kind : Kind) (frames_then : ℕ) (shown_then : Option FrameOut) (keeper' : Keeper) : Type 0 where
+pub record IsNext (keeper : CompositorParts) (seat : DisplayView) (kind : EntryKind) (frames_then : ℕ) (shown_then : Option FrameOut)
+    (keeper' : CompositorParts) : Type 0 where
   pub stage : keeper'.stage ≡ keeper.stage
   pub setup : keeper'.setup ≡ keeper.setup
   pub share : keeper'.share ≡ keeper.share
@@ -49,7 +50,7 @@ pub record IsNext (keeper : Keeper) (seat : DisplayView) (kind : Kind) (frames_t
   pub frames : keeper'.frames.0 ≡ frames_then
   pub shown : keeper'.shown ≡ shown_then
 
-module _ (keeper : Keeper) (seat seat' : DisplayView) (was : Bool) (kept : IsKept was keeper seat) (kind : Kind) (reply : Reply)
+module _ (keeper : CompositorParts) (seat seat' : DisplayView) (was : Bool) (kept : IsKept was keeper seat) (kind : EntryKind) (reply : Reply)
     (enters : DisplayEnters (length seat.mine + 1) kind reply seat seat') where
   abbrev setup : Setup
   setup = setup_of seat.stage
@@ -97,7 +98,7 @@ module _ (keeper : Keeper) (seat seat' : DisplayView) (was : Bool) (kept : IsKep
   ended_now now = ap to_finished entered.grown ∙ ap (λ b. cond b (to_begin entered.middle) (to_finished entered.middle)) now ∙ entered.beside.begun
 
   -- what is kept beside the seat
-  pub next_kept : (is_open : Bool) (keeper' : Keeper) (shown : Option FrameOut)
+  pub next_kept : (is_open : Bool) (keeper' : CompositorParts) (shown : Option FrameOut)
       → IsNext keeper seat kind (frames before + cond (is_finish kind) 1 0) shown keeper'
       → (is_begin kind || (not (is_finish kind) && was)) ≡ is_open
       → shown ≡ last_item (finished setup before ++ cond (is_finish kind) (frame_at setup (suc (frames before)) (to_begin before) ∷ []) [])
@@ -136,17 +137,17 @@ module _ (keeper : Keeper) (seat seat' : DisplayView) (was : Bool) (kept : IsKep
 -- ---- the compositor's entries
 
 -- an entry that begins no frame and ends none
-pub beside_then : (keeper keeper' : Keeper) (last : LastFrame) (seat seat' : DisplayView) → IsKept false keeper seat
+pub beside_then : (keeper keeper' : CompositorParts) (last : LastFrame) (seat seat' : DisplayView) → IsKept false keeper seat
     → HasLast (setup_of seat.stage) (history_of seat.seen) last
-    → (kind : Kind) (reply : Reply) → DisplayEnters (length seat.mine + 1) kind reply seat seat' → is_begin kind ≡ false → is_finish kind ≡ false
+    → (kind : EntryKind) (reply : Reply) → DisplayEnters (length seat.mine + 1) kind reply seat seat' → is_begin kind ≡ false → is_finish kind ≡ false
     → keeper' ≡ record keeper { made = length seat.mine + 1 } → 0 < left seat → IsKept false keeper' seat'
     × HasLast (setup_of seat'.stage) (history_of seat'.seen) last
 beside_then keeper keeper' last seat seat' kept has kind reply enters begins ends is some =
     let h : List Entry = history_of seat.seen in
     let setup : Setup = setup_of seat.stage in
     let room = kept.room in
-    let K : Keeper → Type 0 = λ k. IsKept false k seat' in
-    let then : Keeper = record keeper { made = length seat.mine + 1 } in
+    let K : CompositorParts → Type 0 = λ k. IsKept false k seat' in
+    let then : CompositorParts = record keeper { made = length seat.mine + 1 } in
     let none : cond (is_finish kind) (frame_at setup (suc (frames h)) (to_begin h) ∷ []) [] ≡ [] =
     ap (λ b. cond b (frame_at setup (suc (frames h)) (to_begin h) ∷ []) []) ends in
     let as_many : frames h ≡ frames h + cond (is_finish kind) 1 0 = let zero_more : ◌≡◌ {A = ℕ} (cond (is_finish kind) 1 0) 0 =
@@ -170,7 +171,7 @@ beside_then keeper keeper' last seat seat' kept has kind reply enters begins end
     )
 
 -- a frame that begins
-pub begun_then : (keeper keeper' : Keeper) (last : LastFrame) (old new : CompositorView) (time : ℕ) → IsKept false keeper old.display
+pub begun_then : (keeper keeper' : CompositorParts) (last : LastFrame) (old new : CompositorView) (time : ℕ) → IsKept false keeper old.display
     → HasLast (setup_of old.display.stage) (history_of old.display.seen) last
     → IsStart (setup_of old.display.stage) (history_of old.display.seen) old.start
     → DisplayEnters (length old.display.mine + 1) (Begin time) Done old.display new.display
@@ -183,8 +184,8 @@ begun_then keeper keeper' last old new time kept has start enters is may starts 
     let h : List Entry = history_of seat.seen in
     let setup : Setup = setup_of seat.stage in
     let two = may.0 in
-    let then : Keeper = record keeper { made = length seat.mine + 1; time = time } in
-    let K : Keeper → Type 0 = λ k. IsKept true k new.display in
+    let then : CompositorParts = record keeper { made = length seat.mine + 1; time = time } in
+    let K : CompositorParts → Type 0 = λ k. IsKept true k new.display in
     let S : Setup → Type 0 = λ s. MayGoBefore s new (Some last) in
     let W : Shown → Type 0 = λ states. AreSame new.start.changed states new.start.shown in
     let as_many : frames h ≡ frames h + 0 = omega arith in
@@ -199,7 +200,7 @@ begun_then keeper keeper' last old new time kept has start enters is may starts 
     )
 
 -- a frame that is done
-pub done_then : (keeper keeper' : Keeper) (last last' : LastFrame) (seat seat' : DisplayView) (number : FrameNo) → IsKept true keeper seat
+pub done_then : (keeper keeper' : CompositorParts) (last last' : LastFrame) (seat seat' : DisplayView) (number : FrameNo) → IsKept true keeper seat
     → IsComposed (setup_of seat.stage) (history_of seat.seen) last
     → DisplayEnters (length seat.mine + 1) Finish Done seat seat' → number.0 ≡ frames (history_of seat'.seen) → keeper'
     ≡ record keeper { made = length seat.mine + 1; frames = number; shown = Some (next_frame seat) }
@@ -208,8 +209,8 @@ done_then keeper keeper' last last' seat seat' number kept composed enters numbe
     let h : List Entry = history_of seat.seen in
     let setup : Setup = setup_of seat.stage in
     let room = kept.room in
-    let then : Keeper = record keeper { made = length seat.mine + 1; frames = number; shown = Some (next_frame seat) } in
-    let K : Keeper → Type 0 = λ k. IsKept false k seat' in
+    let then : CompositorParts = record keeper { made = length seat.mine + 1; frames = number; shown = Some (next_frame seat) } in
+    let K : CompositorParts → Type 0 = λ k. IsKept false k seat' in
     let L : LastFrame → Type 0 = λ l. HasLast (setup_of seat'.stage) (history_of seat'.seen) l in
     let S : Setup → Type 0 = λ s. HasLast s (history_of seat'.seen) (record last { frame = number }) in
     let more = frames_then keeper seat seat' true kept Finish Done enters in
@@ -229,7 +230,7 @@ done_then keeper keeper' last last' seat seat' number kept composed enters numbe
     )
 
 -- while a frame is open, no more are finished than the display made entries
-pub few_then : JournalsKeepSeats → (keeper : Keeper) (seat : DisplayView) → IsKept true keeper seat → frames (history_of seat.seen) + 1 < 4294967296
+pub few_then : JournalsKeepSeats → (keeper : CompositorParts) (seat : DisplayView) → IsKept true keeper seat → frames (history_of seat.seen) + 1 < 4294967296
 few_then keep keeper seat kept =
     let most = few_frames (setup_of seat.stage) (history_of seat.seen) kept.legal in
     let made_is : made 0 (history_of seat.seen) ≡ length seat.mine =
@@ -243,7 +244,7 @@ few_then keep keeper seat kept =
 -- ---- a look
 
 -- what a seat has seen beside, once it looked
-module _ (keeper : Keeper) (seat seat' : DisplayView) (kept : IsKept false keeper seat) (sees : DisplaySees seat seat')
+module _ (keeper : CompositorParts) (seat seat' : DisplayView) (kept : IsKept false keeper seat) (sees : DisplaySees seat seat')
     (legal : Legal (setup_of seat.stage) (history_of seat'.seen)) (whole : seat'.mine ≡ entries_of_seat 0 seat'.seen) where
   seen_more : IsBeside (setup_of seat.stage) (history_of seat.seen) (history_of seat'.seen)
   seen_more =
@@ -287,7 +288,7 @@ module _ (keeper : Keeper) (seat seat' : DisplayView) (kept : IsKept false keepe
 
 -- ---- before any entry
 
-pub opened_live : (view : StageView) (keeper : Keeper) (last : LastFrame) (compositor : CompositorView) → IsNewCompositor view compositor → view
+pub opened_live : (view : StageView) (keeper : CompositorParts) (last : LastFrame) (compositor : CompositorView) → IsNewCompositor view compositor → view
     ≡ arc_value keeper.stage → arc_value keeper.setup ≡ setup_of view
     → is_setup (setup_of view) ≡ true → keeper.share ≡ slice_index (shares_of view) 0 → keeper.share < 4294967296 → keeper.made ≡ 0 → keeper.time ≡ 0
     → keeper.frames.0 ≡ 0 → keeper.shown ≡ None

@@ -6,9 +6,9 @@ use Rattle.flat_base.specs.Last.{last_item}
 use Rattle.flat_base.specs.declared.ids.Actor.TheVariants.{Display}
 use Rattle.flat_scene.specs.declared.frames.FrameOut.{FrameOut}
 use Rattle.flat_scene.specs.declared.journal.Entry.{Entry}
-use Rattle.flat_scene.specs.declared.journal.Kind.{Kind}
+use Rattle.flat_scene.specs.declared.journal.EntryKind.{EntryKind}
 use Rattle.flat_scene.specs.declared.journal.Reply.{Reply}
-use Rattle.flat_scene.specs.declared.script.Cond.{Cond}
+use Rattle.flat_scene.specs.declared.script.WaitCondition.{WaitCondition}
 use Rattle.flat_scene.specs.declared.script.DisplayLine.{DisplayLine}
 use Rattle.flat_scene.specs.declared.script.DisplayLine.TheVariants as display
 use Rattle.flat_scene.specs.declared.setup.Setup.{Setup}
@@ -29,7 +29,7 @@ use Rattle.flat_stage.specs.Displays.{CompositorView, DisplayEnters, DisplaySees
 use Rattle.flat_stage.specs.Seats.{entries_of_seat, setup_of, shares_of}
 use Rattle.flat_shell.specs.declared.fault.DisplayFault.{DisplayFault}
 use Rattle.flat_shell.specs.declared.fault.DisplayFault.TheVariants.{Full, NotOwned, Unmet}
-use Rattle.flat_shell.specs.declared.keeper.Keeper.{Keeper}
+use Rattle.flat_shell.specs.declared.compositor_parts.CompositorParts.{CompositorParts}
 
 -- ---- what callers see
 
@@ -42,7 +42,7 @@ abbrev pub MayBegin : ℕ → DisplayView → Type 0
 MayBegin time seat = (2 ≤ left seat) × (begin_time (history_of seat.mine) ≤ time)
 
 -- what came of a line of the display that makes an entry of a kind
-abbrev pub Enters : DisplayLine → Kind → DisplayView → DisplayView → Result (Unit {0}) DisplayFault → Type 0
+abbrev pub Enters : DisplayLine → EntryKind → DisplayView → DisplayView → Result (Unit {0}) DisplayFault → Type 0
 Enters text kind old new (Ok done) = (reply : Reply) × DisplayEnters (length old.mine + 1) kind reply old new
 Enters text kind old new (Err NotOwned) = (is_played_display (setup_of old.stage) text ≡ false) × (new ≡ old)
 Enters text kind old new (Err Full) = (left old ≡ 0) × (new ≡ old)
@@ -50,7 +50,7 @@ Enters text kind old new (Err (Unmet value)) = ⊥
 
 -- The display looked at a condition, and had that value, at a point of a legal history that begins with all that it had
 -- seen.
-pub record HasLooked (c : Cond) (value : ℕ) (old new : DisplayView) : Type 0 where
+pub record HasLooked (c : WaitCondition) (value : ℕ) (old new : DisplayView) : Type 0 where
   pub own : is_played_display (setup_of old.stage) (display.Wait c) ≡ true
   pub value_then : value ≡ value_of (setup_of old.stage) (history_of new.seen) Display c
   pub legal : Legal (setup_of old.stage) (history_of new.seen)
@@ -58,7 +58,7 @@ pub record HasLooked (c : Cond) (value : ℕ) (old new : DisplayView) : Type 0 w
   pub sees : DisplaySees old new
 
 -- what came of a wait of the display
-abbrev pub Waits : Cond → DisplayView → DisplayView → Result ℕ DisplayFault → Type 0
+abbrev pub Waits : WaitCondition → DisplayView → DisplayView → Result ℕ DisplayFault → Type 0
 Waits c old new (Ok value) = HasLooked c value old new × (asked_of c ≤ value)
 Waits c old new (Err (Unmet value)) = HasLooked c value old new × (value < asked_of c)
 Waits c old new (Err NotOwned) = (is_played_display (setup_of old.stage) (display.Wait c) ≡ false) × (new ≡ old)
@@ -72,7 +72,7 @@ next_frame seat = frame_at (setup_of seat.stage) (frames (history_of seat.seen) 
 
 -- What is kept beside a seat, while a frame is open or not: its stage, the setup and the share of this, the number of
 -- its entries, when the last frame began, and the last finished frame.
-pub record IsKept (is_open : Bool) (keeper : Keeper) (seat : DisplayView) : Type 0 where
+pub record IsKept (is_open : Bool) (keeper : CompositorParts) (seat : DisplayView) : Type 0 where
   pub own : seat.stage ≡ arc_value keeper.stage
   pub setup : arc_value keeper.setup ≡ setup_of seat.stage
   pub valid : is_setup (setup_of seat.stage) ≡ true

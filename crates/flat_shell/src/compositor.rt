@@ -1,7 +1,7 @@
 ghost use Rattle.std.specs.Prelude.{◌≡◌, ◌≢◌, ◌+◌, ◌<◌, ◌↔◌, ℕ, false, true, length, Err, IfOk, IsOk};
 ghost use Rattle.std.specs.Option.{option_copied};
 ghost use Rattle.flat_base.specs.Last.{last_item};
-ghost use Rattle.flat_scene.specs.declared.journal.Kind.TheVariants.{Begin, Dpr, Signal};
+ghost use Rattle.flat_scene.specs.declared.journal.EntryKind.TheVariants.{Begin, Dpr, Signal};
 ghost use Rattle.flat_scene.specs.declared.journal.Reply.TheVariants.{Done};
 ghost use Rattle.flat_scene.specs.declared.script.DisplayLine.TheVariants as display;
 ghost use Rattle.flat_scene.specs.Journals.{history_of};
@@ -18,9 +18,9 @@ ghost use Rattle.flat_shell.specs.declared.fault.BeginFault.TheVariants.{Before}
 ghost use Rattle.flat_shell.specs.declared.fault.BeginFault.TheVariants as begins;
 ghost use Rattle.flat_shell.specs.declared.fault.DisplayFault.TheVariants.{Full, NotOwned, Unmet};
 
+use crate::compositor_parts::CompositorParts;
 use crate::fault::{BeginFault, DisplayFault};
 use crate::frame::BegunFrame;
-use crate::keeper::Keeper;
 use flat_base::{FenceNo, NoMemory};
 use flat_play::LastFrame;
 use flat_scene::{DisplayLine, FrameOut, HitList};
@@ -33,7 +33,7 @@ use std::sync::Wait;
 /// stage, the history that it has seen, and its own entries in it.
 #[derive(Drop)]
 pub struct DisplayCompositor {
-    pub(crate) keeper: Keeper,
+    pub(crate) keeper: CompositorParts,
     pub(crate) compositor: Compositor,
     pub(crate) last: LastFrame,
 }

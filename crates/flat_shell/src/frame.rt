@@ -2,7 +2,7 @@ ghost use Rattle.std.specs.Prelude.{◌≡◌, ◌+◌, true, length, All, IfOk,
 ghost use Rattle.flat_base.specs.Last.{last_item};
 ghost use Rattle.flat_damage.specs.Damage.{IsDamage};
 ghost use Rattle.flat_drawable.specs.Drawable.{IsDrawable};
-ghost use Rattle.flat_scene.specs.declared.journal.Kind.TheVariants.{Finish};
+ghost use Rattle.flat_scene.specs.declared.journal.EntryKind.TheVariants.{Finish};
 ghost use Rattle.flat_scene.specs.declared.journal.Reply.TheVariants.{Done};
 ghost use Rattle.flat_scene.specs.Journals.{history_of};
 ghost use Rattle.flat_report.specs.Report.{finished};
@@ -12,7 +12,7 @@ ghost use Rattle.flat_shell.specs.Live.{next_frame, GoesBefore, IsComposed, IsKe
 ghost use Rattle.flat_texts.specs.Pictures.{list_of};
 
 use crate::compositor::DisplayCompositor;
-use crate::keeper::Keeper;
+use crate::compositor_parts::CompositorParts;
 use flat_base::NoMemory;
 use flat_core::shown_states_fit;
 use flat_damage::damage;
@@ -27,7 +27,7 @@ use std::sync::Wait;
 /// meanwhile. Contracts see it as the compositor's seat.
 #[derive(Drop)]
 pub struct BegunFrame {
-    pub(crate) keeper: Keeper,
+    pub(crate) keeper: CompositorParts,
     pub(crate) compositor: Compositor,
     /// What the last frame was composed of; None after memory ran out.
     pub(crate) last: Option<LastFrame>,
@@ -52,7 +52,7 @@ impl Model for BegunFrame {
 /// seat.
 #[derive(Drop)]
 pub struct ComposedFrame {
-    keeper: Keeper,
+    keeper: CompositorParts,
     compositor: Compositor,
     last: LastFrame,
     out: FrameOut,
@@ -80,7 +80,7 @@ const EVERYBODY: SessionSet = SessionSet { has: [true; 16] };
 
 /// What the next frame is composed from, and the sessions that may show something else in it.
 fn start_of(
-    keeper: &Keeper,
+    keeper: &CompositorParts,
     compositor: &Compositor,
     last: Option<LastFrame>,
 ) -> Result<(LastFrame, SessionSet), NoMemory>
@@ -102,7 +102,7 @@ fn start_of(
 
 /// The next frame, composed of what an open one shows, and what is kept of it.
 fn compose_from(
-    keeper: &Keeper,
+    keeper: &CompositorParts,
     compositor: &Compositor,
     last: Option<LastFrame>,
 ) -> Result<(LastFrame, FrameOut), NoMemory>

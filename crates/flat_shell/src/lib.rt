@@ -6,9 +6,9 @@
 #![tactic(auto)]
 
 mod compositor;
+mod compositor_parts;
 mod fault;
 mod frame;
-mod keeper;
 mod shell;
 mod waits;
 

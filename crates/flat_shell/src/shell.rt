@@ -3,14 +3,14 @@ ghost use Rattle.flat_shell.specs.Closing.{Closes};
 ghost use Rattle.flat_shell.specs.Shells.{IsOpened, TakesBack, all_home, client_of, hands_out, is_waiting};
 
 use crate::compositor::DisplayCompositor;
+use crate::compositor_parts::CompositorParts;
 use crate::fault::CloseFault;
-use crate::keeper::Keeper;
 use flat_base::{NoMemory, SessionNo, ShareList, TryCopy};
 use flat_client::Client;
 use flat_core::Board;
 use flat_play::LastFrame;
 use flat_scene::Setup;
-use flat_setup::NewSetup;
+use flat_setup::BuiltSetup;
 use flat_stage::{SessionSeats, Stage};
 use std::alloc::Global;
 use std::marker::Model;
@@ -57,7 +57,7 @@ fn none_handed(alloc: Global, sessions: u32) -> Result<Vec<bool>, NoMemory>
 
 impl Shell {
     /// Opens a stage of a setup: all its sessions are to be handed out, and no frame has begun.
-    pub fn open(alloc: Global, setup: NewSetup) -> Result<(Shell, DisplayCompositor), NoMemory>
+    pub fn open(alloc: Global, setup: BuiltSetup) -> Result<(Shell, DisplayCompositor), NoMemory>
         ensures opened { IfOk result (λ r. IsOpened setup r.0 r.1) }
         ensures own { IfOk result (λ r. r.1.stage ≡ r.0.stage) }
     {
@@ -71,7 +71,7 @@ impl Shell {
         let (stage, compositor, seats) = Stage::new(alloc, board)?;
         let stage = Arc::new(alloc, stage)?;
         let setup = Arc::new(alloc, kept)?;
-        let keeper = Keeper::new(alloc, &stage, &setup, share)?;
+        let keeper = CompositorParts::new(alloc, &stage, &setup, share)?;
         let shell = Shell {
             alloc,
             stage,

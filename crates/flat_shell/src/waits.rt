@@ -9,7 +9,7 @@ use crate::compositor::DisplayCompositor;
 use crate::fault::DisplayFault;
 use flat_client::{FIRST_NAP, LONGEST_NAP};
 use flat_core::asked_of;
-use flat_scene::{Cond, DisplayLine};
+use flat_scene::{DisplayLine, WaitCondition};
 use flat_setup::may_direct;
 use std::sync::Wait;
 use std::thread;
@@ -22,7 +22,7 @@ impl DisplayCompositor {
     pub fn wait<R: Wait + Clock>(
         &mut self,
         rt: &R,
-        c: Cond,
+        c: WaitCondition,
         looks: u32,
     ) -> Result<u32, DisplayFault>
         ensures waits { Waits c self.old self.new result }
@@ -40,7 +40,7 @@ impl DisplayCompositor {
     }
 
     /// The value of a condition once it is enough, or at the last look.
-    fn look_often<R: Wait + Clock>(&mut self, rt: &R, c: Cond, looks: u32) -> u32
+    fn look_often<R: Wait + Clock>(&mut self, rt: &R, c: WaitCondition, looks: u32) -> u32
         requires { is_played_display (setup_of self.old.stage) (display.Wait c) ≡ true }
         ensures { HasLooked c result self.old self.new }
     {
@@ -58,7 +58,7 @@ impl DisplayCompositor {
     }
 
     /// The value of a condition now.
-    fn look<R: Wait>(&mut self, rt: &R, c: Cond) -> u32
+    fn look<R: Wait>(&mut self, rt: &R, c: WaitCondition) -> u32
         requires { is_played_display (setup_of self.old.stage) (display.Wait c) ≡ true }
         ensures { HasLooked c result self.old self.new }
     {

@@ -2,15 +2,15 @@
 use Rattle.std.proofs.Common.{◌≡◌, ℕ, false, List, [], ◌∷◌, ◌++◌, refl, sym, ap, ◌∙◌, subst, arith, Some}
 use Rattle.std.specs.List.{list_any}
 use Rattle.flat_scene.specs.declared.journal.Entry.{Entry}
-use Rattle.flat_scene.specs.declared.journal.Kind.{Kind}
+use Rattle.flat_scene.specs.declared.journal.EntryKind.{EntryKind}
 use Rattle.flat_scene.specs.declared.journal.Reply.{Reply}
-use Rattle.flat_scene.specs.declared.script.Line.{Line}
+use Rattle.flat_scene.specs.declared.script.SessionLine.{SessionLine}
 use Rattle.flat_scene.specs.declared.setup.Setup.{Setup}
 use Rattle.flat_scene.specs.Draft.{empty_draft}
 use Rattle.flat_scene.specs.History.{◌▹◌, closes}
 use Rattle.flat_scene.specs.Journals.{history_of}
 use Rattle.flat_scene.specs.Interleave.{next_from, entry_of_line, calls_of_line}
-use Rattle.flat_session.specs.declared.reader.Reader.{Reader}
+use Rattle.flat_session.specs.declared.session_reader.SessionReader.{SessionReader}
 use Rattle.std.proofs.lemmas.List.{reverse-append}
 use Rattle.flat_stage.specs.Seats.{Seat, SessionView, SessionEnters, session_view, session_entry, setup_of}
 use Rattle.flat_stage.specs.Readings.{SeatHasRead, NewSeatsHaveRead}
@@ -22,7 +22,8 @@ use Rattle.flat_session.proofs.lemmas.Following.{later_all, enters_more}
 pub newest : (mine mine_then : List Entry) (entry : Entry) → mine_then ≡ mine ++ entry ∷ [] → history_of mine_then ≡ (history_of mine ▹ entry)
 newest mine mine_then entry is = ap history_of is ∙ reverse-append mine (entry ∷ [])
 
-pub seat_enters_more : (given : List (ℕ × Line)) (number : ℕ) (text : Line) (seat_given : Seat) (seat : Seat) (before after : Reader) (kind : Kind)
+pub seat_enters_more : (given : List (ℕ × SessionLine)) (number : ℕ) (text : SessionLine) (seat_given : Seat) (seat : Seat) (before after : SessionReader)
+    (kind : EntryKind)
     (reply : Reply) → HasRead (setup_of seat.lock) given (history_of seat.mine) before → before.closed ≡ false → before.refused ≡ 0
     → list_any (λ e. closes e.reply) (history_of seat.mine) ≡ false
     → entry_of_line (setup_of seat.lock) (draft_so_far (setup_of seat.lock) (history_of seat.mine) before.pending) text ≡ Some kind

@@ -1,6 +1,6 @@
 //! The stage: seats by which sessions and the compositor step on one board, through a lock.
 //!
-//! Begin at [`Stage`]. A session's seat ([`SessionSeat`]) reads lines as a `Reader` of
+//! Begin at [`Stage`]. A session's seat ([`SessionSeat`]) reads lines as a `SessionReader` of
 //! flat_session does, each in a turn of the lock; the display's compositor has one of its own
 //! ([`Compositor`]). What contracts see of seats stands in specs/Seats, Displays and Homes.
 #![tactic(auto)]
@@ -9,7 +9,7 @@ mod compositor;
 mod laws;
 mod seats;
 mod session;
-mod shared;
+mod shared_board;
 mod stage;
 
 pub use compositor::Compositor;

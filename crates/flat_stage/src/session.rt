@@ -4,7 +4,7 @@ ghost use Rattle.flat_base.specs.declared.ids.Actor.TheVariants.{Session};
 ghost use Rattle.flat_core.specs.Machines.{MayLook};
 ghost use Rattle.flat_rules.specs.Legal.{value_of, Legal};
 ghost use Rattle.flat_stage.specs.Homes.{lock_seat};
-ghost use Rattle.flat_scene.specs.declared.script.Line.{Line};
+ghost use Rattle.flat_scene.specs.declared.script.SessionLine.{SessionLine};
 ghost use Rattle.flat_stage.specs.Readings.{SeatEdits, SeatHasRead};
 ghost use Rattle.flat_session.specs.Readings.{Rise};
 ghost use Rattle.flat_rules.specs.Owned.{is_played_line};
@@ -16,13 +16,13 @@ ghost use Rattle.flat_scene.specs.Setups.{is_declared};
 ghost use Rattle.flat_stage.specs.Seats.{is_ended, entries_of_seat, session_view, setup_of, AreAtOne, AreOne, GoesOn};
 ghost use Rattle.flat_stage.specs.Seats.{HasRoom, SeatSeesMore, SessionEnds, SessionEnters, SessionReads, SeesMore};
 
-use crate::shared::Shared;
+use crate::shared_board::SharedBoard;
 use crate::stage::Stage;
 use flat_base::{Actor, NoMemory, SessionNo};
 use flat_core::EventList;
 use flat_lock::LockSeat;
-use flat_scene::{Cond, Line, Reply};
-use flat_session::{Edit, Made, Prepared, Reader};
+use flat_scene::{Reply, SessionLine, WaitCondition};
+use flat_session::{EditOutcome, PreparedLine, RequestedEntry, SessionReader};
 use std::marker::Model;
 use std::sync::Wait;
 
@@ -30,8 +30,8 @@ use std::sync::Wait;
 /// it.
 #[derive(Drop)]
 pub struct SessionSeat {
-    pub(crate) seat: LockSeat<Shared>,
-    pub(crate) reader: Reader,
+    pub(crate) seat: LockSeat<SharedBoard>,
+    pub(crate) reader: SessionReader,
 }
 
 impl Model for SessionSeat {
@@ -66,7 +66,7 @@ impl SessionSeat {
     }
 
     /// The lock's seat.
-    pub(crate) fn into_seat(self) -> LockSeat<Shared>
+    pub(crate) fn into_seat(self) -> LockSeat<SharedBoard>
         ensures { result ≡ lock_seat self }
     {
         let SessionSeat { seat, reader } = self;
@@ -84,7 +84,7 @@ impl SessionSeat {
         rt: &R,
         stage: &Stage,
         number: u32,
-        text: Line,
+        text: SessionLine,
     ) -> Result<Reply, NoMemory>
         requires own { self.old.stage ≡ stage.now }
         requires unended { is_ended self.old.mine ≡ false }
@@ -95,13 +95,13 @@ impl SessionSeat {
             self.old.closed) }
         ensures kept { OnErr result (SeesMore self.old self.new) }
         ensures goes_on { GoesOn self.old self.new }
-        ensures follows { (given : List (ℕ × Line)) → SeatHasRead given self.old →
+        ensures follows { (given : List (ℕ × SessionLine)) → SeatHasRead given self.old →
             IfOk result (λ _. SeatHasRead (given ++ (number, text) ∷ []) self.new) }
     {
         match self.reader.prepare(text)? {
-            Prepared::Refused(reply) => Ok(reply),
-            Prepared::Waits(reply) => Ok(reply),
-            Prepared::Enters(made) => {
+            PreparedLine::Refused(reply) => Ok(reply),
+            PreparedLine::Waits(reply) => Ok(reply),
+            PreparedLine::Enters(made) => {
                 enter(rt, stage, &mut self.seat, &mut self.reader, number, made)
             }
         }
@@ -112,7 +112,7 @@ impl SessionSeat {
     /// `call`.
     ///
     /// If memory runs out, the line is dropped.
-    pub fn edit(&mut self, text: Line) -> Result<Edit, NoMemory>
+    pub fn edit(&mut self, text: SessionLine) -> Result<EditOutcome, NoMemory>
         requires unended { is_ended self.old.mine ≡ false }
         requires owned { is_played_line (setup_of self.old.stage) self.old.session text ≡ true }
         requires few { self.old.refused + 1 < 2 ^ 32 }
@@ -122,7 +122,7 @@ impl SessionSeat {
     {
         if self.reader.closed {
             drop(text);
-            return Ok(Edit::Read(self.reader.refuse()));
+            return Ok(EditOutcome::Read(self.reader.refuse()));
         }
         self.reader.edit(text)
     }
@@ -135,7 +135,7 @@ impl SessionSeat {
         requires room { HasRoom self.old }
         ensures reply { result ≡ Done }
         ensures ends { SessionEnds number self.old self.new }
-        ensures reading { (given : List (ℕ × Line)) (count : ℕ) → number ≡ count + 1 →
+        ensures reading { (given : List (ℕ × SessionLine)) (count : ℕ) → number ≡ count + 1 →
             Rise 0 given → SeatHasRead given self.old → IsReading (setup_of self.old.stage) count
             given (history_of self.new.mine) }
     {
@@ -153,7 +153,7 @@ impl SessionSeat {
 
     /// The value of a condition, at a point of the history that begins with all that
     /// the seat had seen. It makes no entry. It may wait, and takes no memory.
-    pub fn look<R: Wait>(&mut self, rt: &R, stage: &Stage, c: Cond) -> u32
+    pub fn look<R: Wait>(&mut self, rt: &R, stage: &Stage, c: WaitCondition) -> u32
         requires own { self.old.stage ≡ stage.now }
         requires may { MayLook (setup_of self.old.stage) (Session self.old.session) c }
         ensures value { result ≡ value_of (setup_of self.old.stage) (history_of self.new.seen)
@@ -171,9 +171,9 @@ impl SessionSeat {
 pub(crate) fn look<R: Wait>(
     rt: &R,
     stage: &Stage,
-    seat: &mut LockSeat<Shared>,
+    seat: &mut LockSeat<SharedBoard>,
     who: Actor,
-    c: Cond,
+    c: WaitCondition,
 ) -> u32
     requires own { seat.old.lock ≡ stage.now }
     requires resting { seat.old.has_turn ≡ false }
@@ -185,6 +185,7 @@ pub(crate) fn look<R: Wait>(
 {
     let shared = stage.lock.turn(rt, seat);
     let value = shared.board.value(who, c);
+    // proof: the entries so far are legal.
     let _ = shared.board.journal();
     stage.lock.give(seat, shared);
     value
@@ -194,10 +195,10 @@ pub(crate) fn look<R: Wait>(
 fn enter<R: Wait>(
     rt: &R,
     stage: &Stage,
-    seat: &mut LockSeat<Shared>,
-    reader: &mut Reader,
+    seat: &mut LockSeat<SharedBoard>,
+    reader: &mut SessionReader,
     number: u32,
-    made: Made,
+    made: RequestedEntry,
 ) -> Result<Reply, NoMemory>
     requires own { seat.old.lock ≡ stage.now }
     requires one { AreAtOne seat.old reader.old }
@@ -214,6 +215,7 @@ fn enter<R: Wait>(
     let mut shared = stage.lock.turn(rt, seat);
     match reader.enter(&mut shared.board, number, made) {
         Ok(reply) => {
+            // proof: the entries so far are legal.
             let _ = shared.board.journal();
             stage.lock.give(seat, shared);
             Ok(reply)
@@ -229,8 +231,8 @@ fn enter<R: Wait>(
 fn end<R: Wait>(
     rt: &R,
     stage: &Stage,
-    seat: &mut LockSeat<Shared>,
-    reader: &mut Reader,
+    seat: &mut LockSeat<SharedBoard>,
+    reader: &mut SessionReader,
     number: u32,
 ) -> Reply
     requires own { seat.old.lock ≡ stage.now }
@@ -244,6 +246,7 @@ fn end<R: Wait>(
 {
     let mut shared = stage.lock.turn(rt, seat);
     let reply = reader.end(&mut shared.board, number);
+    // proof: the entries so far are legal.
     let _ = shared.board.journal();
     stage.lock.give(seat, shared);
     reply

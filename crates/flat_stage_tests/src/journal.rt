@@ -1,7 +1,7 @@
 ghost use Rattle.std.specs.Prelude.{◌≡◌, [], ◌∷◌, ◌++◌, OnErr, OnOk};
 
 use flat_base::NoMemory;
-use flat_lock::Storied;
+use flat_lock::HasHistory;
 use std::alloc::Global;
 
 /// One more entry of an actor.
@@ -18,7 +18,7 @@ pub struct Journal {
     pub lines: Vec<Line>,
 }
 
-impl Storied for Journal {
+impl HasHistory for Journal {
     type Entry = Line;
 
     type Fixed = u32;

@@ -2,10 +2,10 @@ ghost use Rattle.std.specs.Prelude.{◌≡◌, ◌<◌, OnOk};
 
 use flat_base::{FrameNo, IntRect, Items, NoMemory, ONE, Rect, SessionNo};
 use flat_geom::scaling;
-use flat_hit::Touchable;
+use flat_hit::HitIndex;
 use flat_publish::{Probe, ProbeSeats, Published};
 use flat_scene::{HitRegion, Interaction};
-use flat_topology::{Joined, Placed};
+use flat_topology::{GlobalTopology, PlacedNode};
 use std::alloc::Global;
 use std::sync::{Arc, Wait};
 use std::thread;
@@ -26,17 +26,17 @@ const DISPLAY: Rect = Rect {
 };
 
 /// A frame of some nodes.
-fn touchable(alloc: Global, nodes: Items<Placed>) -> Result<Arc<Touchable>, NoMemory> {
-    let joined = Joined {
+fn touchable(alloc: Global, nodes: Items<PlacedNode>) -> Result<Arc<HitIndex>, NoMemory> {
+    let joined = GlobalTopology {
         display: DISPLAY,
         nodes,
         connected: Items::new(alloc),
     };
-    Ok(Arc::new(alloc, Touchable::new(alloc, joined)?)?)
+    Ok(Arc::new(alloc, HitIndex::new(alloc, joined)?)?)
 }
 
 /// A node of a session that takes hits in a square of 10 by 10.
-fn square(alloc: Global, session: SessionNo) -> Result<Placed, NoMemory> {
+fn square(alloc: Global, session: SessionNo) -> Result<PlacedNode, NoMemory> {
     let mut hits = Items::new(alloc);
     hits.push(HitRegion {
         area: Some(IntRect {
@@ -47,7 +47,7 @@ fn square(alloc: Global, session: SessionNo) -> Result<Placed, NoMemory> {
         }),
         interaction: Interaction::Default,
     })?;
-    Ok(Placed {
+    Ok(PlacedNode {
         session,
         serial: 1,
         matrix: scaling(ONE),
@@ -59,7 +59,7 @@ fn square(alloc: Global, session: SessionNo) -> Result<Placed, NoMemory> {
 }
 
 /// A frame with one node, which takes hits.
-fn one_square(alloc: Global, session: SessionNo) -> Result<Arc<Touchable>, NoMemory> {
+fn one_square(alloc: Global, session: SessionNo) -> Result<Arc<HitIndex>, NoMemory> {
     let mut nodes = Items::new(alloc);
     nodes.push(square(alloc, session)?)?;
     touchable(alloc, nodes)

@@ -7,7 +7,7 @@ ghost use Rattle.flat_stage_tests.specs.Room.{MayRead, MayBegin};
 use crate::cast::{Cast, new_cast};
 use flat_base::{Actor, Items, NoMemory, SessionNo};
 use flat_core::Board;
-use flat_scene::{Entry, Kind, Line, PresentArgs, Reply};
+use flat_scene::{Entry, EntryKind, PresentArgs, Reply, SessionLine};
 use flat_stage::{Compositor, SessionSeat, SessionSeats, Stage};
 use std::alloc::Global;
 use std::sync::Wait;
@@ -43,7 +43,7 @@ fn present<R: Wait>(
     ensures own { seat.new.stage ≡ seat.old.stage }
     ensures may { MayRead left seat.new }
 {
-    seat.call(rt, stage, 1, Line::Present(no_fences(alloc)))
+    seat.call(rt, stage, 1, SessionLine::Present(no_fences(alloc)))
 }
 
 /// One poll, after which so many lines more may be read.
@@ -59,7 +59,7 @@ fn poll<R: Wait>(
     ensures own { seat.new.stage ≡ seat.old.stage }
     ensures may { MayRead left seat.new }
 {
-    seat.call(rt, stage, number, Line::Poll)
+    seat.call(rt, stage, number, SessionLine::Poll)
 }
 
 /// One present, and then the polls.
@@ -212,8 +212,8 @@ fn frames_of(entries: &[Entry]) -> Option<u32> {
     for entry in entries {
         if entry.actor == Actor::Display {
             match (is_open, &entry.kind) {
-                (false, Kind::Begin(_)) => is_open = true,
-                (true, Kind::Finish) => {
+                (false, EntryKind::Begin(_)) => is_open = true,
+                (true, EntryKind::Finish) => {
                     is_open = false;
                     frames = frames.checked_add(1)?;
                 }

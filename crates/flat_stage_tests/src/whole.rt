@@ -15,7 +15,7 @@ use flat_core::{FrameStart, shown_states_fit};
 use flat_drawable::is_same;
 use flat_join::join;
 use flat_reuse::Reuse;
-use flat_scene::{Call, Cond, ItemList, Line, Setup, ViewNode, ViewTree};
+use flat_scene::{Call, ItemList, SessionLine, Setup, ViewNode, ViewTree, WaitCondition};
 use flat_stage::{Compositor, SessionSeat, Stage};
 use flat_tree::{tree_of, view_tree};
 use std::alloc::Global;
@@ -27,7 +27,7 @@ fn read<R: Wait>(
     rt: &R,
     stage: &Stage,
     seat: &mut SessionSeat,
-    text: Line,
+    text: SessionLine,
     left: u32,
 ) -> Result<(), NoMemory>
     requires own { seat.old.stage ≡ stage.now }
@@ -59,27 +59,39 @@ fn present_fill<R: Wait>(
         rt,
         stage,
         seat,
-        Line::Call(Call::CreateView { pair: PairNo(0) }),
+        SessionLine::Call(Call::CreateView { pair: PairNo(0) }),
         100,
     )?;
-    read(rt, stage, seat, Line::Call(Call::CreateTransform { t }), 99)?;
     read(
         rt,
         stage,
         seat,
-        Line::Call(Call::SetRootTransform { t }),
+        SessionLine::Call(Call::CreateTransform { t }),
+        99,
+    )?;
+    read(
+        rt,
+        stage,
+        seat,
+        SessionLine::Call(Call::SetRootTransform { t }),
         98,
     )?;
     read(
         rt,
         stage,
         seat,
-        Line::Call(Call::CreateFilledRect { c }),
+        SessionLine::Call(Call::CreateFilledRect { c }),
         97,
     )?;
-    read(rt, stage, seat, Line::Call(solid_fill(c)), 96)?;
-    read(rt, stage, seat, Line::Call(Call::SetContent { t, c }), 95)?;
-    read(rt, stage, seat, Line::Present(no_fences(alloc)), 94)
+    read(rt, stage, seat, SessionLine::Call(solid_fill(c)), 96)?;
+    read(
+        rt,
+        stage,
+        seat,
+        SessionLine::Call(Call::SetContent { t, c }),
+        95,
+    )?;
+    read(rt, stage, seat, SessionLine::Present(no_fences(alloc)), 94)
 }
 
 /// Orange, half as large as the display.
@@ -166,7 +178,7 @@ fn compare<R: Wait>(
 {
     shown_states_fit();
     compositor.begin(rt, stage, 1, 0);
-    compositor.look(rt, stage, Cond::Presents(SessionNo(1), 1));
+    compositor.look(rt, stage, WaitCondition::Presents(SessionNo(1), 1));
     let start = compositor.start();
     let pieces = compose_pieces(alloc, setup, start)?;
     let whole = compose_whole(alloc, setup, start)?;

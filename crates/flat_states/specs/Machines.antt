@@ -8,17 +8,17 @@ use Rattle.flat_base.specs.declared.ids.SessionNo.{SessionNo}
 use Rattle.flat_scene.specs.declared.calls.Call.{Call}
 use Rattle.flat_scene.specs.declared.calls.PresentArgs.{PresentArgs}
 use Rattle.flat_scene.specs.declared.journal.Entry.{Entry}
-use Rattle.flat_scene.specs.declared.journal.Kind.{Kind}
-use Rattle.flat_scene.specs.declared.journal.Kind.TheVariants.{Wait}
+use Rattle.flat_scene.specs.declared.journal.EntryKind.{EntryKind}
+use Rattle.flat_scene.specs.declared.journal.EntryKind.TheVariants.{Wait}
 use Rattle.flat_scene.specs.declared.journal.Reply.{Reply}
-use Rattle.flat_scene.specs.declared.script.Cond.{Cond}
+use Rattle.flat_scene.specs.declared.script.WaitCondition.{WaitCondition}
 use Rattle.flat_scene.specs.declared.setup.Setup.{Setup}
 use Rattle.flat_scene.specs.History.{◌▹◌, Published, calls}
 use Rattle.flat_scene.specs.Journals.{seat_number}
 use Rattle.flat_scene.specs.Heads.{is_within_limits}
 use Rattle.flat_scene.specs.Frames.{is_signalled, ratio, ratio_set}
 use Rattle.flat_fence.specs.Fences.{has}
-use Rattle.flat_states.specs.declared.clock.Clock.{Clock}
+use Rattle.flat_states.specs.declared.frame_clock.FrameClock.{FrameClock}
 use Rattle.flat_states.specs.declared.ratios.Ratios.{Ratios}
 use Rattle.flat_states.specs.declared.state.SessionState.{SessionState}
 use Rattle.flat_rules.specs.Ends.{view_uses, to_begin}
@@ -39,7 +39,7 @@ pub record Machine : Type 0 where
   pub history : List Entry
 
 -- a board with one entry more
-abbrev pub entered : Machine → Actor → ℕ → List Call → Kind → Reply → Machine
+abbrev pub entered : Machine → Actor → ℕ → List Call → EntryKind → Reply → Machine
 entered m who line calls kind reply = record m { history = m.history ▹ entry_of who line calls kind reply }
 
 -- what a present of a session publishes, with the calls of its entry
@@ -57,12 +57,12 @@ abbrev pub HasShare : Machine → Actor → Type 0
 HasShare m who = made (seat_number who) m.history < slice_index m.shares (seat_number who)
 
 -- An actor may make a call that enters this: by the rules, and within its share.
-pub record MayCall (m : Machine) (who : Actor) (calls : List Call) (kind : Kind) : Type 0 where
+pub record MayCall (m : Machine) (who : Actor) (calls : List Call) (kind : EntryKind) : Type 0 where
   pub may : MayEnter m.setup m.history who calls kind
   pub share : HasShare m who
 
 -- An actor may look at the value of a condition.
-pub record MayLook (setup : Setup) (who : Actor) (c : Cond) : Type 0 where
+pub record MayLook (setup : Setup) (who : Actor) (c : WaitCondition) : Type 0 where
   pub acts : IsTrue (may_act setup (Wait c) who)
   pub named : IsTrue (may_name setup who (Wait c))
 
@@ -76,7 +76,7 @@ ratios_of setup history = record {
   finished = ratio_told setup history;
 }
 
-abbrev pub clock_of : Setup → List Entry → Clock
+abbrev pub clock_of : Setup → List Entry → FrameClock
 clock_of setup history = record {
   frames = frames history;
   is_open = is_frame_open history;
@@ -85,7 +85,7 @@ clock_of setup history = record {
 }
 
 -- the clock after an entry of no frame: a pixel ratio may have been set
-abbrev pub clock_then : Kind → Clock → Clock
+abbrev pub clock_then : EntryKind → FrameClock → FrameClock
 clock_then kind clock = record clock {
   ratios =
       record clock.ratios { latest = unwrap_or (ratio_set kind) clock.ratios.latest };
@@ -96,7 +96,7 @@ abbrev pub due : SessionState → ℕ
 due state = 2 * length state.queue.waiting + cond (nat_lt 0 state.took) 1 0
 
 -- The parts that stand for the history.
-pub record Stands (setup : Setup) (history : List Entry) (clock : Clock) (fences views : List Bool)
+pub record Stands (setup : Setup) (history : List Entry) (clock : FrameClock) (fences views : List Bool)
     (sessions : List SessionState) : Type 0 where
   pub legal : Legal setup history
   pub timed : clock ≡ clock_of setup history

@@ -10,8 +10,8 @@ use Rattle.flat_base.specs.declared.ids.Actor.TheVariants.{Session}
 use Rattle.flat_base.specs.declared.ids.FenceNo.{FenceNo}
 use Rattle.flat_scene.specs.declared.calls.PresentArgs.{PresentArgs}
 use Rattle.flat_scene.specs.declared.journal.Entry.{Entry}
-use Rattle.flat_scene.specs.declared.journal.Kind.{Kind}
-use Rattle.flat_scene.specs.declared.journal.Kind.TheVariants.{Present, View}
+use Rattle.flat_scene.specs.declared.journal.EntryKind.{EntryKind}
+use Rattle.flat_scene.specs.declared.journal.EntryKind.TheVariants.{Present, View}
 use Rattle.flat_scene.specs.declared.journal.Reply.{Reply}
 use Rattle.flat_scene.specs.declared.journal.Reply.TheVariants.{Done, Presented, Closed}
 use Rattle.flat_scene.specs.Draft.{changed_at}
@@ -93,7 +93,7 @@ use_reply false = refused_token
 
 -- what the reply to an entry decides of what is kept of its session:
 -- it is closed, made one more present, or has that view
-abbrev pub after_reply : Kind → Reply → SessionState → SessionState
+abbrev pub after_reply : EntryKind → Reply → SessionState → SessionState
 after_reply (Present args) (Presented number credits) state =
     record state { account = record state.account { presents = number } }
 after_reply (View p) Done state = record state { account = record state.account { view = Some p } }

@@ -5,7 +5,7 @@ use Rattle.flat_scene.specs.declared.journal.Entry.{Entry}
 use Rattle.flat_scene.specs.declared.setup.Setup.{Setup}
 use Rattle.flat_scene.specs.History.{◌▹◌, is_closed, is_session, presents, Published}
 use Rattle.flat_scene.specs.Frames.{taken, waiting, going}
-use Rattle.flat_states.specs.declared.state.Account.{Account}
+use Rattle.flat_states.specs.declared.state.SessionCounts.{SessionCounts}
 use Rattle.flat_rules.specs.Posts.{frame_took}
 use Rattle.flat_rules.specs.AllPosts.{posts}
 use Rattle.flat_rules.specs.Legal.{is_poll, is_frame_open}
@@ -19,7 +19,7 @@ module _ (setup : Setup) where
       (polled_at before s)
 
   -- what its own entries alone decide
-  abbrev pub account_of : List Entry → SessionNo → Account
+  abbrev pub account_of : List Entry → SessionNo → SessionCounts
   account_of history s = record {
     presents = length (presents s history);
     polled = polled_at history s;
@@ -34,7 +34,7 @@ pub record Seen : Type 0 where
   pub going : List Published
   -- by the begin of the open frame
   pub took : ℕ
-  pub account : Account
+  pub account : SessionCounts
 
 abbrev pub seen_of : Setup → List Entry → SessionNo → Seen
 seen_of setup history s = record {

@@ -5,7 +5,7 @@ ghost use Rattle.flat_states.specs.Presents.{after_entry, use_reply};
 
 use crate::state::SessionState;
 use flat_base::{FlatlandError, Reason};
-use flat_scene::{Entry, Kind, Reply};
+use flat_scene::{Entry, EntryKind, Reply};
 
 /// The reply to the use of an end, where its token is held or not.
 pub fn use_reply(is_held: bool) -> Reply
@@ -37,8 +37,8 @@ pub fn note_entry(state: &mut SessionState, entry: &Entry)
     ensures { state.new ≡ after_entry entry.now state.old }
 {
     match (&entry.kind, entry.reply) {
-        (Kind::Present(_), Reply::Presented { number, .. }) => state.account.presents = number,
-        (Kind::View(p), Reply::Done) => state.account.view = Some(*p),
+        (EntryKind::Present(_), Reply::Presented { number, .. }) => state.account.presents = number,
+        (EntryKind::View(p), Reply::Done) => state.account.view = Some(*p),
         (_, Reply::Closed(..)) => state.closed = true,
         _ => {}
     }

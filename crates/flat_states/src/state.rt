@@ -13,7 +13,7 @@ use std::sync::Arc;
 
 /// What a session's own entries alone decide.
 #[derive(Clone, Copy, PartialEq, Eq)]
-pub struct Account {
+pub struct SessionCounts {
     /// How many presents it made.
     pub presents: u32,
     /// How many events were posted before its last poll.
@@ -34,7 +34,7 @@ pub struct SessionState {
     pub closed: bool,
     /// What waited when the session was closed is among what goes.
     pub let_go: bool,
-    pub account: Account,
+    pub account: SessionCounts,
 }
 
 impl SessionState {
@@ -155,7 +155,7 @@ fn new_state(alloc: Global) -> Result<SessionState, NoMemory>
         took: 0,
         closed: false,
         let_go: false,
-        account: Account {
+        account: SessionCounts {
             presents: 0,
             polled: 0,
             view: None,

@@ -9,13 +9,13 @@ use Rattle.std.proofs.lemmas.List.Elements.{filter_map-append}
 use Rattle.std.proofs.lemmas.List.Sums.{count_by-le-length}
 use Rattle.flat_base.specs.declared.ids.Actor.{Actor}
 use Rattle.flat_base.specs.declared.ids.Actor.TheVariants.{Display, Session}
-use Rattle.flat_scene.specs.declared.script.Body.{Body}
-use Rattle.flat_scene.specs.declared.script.Body.TheVariants as body
+use Rattle.flat_scene.specs.declared.script.LineBody.{LineBody}
+use Rattle.flat_scene.specs.declared.script.LineBody.TheVariants as body
 use Rattle.flat_scene.specs.declared.script.DisplayLine.TheVariants as display
-use Rattle.flat_scene.specs.declared.script.Line.{Line}
+use Rattle.flat_scene.specs.declared.script.SessionLine.{SessionLine}
 use Rattle.flat_scene.specs.declared.script.ScriptLine.{ScriptLine}
 use Rattle.flat_text.proofs.lemmas.NumberLemmas.{natural-decimal}
-use Rattle.flat_forms.specs.declared.lines.Part.TheVariants as part
+use Rattle.flat_forms.specs.declared.lines.TextPart.TheVariants as part
 use Rattle.flat_places.specs.Forms.{mapped, Word}
 use Rattle.flat_places.specs.Names.{actor_named, is_actor}
 use Rattle.flat_forms.specs.Body.{time_begun, ends_frame, begin_times, dones, greatest, is_open, lines_of_actor, display_line, actor_line}
@@ -36,7 +36,7 @@ pub line_goes_on : (k : ℕ) (sofar next : Sofar) (ws : List Word) (rest : List 
 line_goes_on k sofar next ws rest good is = rw (good.plain, good.short, good.kept, good.words, is) refl
 
 -- the lines so far, and one more
-abbrev more : List ScriptLine → ℕ → Actor → Body → List ScriptLine
+abbrev more : List ScriptLine → ℕ → Actor → LineBody → List ScriptLine
 more us k a b = us ++ record { number = k; actor = a; body = b } ∷ []
 
 few_lines : (us : List ScriptLine) (a : Actor) → length us < 65536 → nat_lt (lines_of_actor (with_lines start us) a) 65536 ≡ true
@@ -45,7 +45,8 @@ few_lines us a few = let most = count_by-le-length (λ (l : ScriptLine). is_acto
     below : (n : ℕ) → n < 65536 → nat_lt n 65536 ≡ true
     below n fits = grind (arith, nat_tests)
 
-body_goes_on : (us : List ScriptLine) (k : ℕ) (a : Actor) (b : Body) (w : Word) (ws : List Word) (rest : List (List ℕ)) → IsLine (w ∷ ws) → length us < 65536
+body_goes_on : (us : List ScriptLine) (k : ℕ) (a : Actor) (b : LineBody) (w : Word) (ws : List Word) (rest : List (List ℕ)) → IsLine (w ∷ ws)
+    → length us < 65536
     → actor_named start w ≡ Some a
     → actor_line (with_lines start us) a ws ≡ Ok b → lines_read k (part.Body, with_lines start us) (line_of (w ∷ ws) ∷ rest)
     ≡ lines_read (k + 1) (part.Body, with_lines start (more us k a b)) rest
@@ -61,16 +62,16 @@ pub record Frames (us : List ScriptLine) (begun ended : ℕ) : Type 0 where
   pub last : greatest (begin_times (with_lines start us)) ≡ begun
   pub ends : dones (with_lines start us) ≡ ended
 
-times_after : (us : List ScriptLine) (k : ℕ) (a : Actor) (b : Body)
+times_after : (us : List ScriptLine) (k : ℕ) (a : Actor) (b : LineBody)
     → begin_times (with_lines start (more us k a b)) ≡ begin_times (with_lines start us)
     ++ filter_map (λ (l : ScriptLine). time_begun l.body) (record { number = k; actor = a; body = b } ∷ [])
 times_after us k a b = filter_map-append (λ (l : ScriptLine). time_begun l.body) us (record { number = k; actor = a; body = b } ∷ [])
 
-dones_after : (us : List ScriptLine) (k : ℕ) (a : Actor) (b : Body)
+dones_after : (us : List ScriptLine) (k : ℕ) (a : Actor) (b : LineBody)
     → dones (with_lines start (more us k a b)) ≡ dones (with_lines start us) + cond (ends_frame b) 1 0
 dones_after us k a b = fold-append (λ n (l : ScriptLine). n + cond (ends_frame l.body) 1 0) 0 us (record { number = k; actor = a; body = b } ∷ [])
 
-said_frames : (us : List ScriptLine) (k : ℕ) (a : Actor) (l : Line) (begun ended : ℕ) → Frames us begun ended
+said_frames : (us : List ScriptLine) (k : ℕ) (a : Actor) (l : SessionLine) (begun ended : ℕ) → Frames us begun ended
     → Frames (more us k a (body.Session l)) begun ended
 said_frames us k a l begun ended frames =
     let times : begin_times (with_lines start (more us k a (body.Session l))) ≡ begin_times (with_lines start us) =
@@ -83,7 +84,7 @@ said_frames us k a l begun ended frames =
 
 begin_frames : (us : List ScriptLine) (k f : ℕ) → Frames us f f → Frames (more us k Display (body.Display (display.Begin (f + 1)))) (f + 1) f
 begin_frames us k f frames =
-    let b : Body = body.Display (display.Begin (f + 1)) in
+    let b : LineBody = body.Display (display.Begin (f + 1)) in
     let before = begin_times (with_lines start us) in
     let times : begin_times (with_lines start (more us k Display b)) ≡ before ++ (f + 1) ∷ [] = times_after us k Display b in
     record {
@@ -97,7 +98,7 @@ begin_frames us k f frames =
 
 done_frames : (us : List ScriptLine) (k f : ℕ) → Frames us (f + 1) f → Frames (more us k Display (body.Display display.Done)) (f + 1) (f + 1)
 done_frames us k f frames =
-    let b : Body = body.Display display.Done in
+    let b : LineBody = body.Display display.Done in
     let times : begin_times (with_lines start (more us k Display b)) ≡ begin_times (with_lines start us) = times_after us k Display b ∙ append-nil _ in
     record { begins = ap length times ∙ frames.begins; last = ap greatest times ∙ frames.last; ends = dones_after us k Display b ∙ omega (arith, frames.ends) }
 
@@ -168,7 +169,7 @@ then_after us k xs ys f g x y = record {
 }
 
 -- a line at the front
-line_after : (us : List ScriptLine) (k : ℕ) (a : Actor) (b : Body) (w : Word) (ws : List Word) (wss : List (List Word)) (f : ℕ) → IsLine (w ∷ ws)
+line_after : (us : List ScriptLine) (k : ℕ) (a : Actor) (b : LineBody) (w : Word) (ws : List Word) (wss : List (List Word)) (f : ℕ) → IsLine (w ∷ ws)
     → length us < 65536 → actor_named start w ≡ Some a
     → actor_line (with_lines start us) a ws ≡ Ok b → After (more us k a b) (k + 1) wss f → After us k ((w ∷ ws) ∷ wss) f
 line_after us k a b w ws wss f good few named is x = record {
@@ -186,7 +187,7 @@ pub said_after : (wss : List (List Word)) → AllSaid wss → (us : List ScriptL
 said_after [] all us k f frames few = none_after us k f frames
 said_after (ws ∷ wss) all us k f frames few =
     let s = all.0 in
-    let b : Body = body.Session s.what in
+    let b : LineBody = body.Session s.what in
     let P : List Word → Type 0 = λ t. IsLine t → After us k (t ∷ wss) f in
     let read : actor_line (with_lines start us) (Session s.who) s.words ≡ Ok b = ap (λ r. mapped body.Session r) s.read in
     let rest = said_after wss all.1 (more us k (Session s.who) b) (k + 1) f (said_frames us k (Session s.who) s.what f f frames)
@@ -196,8 +197,8 @@ said_after (ws ∷ wss) all us k f frames few =
 -- a frame
 pub frame_after : (us : List ScriptLine) (k f : ℕ) → Frames us f f → f < 500 → length us + 2 ≤ 65536 → After us k (frame (f + 1)) (f + 1)
 frame_after us k f frames few room =
-    let begun : Body = body.Display (display.Begin (f + 1)) in
-    let done : Body = body.Display display.Done in
+    let begun : LineBody = body.Display (display.Begin (f + 1)) in
+    let done : LineBody = body.Display display.Done in
     let mid = more us k Display begun in
     let open_frames = begin_frames us k f frames in
     let many = length-append us (record { number = k; actor = Display; body = begun } ∷ []) in

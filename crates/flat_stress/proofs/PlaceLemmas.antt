@@ -6,7 +6,7 @@ use Rattle.std.proofs.lemmas.Bool.Decides.{nat_tests}
 use Rattle.flat_base.specs.declared.ids.Actor.TheVariants.{Display, Session}
 use Rattle.flat_base.specs.declared.ids.SessionNo.{SessionNo}
 use Rattle.flat_scene.specs.declared.calls.Call.TheVariants as call
-use Rattle.flat_scene.specs.declared.script.Line.TheVariants as line
+use Rattle.flat_scene.specs.declared.script.SessionLine.TheVariants as line
 use Rattle.flat_text.specs.Number.{natural, signed}
 use Rattle.flat_text.proofs.lemmas.NumberLemmas.{natural-decimal, signed-signed_decimal}
 use Rattle.flat_places.specs.declared.kinds.FaultKind.TheVariants.{BadNumber}

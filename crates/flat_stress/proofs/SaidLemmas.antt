@@ -3,7 +3,7 @@ use Rattle.std.proofs.Common.{◌≡◌, ℕ, zero, suc, ◌+◌, ◌*◌, ◌%�
 use Rattle.std.specs.List.{flat_map, range_with_len}
 use Rattle.flat_base.specs.declared.ids.Actor.TheVariants.{Session}
 use Rattle.flat_base.specs.declared.ids.SessionNo.{SessionNo}
-use Rattle.flat_scene.specs.declared.script.Line.{Line}
+use Rattle.flat_scene.specs.declared.script.SessionLine.{SessionLine}
 use Rattle.flat_places.specs.Names.{actor_named}
 use Rattle.flat_forms.specs.Body.{session_line}
 use Rattle.flat_print.proofs.lemmas.TextLemmas.{IsLine, AllLines}
@@ -20,7 +20,7 @@ pub record Said (ws : List Word) : Type 0 where
   pub who : SessionNo
   pub name : Word
   pub words : List Word
-  pub what : Line
+  pub what : SessionLine
   pub begins : ws ≡ name ∷ words
   pub good : IsLine ws
   pub named : actor_named start name ≡ Some (Session who)
@@ -49,7 +49,7 @@ each_line_said f first (suc n) all = (all first (omega arith) (omega arith), eac
 
 -- one line
 
-said : (i : ℕ) (words : List Word) (l : Line) → 1 ≤ i → i ≤ 8 → AllSolid words → length words ≤ 24 → session_line start (no i) words ≡ Ok l
+said : (i : ℕ) (words : List Word) (l : SessionLine) → 1 ≤ i → i ≤ 8 → AllSolid words → length words ≤ 24 → session_line start (no i) words ≡ Ok l
     → Said (says i words)
 said i words l low high solid few read = record {
   who = no i;

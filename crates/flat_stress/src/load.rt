@@ -5,8 +5,8 @@ ghost use Rattle.flat_page.specs.Words.{number, text_of};
 ghost use Rattle.flat_stress.specs.Load.{head, opening, node, move, fill, viewport, present, host, guest, frame, later};
 ghost use Rattle.flat_stress.specs.Load.{load, load_text};
 
-use crate::words::{Word, push_lines};
-use Word::{Number, Pair, Session, Text};
+use crate::words::{LoadWord, push_lines};
+use LoadWord::{Number, Pair, Session, Text};
 use flat_base::{LOAD_FRAMES_MAX, NoMemory};
 use flat_page::Page;
 use std::alloc::Global;

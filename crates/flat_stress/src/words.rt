@@ -8,7 +8,7 @@ use flat_page::Page;
 
 /// A word of a line.
 #[derive(Clone, Copy)]
-pub enum Word {
+pub enum LoadWord {
     /// As it stands.
     Text(&'static str),
     /// In decimal.
@@ -22,7 +22,7 @@ pub enum Word {
 }
 
 /// Appends lines.
-pub fn push_lines(page: &mut Page, lines: &[&[Word]]) -> Result<(), NoMemory>
+pub fn push_lines(page: &mut Page, lines: &[&[LoadWord]]) -> Result<(), NoMemory>
     ensures { OnOk result (page.new
         ≡ page.old ++ text_of (map (λ line. map spelling line.now) lines.now)) }
 {
@@ -33,7 +33,7 @@ pub fn push_lines(page: &mut Page, lines: &[&[Word]]) -> Result<(), NoMemory>
 }
 
 /// Appends a line.
-pub fn push_line(page: &mut Page, words: &[Word]) -> Result<(), NoMemory>
+pub fn push_line(page: &mut Page, words: &[LoadWord]) -> Result<(), NoMemory>
     ensures { OnOk result (page.new ≡ page.old ++ line_text (map spelling words.now)) }
 {
     if let [first, rest @ ..] = words {
@@ -43,7 +43,7 @@ pub fn push_line(page: &mut Page, words: &[Word]) -> Result<(), NoMemory>
     page.put(b"\n")
 }
 
-fn push_spaced(page: &mut Page, words: &[Word]) -> Result<(), NoMemory>
+fn push_spaced(page: &mut Page, words: &[LoadWord]) -> Result<(), NoMemory>
     ensures { OnOk result (page.new ≡ page.old ++ spaced (map spelling words.now)) }
 {
     for word in words {
@@ -53,14 +53,14 @@ fn push_spaced(page: &mut Page, words: &[Word]) -> Result<(), NoMemory>
     Ok(())
 }
 
-fn push_word(page: &mut Page, word: Word) -> Result<(), NoMemory>
+fn push_word(page: &mut Page, word: LoadWord) -> Result<(), NoMemory>
     ensures { OnOk result (page.new ≡ page.old ++ spelling word) }
 {
     match word {
-        Word::Text(text) => page.put(text.as_bytes()),
-        Word::Number(n) => page.number(u64::from(n)),
-        Word::Count(n) => page.number(n as u64),
-        Word::Session(n) => page.numbered(b"S", u64::from(n)),
-        Word::Pair(n) => page.numbered(b"t", u64::from(n)),
+        LoadWord::Text(text) => page.put(text.as_bytes()),
+        LoadWord::Number(n) => page.number(u64::from(n)),
+        LoadWord::Count(n) => page.number(n as u64),
+        LoadWord::Session(n) => page.numbered(b"S", u64::from(n)),
+        LoadWord::Pair(n) => page.numbered(b"t", u64::from(n)),
     }
 }

@@ -7,7 +7,7 @@ use Rattle.flat_scene.specs.declared.frames.FrameOut.{FrameOut}
 use Rattle.flat_base.specs.declared.shapes.Rect.{Rect}
 use Rattle.flat_damage.specs.Damage.{IsDamage, bounded, left_of, visible_rects}
 use Rattle.flat_page.proofs.lemmas.LastItems.{last-behind}
-use Rattle.flat_texts.specs.declared.damage.Damaged.{Damaged}
+use Rattle.flat_texts.specs.declared.damage.FrameDamage.{FrameDamage}
 use Rattle.flat_texts.specs.Damages.{AreDamaged, none, next}
 use Rattle.flat_texts.specs.Pictures.{list_of}
 
@@ -26,7 +26,8 @@ shown-of [] = refl
 shown-of (frame ∷ later) = shown-last [] frame later
 
 -- the damage of one frame more
-pub damaged-more : (before : List DrawItem) (frames : List FrameOut) (frame : FrameOut) (one : Damaged) (damaged : List Damaged) → one.frame ≡ frame.frame
+pub damaged-more : (before : List DrawItem) (frames : List FrameOut) (frame : FrameOut) (one : FrameDamage) (damaged : List FrameDamage)
+    → one.frame ≡ frame.frame
     → IsDamage (shown_after before frames) frame.items one.rects
     → AreDamaged before frames damaged → AreDamaged before (frames ++ frame ∷ []) (damaged ++ one ∷ [])
 damaged-more before [] frame one [] number damage none = next number damage none

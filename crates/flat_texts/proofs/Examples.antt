@@ -9,10 +9,10 @@ use Rattle.flat_scene.specs.declared.frames.DrawItem.{DrawItem}
 use Rattle.flat_scene.specs.declared.frames.FrameOut.{FrameOut}
 use Rattle.flat_scene.specs.declared.frames.Paint.TheVariants.{Fill}
 use Rattle.flat_scene.specs.declared.journal.Entry.{Entry}
-use Rattle.flat_scene.specs.declared.journal.Kind.{Kind}
-use Rattle.flat_scene.specs.declared.journal.Kind.TheVariants.{Begin, Finish}
+use Rattle.flat_scene.specs.declared.journal.EntryKind.{EntryKind}
+use Rattle.flat_scene.specs.declared.journal.EntryKind.TheVariants.{Begin, Finish}
 use Rattle.flat_scene.specs.declared.journal.Reply.TheVariants.{Done}
-use Rattle.flat_texts.specs.declared.damage.Damaged.{Damaged}
+use Rattle.flat_texts.specs.declared.damage.FrameDamage.{FrameDamage}
 use Rattle.flat_texts.specs.Damages.{IsDamageText, damaged_text, none}
 use Rattle.flat_render.specs.Ppm.{header}
 use Rattle.flat_scene.specs.declared.setup.Setup.{Setup}
@@ -79,7 +79,7 @@ nothing_changed : damaged_text [] ≡ codes "damage ends frames 0\n"
 unfolding digits
 nothing_changed = refl
 
-abbrev one_rectangle : Damaged
+abbrev one_rectangle : FrameDamage
 one_rectangle = record { frame = record { 0 = 1 }; rects = square ∷ [] }
 
 a_rectangle_has_a_line : damaged_text (one_rectangle ∷ []) ≡ codes "damage frame 1 rects 1\nrect 0 0 655360 655360\ndamage ends frames 1\n"
@@ -91,7 +91,7 @@ no_frames_have_this_text = record { damaged = []; are = none; is = refl }
 
 -- ---- lines
 
-abbrev by_line : ℕ → Kind → Entry
+abbrev by_line : ℕ → EntryKind → Entry
 by_line number kind = record { actor = Display; line = number; calls = []; kind = kind; reply = Done }
 
 frames_are_finished_by_their_done : finish_lines (by_line 4 (Begin 1) ∷ by_line 6 Finish ∷ by_line 7 (Begin 2) ∷ by_line 9 Finish ∷ []) ≡ 6 ∷ 9 ∷ []

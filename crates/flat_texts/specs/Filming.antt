@@ -4,7 +4,7 @@ use Rattle.std.specs.Arc.{arc_value}
 use Rattle.flat_base.specs.Last.{last_item}
 use Rattle.flat_scene.specs.declared.frames.FrameOut.{FrameOut}
 use Rattle.flat_scene.specs.declared.setup.Setup.{Setup}
-use Rattle.flat_render.specs.declared.grid.TheConstants.{PIXELS_MAX}
+use Rattle.flat_render.specs.declared.tile_grid.TheConstants.{PIXELS_MAX}
 use Rattle.flat_render.specs.Pictures.{Shows}
 use Rattle.flat_ink.specs.Pixels.{pixel}
 use Rattle.flat_texts.specs.declared.film.Film.{Film}

@@ -20,7 +20,7 @@ use std::alloc::Global;
 
 /// What changed with a frame.
 #[derive(Drop)]
-pub struct Damaged {
+pub struct FrameDamage {
     pub frame: FrameNo,
     /// The rectangles outside of which nothing did.
     pub rects: RectList,
@@ -31,7 +31,7 @@ pub struct Damaged {
 #[derive(Drop)]
 pub struct FrameDamages {
     alloc: Global,
-    damaged: Vec<Damaged>,
+    damaged: Vec<FrameDamage>,
     last: Option<FrameOut>,
 }
 
@@ -71,7 +71,7 @@ impl FrameDamages {
             OnOk result (AreDamaged [] (frames ++ frame.now ∷ []) self.new.damaged.items) }
     {
         let rects = damage_since(self.alloc, self.last.as_ref(), frame)?;
-        self.damaged.push(Damaged {
+        self.damaged.push(FrameDamage {
             frame: frame.frame,
             rects,
         })?;
@@ -95,7 +95,7 @@ impl FrameDamages {
             last_item frames ≡ Some last →
             OnOk result (IsFound (frames ++ unchanged number tree last ∷ []) self.new) }
     {
-        self.damaged.push(Damaged {
+        self.damaged.push(FrameDamage {
             frame: number,
             rects: RectList::new(self.alloc),
         })?;
@@ -159,7 +159,7 @@ fn push_head(page: &mut Page, frame: FrameNo, rects: usize) -> Result<(), NoMemo
     Ok(())
 }
 
-fn push_damaged(page: &mut Page, one: &Damaged) -> Result<(), NoMemory>
+fn push_damaged(page: &mut Page, one: &FrameDamage) -> Result<(), NoMemory>
     ensures { OnOk result (WritesLines (damaged_lines one.now) page.old page.new) }
 {
     push_head(page, one.frame, one.rects.len())?;
@@ -167,7 +167,7 @@ fn push_damaged(page: &mut Page, one: &Damaged) -> Result<(), NoMemory>
     Ok(())
 }
 
-fn push_all(page: &mut Page, damaged: &[Damaged]) -> Result<(), NoMemory>
+fn push_all(page: &mut Page, damaged: &[FrameDamage]) -> Result<(), NoMemory>
     ensures { OnOk result (WritesLines (flat_map damaged_lines damaged.now) page.old page.new) }
 {
     for one in damaged {
@@ -176,7 +176,7 @@ fn push_all(page: &mut Page, damaged: &[Damaged]) -> Result<(), NoMemory>
     Ok(())
 }
 
-fn push_text(page: &mut Page, damaged: &[Damaged]) -> Result<(), NoMemory>
+fn push_text(page: &mut Page, damaged: &[FrameDamage]) -> Result<(), NoMemory>
     ensures { OnOk result (WritesLines (flat_map damaged_lines damaged.now
         ++ end_line (length damaged.now) ∷ []) page.old page.new) }
 {
@@ -186,7 +186,7 @@ fn push_text(page: &mut Page, damaged: &[Damaged]) -> Result<(), NoMemory>
 }
 
 /// The text of what changed, in memory of its own.
-fn print_damages(alloc: Global, damaged: &[Damaged]) -> Result<Vec<u8>, NoMemory>
+fn print_damages(alloc: Global, damaged: &[FrameDamage]) -> Result<Vec<u8>, NoMemory>
     ensures { IfOk result (λ text. text.items ≡ damaged_text damaged.now) }
 {
     let mut page = Page::new(alloc);

@@ -3,7 +3,7 @@
 //! are shared with the frame before (strips).
 ghost use Rattle.std.specs.Prelude.{◌≡◌, ◌*◌, ◌<◌, ◌≤◌, ◌∷◌, ◌++◌, [], List, All, IfOk, OnOk};
 ghost use Rattle.flat_drawable.specs.Drawable.{IsDrawable};
-ghost use Rattle.flat_render.specs.declared.grid.TheConstants.{PIXELS_MAX};
+ghost use Rattle.flat_render.specs.declared.tile_grid.TheConstants.{PIXELS_MAX};
 ghost use Rattle.flat_render.specs.Pictures.{width_of, height_of};
 ghost use Rattle.flat_render.specs.Ppm.{header};
 ghost use Rattle.flat_scene.specs.declared.frames.FrameOut.{FrameOut};
@@ -16,7 +16,7 @@ use crate::strips::push_strips;
 use flat_base::{Items, NoMemory};
 use flat_damage::{damage_laws, redraw};
 use flat_render::{Picture, ppm_head, ppm_of};
-use flat_report::{Pieces, Run};
+use flat_report::{Run, TextPieces};
 use flat_scene::{FrameOut, ItemList, Setup};
 use std::alloc::Global;
 use std::sync::Arc;
@@ -31,7 +31,7 @@ pub struct Film {
     /// The draw list of that picture.
     shown: ItemList,
     /// The bytes of each frame's picture.
-    pictures: Pieces,
+    pictures: TextPieces,
     /// Those of the last one's rows, so many in each run; none before the first frame.
     strips: Vec<Run>,
     /// Whether there was a frame.
@@ -39,7 +39,7 @@ pub struct Film {
 }
 
 /// Puts what stands before a picture's colours behind a text.
-fn push_head(alloc: Global, picture: &Picture, text: &mut Pieces) -> Result<(), NoMemory>
+fn push_head(alloc: Global, picture: &Picture, text: &mut TextPieces) -> Result<(), NoMemory>
     ensures { OnOk result (text.new ≡ text.old ++ header (width_of picture.now)
         (height_of picture.now)) }
 {
@@ -62,7 +62,7 @@ impl Film {
             alloc,
             picture,
             shown: ItemList::new(alloc),
-            pictures: Pieces::new(alloc),
+            pictures: TextPieces::new(alloc),
             strips: Vec::new(alloc),
             any: false,
         })
@@ -89,7 +89,7 @@ impl Film {
 
     /// The pictures of all frames, one behind the other, each as `P6`; where there was no
     /// frame, a black one.
-    pub fn into_text(self) -> Result<Pieces, NoMemory>
+    pub fn into_text(self) -> Result<TextPieces, NoMemory>
         ensures { (setup : Setup) (frames : List FrameOut) → IsFilm setup frames self →
             IfOk result (λ text. text ≡ film_text setup frames) }
     {
@@ -105,7 +105,7 @@ impl Film {
             return Ok(pictures);
         }
         let bytes = ppm_of(alloc, &picture)?;
-        let black = Pieces::one(alloc, bytes)?;
+        let black = TextPieces::one(alloc, bytes)?;
         Ok(black)
     }
 }

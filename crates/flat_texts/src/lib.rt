@@ -12,7 +12,7 @@ mod lines;
 mod picture;
 mod strips;
 
-pub use damage::{Damaged, FrameDamages};
+pub use damage::{FrameDamage, FrameDamages};
 pub use film::Film;
 pub use lines::finish_lines;
 pub use picture::picture_of;

@@ -3,13 +3,13 @@ ghost use Rattle.flat_scene.specs.History.{is_finish};
 ghost use Rattle.flat_texts.specs.Lines.{finish_lines};
 
 use flat_base::NoMemory;
-use flat_scene::{Entry, Kind};
+use flat_scene::{Entry, EntryKind};
 use std::alloc::Global;
 
-fn is_finish(kind: &Kind) -> bool
+fn is_finish(kind: &EntryKind) -> bool
     ensures { result ≡ is_finish kind.now }
 {
-    matches!(kind, Kind::Finish)
+    matches!(kind, EntryKind::Finish)
 }
 
 /// The numbers of the lines that finished the frames of some entries, which are the

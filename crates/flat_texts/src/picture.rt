@@ -3,7 +3,7 @@ ghost use Rattle.std.specs.Arc.{arc_value};
 ghost use Rattle.std.specs.List.{flat_map};
 ghost use Rattle.std.specs.Option.{option_copied};
 ghost use Rattle.flat_drawable.specs.Drawable.{IsDrawable};
-ghost use Rattle.flat_render.specs.declared.grid.TheConstants.{PIXELS_MAX};
+ghost use Rattle.flat_render.specs.declared.tile_grid.TheConstants.{PIXELS_MAX};
 ghost use Rattle.flat_render.specs.Pictures.{Shows};
 ghost use Rattle.flat_ink.specs.Pixels.{pixel};
 ghost use Rattle.flat_render.specs.Ppm.{ppm_bytes};
@@ -11,7 +11,7 @@ ghost use Rattle.flat_texts.specs.Pictures.{list_of, picture_of};
 
 use flat_base::NoMemory;
 use flat_render::{Picture, render, render_strips};
-use flat_report::{Pieces, Run};
+use flat_report::{Run, TextPieces};
 use flat_scene::{FrameOut, ItemList, Setup};
 use std::alloc::Global;
 use std::sync::Arc;
@@ -33,7 +33,7 @@ pub(crate) fn black_picture(
 }
 
 /// Puts runs behind a text, which shares them.
-fn push_runs(text: &mut Pieces, runs: &[Run]) -> Result<(), NoMemory>
+fn push_runs(text: &mut TextPieces, runs: &[Run]) -> Result<(), NoMemory>
     ensures { OnOk result (text.new ≡ text.old ++ flat_map arc_value runs.now) }
 {
     for run in runs {
@@ -48,7 +48,7 @@ fn picture_of_list(
     alloc: Global,
     items: &ItemList,
     setup: &Setup,
-) -> Result<Pieces, NoMemory>
+) -> Result<TextPieces, NoMemory>
     requires items { All IsDrawable items.now }
     requires width { 0 < setup.now.width }
     requires height { 0 < setup.now.height }
@@ -57,13 +57,17 @@ fn picture_of_list(
         (pixel items.now)) }
 {
     let strips = render_strips(rt, alloc, items, setup.width, setup.height)?;
-    let mut text = Pieces::new(alloc);
+    let mut text = TextPieces::new(alloc);
     push_runs(&mut text, strips.as_slice())?;
     Ok(text)
 }
 
 /// The bytes of the black picture of the display.
-fn black_text(rt: &(impl Threads + Sync), alloc: Global, setup: &Setup) -> Result<Pieces, NoMemory>
+fn black_text(
+    rt: &(impl Threads + Sync),
+    alloc: Global,
+    setup: &Setup,
+) -> Result<TextPieces, NoMemory>
     requires width { 0 < setup.now.width }
     requires height { 0 < setup.now.height }
     requires size { setup.now.width * setup.now.height ≤ PIXELS_MAX }
@@ -82,7 +86,7 @@ pub fn picture_of(
     alloc: Global,
     setup: &Setup,
     last: Option<&FrameOut>,
-) -> Result<Pieces, NoMemory>
+) -> Result<TextPieces, NoMemory>
     requires items { All IsDrawable (list_of (option_copied last)) }
     requires width { 0 < setup.now.width }
     requires height { 0 < setup.now.height }

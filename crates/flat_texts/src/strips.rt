@@ -2,7 +2,7 @@
 //! share the runs, so that a frame which changes little takes little time and memory.
 ghost use Rattle.std.specs.Prelude.{◌≡◌, ◌+◌, ◌-◌, ◌*◌, ◌<◌, ◌≤◌, ◌++◌, ℕ, IfOk, OnOk, length, map, min};
 ghost use Rattle.std.specs.Arc.{arc_value};
-ghost use Rattle.flat_render.specs.declared.grid.TheConstants.{PIXELS_MAX};
+ghost use Rattle.flat_render.specs.declared.tile_grid.TheConstants.{PIXELS_MAX};
 ghost use Rattle.flat_render.specs.Pictures.{width_of, height_of, pixel_of};
 ghost use Rattle.flat_render.specs.Rows.{rows_bytes};
 ghost use Rattle.flat_texts.specs.Strips.{AreStrips, AreStripsBeside, strip_of};
@@ -10,7 +10,7 @@ ghost use Rattle.flat_texts.specs.Strips.{AreStrips, AreStripsBeside, strip_of};
 use flat_base::{Items, NoMemory, Rect};
 use flat_damage::is_beside;
 use flat_render::{Picture, ppm_rows};
-use flat_report::{Pieces, Run};
+use flat_report::{Run, TextPieces};
 use std::alloc::Global;
 use std::sync::Arc;
 
@@ -61,7 +61,7 @@ pub(crate) fn push_strips(
     picture: &Picture,
     rects: &[Rect],
     old: &[Run],
-    text: &mut Pieces,
+    text: &mut TextPieces,
 ) -> Result<Vec<Run>, NoMemory>
     requires wide { width_of picture.now ≤ PIXELS_MAX }
     requires high { height_of picture.now ≤ PIXELS_MAX }

@@ -5,7 +5,7 @@ use Rattle.flat_scene.specs.declared.calls.BlendMode.TheVariants.{Src}
 use Rattle.flat_scene.specs.declared.frames.DrawItem.{DrawItem}
 use Rattle.flat_scene.specs.declared.frames.Paint.TheVariants.{Fill}
 use Rattle.flat_ink.specs.declared.area.Area.{Area}
-use Rattle.flat_tile.specs.declared.prepared.Tones.TheVariants.{Even, Stepped, Sampled}
+use Rattle.flat_tile.specs.declared.prepared_item.ItemChannels.TheVariants.{Even, Stepped, Sampled}
 use Rattle.flat_tile.specs.declared.tile.Tile.{Tile}
 use Rattle.flat_tile.specs.Chosen.{chosen, drawn_in}
 use Rattle.flat_tile.specs.Preparing.{stamped, toned}

@@ -11,16 +11,16 @@ use Rattle.flat_ink.specs.Pixels.{covers}
 use Rattle.flat_tile.specs.Preparing.{IsPrepared, Paints}
 use Rattle.flat_tile.specs.Tiles.{tile_area, IsTile}
 use Rattle.flat_ink.specs.declared.area.Area.{Area}
-use Rattle.flat_ink.specs.declared.ink.Mix.{Mix}
-use Rattle.flat_tile.specs.declared.prepared.Prepared.{Prepared}
-use Rattle.flat_tile.specs.declared.prepared.Tones.TheVariants.{Even}
+use Rattle.flat_ink.specs.declared.channel_ink.BlendRule.{BlendRule}
+use Rattle.flat_tile.specs.declared.prepared_item.PreparedItem.{PreparedItem}
+use Rattle.flat_tile.specs.declared.prepared_item.ItemChannels.TheVariants.{Even}
 use Rattle.flat_tile.specs.declared.tile.Tile.{Tile}
 use Rattle.flat_tile.proofs.CoveredUp.{step-anew}
 use Rattle.flat_tile.proofs.Preparing.{wider-area}
 use Rattle.flat_ink.proofs.lemmas.Windows.{pixel-right, pixel-bottom}
 
 -- an item whose area has all of a tile covers each of its pixels
-pub tile-covered : (item : DrawItem) (it : Prepared) (tile : Tile) (px py : ℕ) → IsPrepared item it → IsInArea it.area (tile_area tile) → IsTile tile
+pub tile-covered : (item : DrawItem) (it : PreparedItem) (tile : Tile) (px py : ℕ) → IsPrepared item it → IsInArea it.area (tile_area tile) → IsTile tile
     → has_pixel (tile_area tile) px py ≡ true → covers item px py ≡ true
 tile-covered item it tile px py is within are has =
     sym (is.area px py (omega (arith, pixel-right (tile_area tile) px py has, are.right)) (omega (arith, pixel-bottom (tile_area tile) px py has, are.bottom)))
@@ -39,7 +39,7 @@ drawn-on-black c item b px py was now has black h =
     h ∙ ap (λ (t : Bool). if t then channel_step c item px py was else was) has ∙ ap (λ (o : ℕ). channel_step c item px py o) black
 
 -- so does the colour that a fill makes of black
-pub filled-over : (c : ℕ) (item : DrawItem) (mix : Mix) (area : Area) (tones : List ℕ) (b : Bool) (px py was now v : ℕ) → b ≡ true
+pub filled-over : (c : ℕ) (item : DrawItem) (mix : BlendRule) (area : Area) (tones : List ℕ) (b : Bool) (px py was now v : ℕ) → b ≡ true
     → has_pixel area px py ≡ true → covers item px py ≡ true → Paints item mix area (Even tones) → c < 3
     → v ≡ mixed mix (slice_index tones c) 0 → now ≡ (if b then v else was) → now ≡ channel_step c item px py 0
 filled-over c item mix area tones b px py was now v has inside covered paints small is h =

@@ -18,11 +18,11 @@ use Rattle.flat_ink.specs.Pixels.{centre, covers, buffer_column, buffer_row}
 use Rattle.flat_tile.specs.Preparing.{stamped, toned, Paints, AreTonesOf, IsAreaOf, IsPrepared}
 use Rattle.flat_ink.specs.Textures.{rises_across, rises_down, stride_of, IsBelow, IsPlain, IsTextureOf}
 use Rattle.flat_ink.specs.declared.area.Area.{Area}
-use Rattle.flat_ink.specs.declared.ink.Mix.{Mix}
-use Rattle.flat_ink.specs.declared.ink.Mix.TheVariants.{Replace}
-use Rattle.flat_tile.specs.declared.prepared.Steps.{Steps}
-use Rattle.flat_tile.specs.declared.prepared.Tones.{Tones}
-use Rattle.flat_tile.specs.declared.prepared.Tones.TheVariants.{Even, Stepped}
+use Rattle.flat_ink.specs.declared.channel_ink.BlendRule.{BlendRule}
+use Rattle.flat_ink.specs.declared.channel_ink.BlendRule.TheVariants.{Replace}
+use Rattle.flat_tile.specs.declared.prepared_item.ChannelRamps.{ChannelRamps}
+use Rattle.flat_tile.specs.declared.prepared_item.ItemChannels.{ItemChannels}
+use Rattle.flat_tile.specs.declared.prepared_item.ItemChannels.TheVariants.{Even, Stepped}
 use Rattle.flat_ink.specs.declared.texture.Texture.{Texture}
 use Rattle.flat_ink.proofs.lemmas.Brushing.{texture-sample}
 use Rattle.flat_ink.proofs.lemmas.Covered.{fill-ink, texture-below, texture-ink}
@@ -46,7 +46,7 @@ area-below item t area is d covered some =
     sym (covered px py (omega (arith, pixel-right area px py has, some.right)) (omega (arith, pixel-bottom area px py has, some.bottom))) ∙ has)
 
 -- a plain one
-module _ (item : DrawItem) (t : Texture) (area : Area) (steps : Steps) (is : IsTextureOf item t) (d : IsDrawable item) (covered : IsAreaOf item area)
+module _ (item : DrawItem) (t : Texture) (area : Area) (steps : ChannelRamps) (is : IsTextureOf item t) (d : IsDrawable item) (covered : IsAreaOf item area)
     (some : IsWindow area) (plain : IsPlain t) where
   below : IsBelow t area
   below = area-below item t area is d covered some
@@ -125,12 +125,13 @@ replaces-src : (blend : BlendMode) (opacity alpha : ℕ) → mix_of blend opacit
 replaces-src Src opacity alpha e = refl
 replaces-src SrcOver opacity alpha e = absurd (cc)
 
-pub is-prepared : (item : DrawItem) (area : Area) (mix : Mix) (tones : Tones) (alpha : ℕ) → IsAreaOf item area → mix ≡ mix_of item.blend item.opacity alpha
+pub is-prepared : (item : DrawItem) (area : Area) (mix : BlendRule) (tones : ItemChannels) (alpha : ℕ) → IsAreaOf item area
+    → mix ≡ mix_of item.blend item.opacity alpha
     → AreTonesOf item (mix_of item.blend item.opacity alpha) area tones → IsPrepared item (record { area = area; mix = mix; tones = tones })
 is-prepared item area mix tones alpha covered mixes are = record {
   area = covered;
   replaces = λ e. replaces-src item.blend item.opacity alpha (sym mixes ∙ e);
-  tones = subst (λ (m : Mix). AreTonesOf item m area tones) (sym mixes) are;
+  tones = subst (λ (m : BlendRule). AreTonesOf item m area tones) (sym mixes) are;
 }
 
 -- a byte, laid channel by channel
@@ -149,7 +150,7 @@ by-channels s m b F was one two now some small red red_else green green_else blu
     ∙ ap (λ (c : ℕ). if b then F c was else was) (sym e))
 
 -- a value that is another one where a test holds
-pub where-it-holds : (b : Bool) (mix : Mix) (v w old now : ℕ) → (b ≡ true → v ≡ w) → now ≡ (if b then mixed mix v old else old)
+pub where-it-holds : (b : Bool) (mix : BlendRule) (v w old now : ℕ) → (b ≡ true → v ≡ w) → now ≡ (if b then mixed mix v old else old)
     → now ≡ (if b then mixed mix w old else old)
 where-it-holds true mix v w old now same e = e ∙ ap (λ (n : ℕ). mixed mix n old) (same refl)
 where-it-holds false mix v w old now same e = e
@@ -162,7 +163,7 @@ table-step first stride low from p table values under above near =
     values (p - from) (omega arith) ∙ ap (λ (n : ℕ). (first + stride * n) % 256) at
 
 -- a stamp of an image's steps gives each pixel of its area its tones
-pub stamp-toned : (steps : Steps) (area cut : Area) (reds greens : List ℕ)
+pub stamp-toned : (steps : ChannelRamps) (area cut : Area) (reds greens : List ℕ)
     → ((i : ℕ) → i < 64 → get_or reds i 0 ≡ (steps.red + stride_of steps.rises * ((cut.x0 - area.x0) + i)) % 256)
     → ((i : ℕ) → i < 64 → get_or greens i 0 ≡ (steps.green + stride_of steps.sinks * ((cut.y0 - area.y0) + i)) % 256)
     → IsInArea area cut → cut.x1 ≤ cut.x0 + 64 → cut.y1 ≤ cut.y0 + 64 → (c px py : ℕ) → has_pixel cut px py ≡ true
@@ -181,7 +182,8 @@ laid-step : (cut k : Bool) (painted laid old now : ℕ) → (cut ≡ true → k 
 laid-step true k painted laid old now covered same e = e ∙ same refl ∙ sym (ap (λ (b : Bool). if b then painted else old) (covered refl))
 laid-step false k painted laid old now covered same e = e
 
-pub toned-step : (item : DrawItem) (mix : Mix) (area window cut : Area) (tones : Tones) (c px py old now : ℕ) → IsAreaOf item area → Paints item mix area tones
+pub toned-step : (item : DrawItem) (mix : BlendRule) (area window cut : Area) (tones : ItemChannels) (c px py old now : ℕ) → IsAreaOf item area
+    → Paints item mix area tones
     → IsWindow window
     → ((x y : ℕ) → has_pixel cut x y ≡ (has_pixel area x y && has_pixel window x y)) → c < 3
     → now ≡ (if has_pixel cut px py then mixed mix (toned area tones c px py) old else old)

@@ -10,20 +10,20 @@ ghost use Rattle.flat_tile.specs.Chosen.{drawn_in};
 ghost use Rattle.flat_tile.specs.Tiles.{x_at, y_at, channel_at, pixels_of, tile_area, IsTile};
 
 use crate::laying::{lay_fill, lay_steps};
-use crate::prepared::{Prepared, Tones, is_over};
+use crate::prepared_item::{ItemChannels, PreparedItem, is_over};
 use crate::tile::{Tile, area, first_seen, paint_all, paint_item};
 use flat_ink::area::{Area, common, is_in};
+use flat_ink::channel_ink::BlendRule;
 use flat_ink::colour::cover;
-use flat_ink::ink::Mix;
 use flat_scene::DrawItem;
 
 /// Of the items with some numbers, the first one of which something is seen in a window: which
 /// of the numbers it has.
-fn first_chosen(list: &[Prepared], places: &[usize], window: Area) -> usize
+fn first_chosen(list: &[PreparedItem], places: &[usize], window: Area) -> usize
     requires places { All (λ p. p < length list.now) places.now }
     ensures there { result ≤ length places.now }
     ensures inside { 0 < result → result < length places.now }
-    ensures over { (d : Prepared) → 0 < result → IsOver (slice_index_or list.now (slice_index
+    ensures over { (d : PreparedItem) → 0 < result → IsOver (slice_index_or list.now (slice_index
         places.now result) d) window }
 {
     for n in 0..places.len() {
@@ -36,7 +36,7 @@ fn first_chosen(list: &[Prepared], places: &[usize], window: Area) -> usize
 }
 
 /// Draws an item on the pixels of a window.
-fn paint_prepared(item: &DrawItem, it: &Prepared, tile: Tile, window: Area, bytes: &mut [u8])
+fn paint_prepared(item: &DrawItem, it: &PreparedItem, tile: Tile, window: Area, bytes: &mut [u8])
     requires item { IsDrawable item.now }
     requires prepared { IsPrepared item.now it.now }
     requires tile { IsTile tile }
@@ -56,16 +56,16 @@ fn paint_prepared(item: &DrawItem, it: &Prepared, tile: Tile, window: Area, byte
         return;
     }
     match it.tones {
-        Tones::Even(tones) => lay_fill(it.mix, tones, tile, cut, bytes),
-        Tones::Stepped(steps) => lay_steps(it, steps, tile, cut, bytes),
-        Tones::Sampled => paint_item(item, tile, window, bytes),
+        ItemChannels::Even(tones) => lay_fill(it.mix, tones, tile, cut, bytes),
+        ItemChannels::Stepped(steps) => lay_steps(it, steps, tile, cut, bytes),
+        ItemChannels::Sampled => paint_item(item, tile, window, bytes),
     }
 }
 
 /// Draws the items with some numbers, in the order of these, on what is in a window.
 fn paint_chosen(
     items: &[DrawItem],
-    list: &[Prepared],
+    list: &[PreparedItem],
     places: &[usize],
     tile: Tile,
     window: Area,
@@ -96,17 +96,17 @@ fn blacken_all(bytes: &mut [u8])
 }
 
 /// A channel that is mixed with black.
-fn over_black(mix: Mix, s: u8) -> u8
+fn over_black(mix: BlendRule, s: u8) -> u8
     ensures { result ≡ mixed mix s 0 }
 {
     match mix {
-        Mix::Replace => s,
-        Mix::Cover(weight) => cover(weight, s, 0),
+        BlendRule::Replace => s,
+        BlendRule::Cover(weight) => cover(weight, s, 0),
     }
 }
 
 /// A colour that is mixed with black.
-fn colour_over_black(mix: Mix, tones: [u8; 3]) -> [u8; 3]
+fn colour_over_black(mix: BlendRule, tones: [u8; 3]) -> [u8; 3]
     ensures { (c : ℕ) → c < 3 → slice_index result c ≡ mixed mix (slice_index tones c) 0 }
 {
     [
@@ -117,7 +117,7 @@ fn colour_over_black(mix: Mix, tones: [u8; 3]) -> [u8; 3]
 }
 
 /// Draws an item on a tile that is made black.
-fn paint_on_black(item: &DrawItem, it: &Prepared, tile: Tile, bytes: &mut [u8])
+fn paint_on_black(item: &DrawItem, it: &PreparedItem, tile: Tile, bytes: &mut [u8])
     requires item { IsDrawable item.now }
     requires prepared { IsPrepared item.now it.now }
     requires tile { IsTile tile }
@@ -130,7 +130,7 @@ fn paint_on_black(item: &DrawItem, it: &Prepared, tile: Tile, bytes: &mut [u8])
 }
 
 /// Draws an item that covers a tile and replaces what is there. So nothing has to be black before.
-fn paint_over(item: &DrawItem, it: &Prepared, tile: Tile, bytes: &mut [u8])
+fn paint_over(item: &DrawItem, it: &PreparedItem, tile: Tile, bytes: &mut [u8])
     requires item { IsDrawable item.now }
     requires prepared { IsPrepared item.now it.now }
     requires tile { IsTile tile }
@@ -143,9 +143,9 @@ fn paint_over(item: &DrawItem, it: &Prepared, tile: Tile, bytes: &mut [u8])
 }
 
 /// Draws a fill that covers a tile, as if this was black.
-fn fill_over(item: &DrawItem, it: &Prepared, tones: [u8; 3], tile: Tile, bytes: &mut [u8])
+fn fill_over(item: &DrawItem, it: &PreparedItem, tones: [u8; 3], tile: Tile, bytes: &mut [u8])
     requires prepared { IsPrepared item.now it.now }
-    requires tones { it.now.tones ≡ Tones.Even tones }
+    requires tones { it.now.tones ≡ ItemChannels.Even tones }
     requires tile { IsTile tile }
     requires covered { IsInArea it.now.area (tile_area tile) }
     requires size { length bytes.old ≡ 3 * pixels_of tile }
@@ -153,12 +153,12 @@ fn fill_over(item: &DrawItem, it: &Prepared, tones: [u8; 3], tile: Tile, bytes: 
         ≡ channel_step (channel_at tile m) item.now (x_at tile m) (y_at tile m) 0 }
 {
     let colour = colour_over_black(it.mix, tones);
-    lay_fill(Mix::Replace, colour, tile, area(tile), bytes);
+    lay_fill(BlendRule::Replace, colour, tile, area(tile), bytes);
 }
 
 /// Draws the first item of a tile, from black. A fill that covers the tile, and what replaces all
 /// of it, begins it: nothing is made black before.
-fn begin(item: &DrawItem, it: &Prepared, tile: Tile, bytes: &mut [u8])
+fn begin(item: &DrawItem, it: &PreparedItem, tile: Tile, bytes: &mut [u8])
     requires item { IsDrawable item.now }
     requires prepared { IsPrepared item.now it.now }
     requires tile { IsTile tile }
@@ -171,13 +171,15 @@ fn begin(item: &DrawItem, it: &Prepared, tile: Tile, bytes: &mut [u8])
         return paint_over(item, it, tile, bytes);
     }
     match it.tones {
-        Tones::Even(tones) if is_in(it.area, window) => fill_over(item, it, tones, tile, bytes),
+        ItemChannels::Even(tones) if is_in(it.area, window) => {
+            fill_over(item, it, tones, tile, bytes)
+        }
         _ => paint_on_black(item, it, tile, bytes),
     }
 }
 
 /// Draws items on a tile, from black.
-pub fn draw(items: &[DrawItem], list: &[Prepared], tile: Tile, bytes: &mut [u8])
+pub fn draw(items: &[DrawItem], list: &[PreparedItem], tile: Tile, bytes: &mut [u8])
     requires items { All IsDrawable items.now }
     requires prepared { ArePrepared items.now list.now }
     requires tile { IsTile tile }
@@ -197,7 +199,7 @@ pub fn draw(items: &[DrawItem], list: &[Prepared], tile: Tile, bytes: &mut [u8])
 /// Draws the items with some numbers, in the order of these, on a tile, from black.
 pub fn draw_chosen(
     items: &[DrawItem],
-    list: &[Prepared],
+    list: &[PreparedItem],
     places: &[usize],
     tile: Tile,
     bytes: &mut [u8],

@@ -6,16 +6,16 @@ ghost use Rattle.flat_tile.specs.Preparing.{stamped, toned, IsStamp};
 ghost use Rattle.flat_ink.specs.Textures.{stride_of};
 ghost use Rattle.flat_tile.specs.Tiles.{x_at, y_at, channel_at, pixels_of, tile_area, IsTile};
 
+use crate::image_stamp::{ImageStamp, stamp_tile};
 use crate::plane::{mix_across, mix_down, mix_plane};
-use crate::prepared::{Prepared, Steps, Tones};
-use crate::stamp::{Stamp, stamp_tile};
+use crate::prepared_item::{ChannelRamps, ItemChannels, PreparedItem};
 use crate::tile::Tile;
 use flat_ink::area::Area;
-use flat_ink::ink::{Mix, TILE_SIDE};
+use flat_ink::channel_ink::{BlendRule, TILE_SIDE};
 use flat_ink::texture::strides;
 
 /// Mixes one value with the pixels of an area, in the plane of a channel.
-fn lay_even(c: usize, mix: Mix, s: u8, tile: Tile, cut: Area, bytes: &mut [u8])
+fn lay_even(c: usize, mix: BlendRule, s: u8, tile: Tile, cut: Area, bytes: &mut [u8])
     requires channel { c < 3 }
     requires tile { IsTile tile }
     requires size { length bytes.old ≡ 3 * pixels_of tile }
@@ -33,7 +33,7 @@ fn lay_even(c: usize, mix: Mix, s: u8, tile: Tile, cut: Area, bytes: &mut [u8])
 }
 
 /// Mixes a value for each column with the pixels of an area, in the plane of a channel.
-fn lay_across(c: usize, mix: Mix, values: &[u8], tile: Tile, cut: Area, bytes: &mut [u8])
+fn lay_across(c: usize, mix: BlendRule, values: &[u8], tile: Tile, cut: Area, bytes: &mut [u8])
     requires channel { c < 3 }
     requires values { cut.x1 - cut.x0 ≤ length values.now }
     requires tile { IsTile tile }
@@ -52,7 +52,7 @@ fn lay_across(c: usize, mix: Mix, values: &[u8], tile: Tile, cut: Area, bytes: &
 }
 
 /// Mixes a value for each row with the pixels of an area, in the plane of a channel.
-fn lay_down(c: usize, mix: Mix, values: &[u8], tile: Tile, cut: Area, bytes: &mut [u8])
+fn lay_down(c: usize, mix: BlendRule, values: &[u8], tile: Tile, cut: Area, bytes: &mut [u8])
     requires channel { c < 3 }
     requires values { cut.y1 - cut.y0 ≤ length values.now }
     requires tile { IsTile tile }
@@ -95,7 +95,7 @@ fn steps_from(first: u8, rises: bool, count: usize) -> [u8; TILE_SIDE]
 }
 
 /// What an opaque image in its own size gives the pixels of an area that it covers.
-fn stamp_of(steps: Steps, area: Area, cut: Area) -> Stamp
+fn stamp_of(steps: ChannelRamps, area: Area, cut: Area) -> ImageStamp
     requires covered { IsInArea area cut }
     requires some { IsWindow cut }
     requires columns { cut.x1 ≤ cut.x0 + 64 }
@@ -103,9 +103,9 @@ fn stamp_of(steps: Steps, area: Area, cut: Area) -> Stamp
     ensures cut { result.cut ≡ cut }
     ensures stamp { IsStamp result }
     ensures values { (c px py : ℕ) → has_pixel cut px py ≡ true → stamped result c px py
-        ≡ toned area (Tones.Stepped steps) c px py }
+        ≡ toned area (ItemChannels.Stepped steps) c px py }
 {
-    Stamp {
+    ImageStamp {
         cut,
         reds: steps_from(steps.red, steps.rises, cut.x0 - area.x0),
         greens: steps_from(steps.green, steps.sinks, cut.y0 - area.y0),
@@ -114,8 +114,8 @@ fn stamp_of(steps: Steps, area: Area, cut: Area) -> Stamp
 }
 
 /// Lays an image in its own size on the pixels of an area that it covers, mixed with what is there.
-fn mix_steps(it: &Prepared, steps: Steps, tile: Tile, cut: Area, bytes: &mut [u8])
-    requires steps { it.now.tones ≡ Tones.Stepped steps }
+fn mix_steps(it: &PreparedItem, steps: ChannelRamps, tile: Tile, cut: Area, bytes: &mut [u8])
+    requires steps { it.now.tones ≡ ItemChannels.Stepped steps }
     requires tile { IsTile tile }
     requires size { length bytes.old ≡ 3 * pixels_of tile }
     requires covered { IsInArea it.now.area cut }
@@ -134,8 +134,8 @@ fn mix_steps(it: &Prepared, steps: Steps, tile: Tile, cut: Area, bytes: &mut [u8
 }
 
 /// Lays an image in its own size on the pixels of an area that it covers.
-pub fn lay_steps(it: &Prepared, steps: Steps, tile: Tile, cut: Area, bytes: &mut [u8])
-    requires steps { it.now.tones ≡ Tones.Stepped steps }
+pub fn lay_steps(it: &PreparedItem, steps: ChannelRamps, tile: Tile, cut: Area, bytes: &mut [u8])
+    requires steps { it.now.tones ≡ ItemChannels.Stepped steps }
     requires tile { IsTile tile }
     requires size { length bytes.old ≡ 3 * pixels_of tile }
     requires covered { IsInArea it.now.area cut }
@@ -147,13 +147,13 @@ pub fn lay_steps(it: &Prepared, steps: Steps, tile: Tile, cut: Area, bytes: &mut
         slice_index bytes.old m) }
 {
     match it.mix {
-        Mix::Replace => stamp_tile(&stamp_of(steps, it.area, cut), tile, bytes),
-        Mix::Cover(_) => mix_steps(it, steps, tile, cut, bytes),
+        BlendRule::Replace => stamp_tile(&stamp_of(steps, it.area, cut), tile, bytes),
+        BlendRule::Cover(_) => mix_steps(it, steps, tile, cut, bytes),
     }
 }
 
 /// Lays a fill on the pixels of an area that it covers.
-pub fn lay_fill(mix: Mix, tones: [u8; 3], tile: Tile, cut: Area, bytes: &mut [u8])
+pub fn lay_fill(mix: BlendRule, tones: [u8; 3], tile: Tile, cut: Area, bytes: &mut [u8])
     requires tile { IsTile tile }
     requires size { length bytes.old ≡ 3 * pixels_of tile }
     requires cut { IsInArea (tile_area tile) cut }

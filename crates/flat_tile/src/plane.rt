@@ -6,7 +6,9 @@ ghost use Rattle.flat_tile.specs.Tiles.{x_of, y_of, pixels_of, tile_area, IsTile
 
 use crate::tile::Tile;
 use flat_ink::area::Area;
-use flat_ink::ink::{Ink, Mix, Shade, TILE_SIDE, copy_ends, mix_one, veil, wash_ends, weave};
+use flat_ink::channel_ink::{
+    BlendRule, ChannelInk, ChannelValues, TILE_SIDE, copy_ends, mix_one, veil, wash_ends, weave,
+};
 
 /// Puts one value in place of the pixels of an area, in a plane: so many at each end of each
 /// row, which are all of its pixels. The compiler knows how many they are.
@@ -179,7 +181,7 @@ fn veil_rows(weight: u8, s: u8, tile: Tile, cut: Area, plane: &mut [u8])
 
 /// Mixes one value with the pixels of an area, in a plane. Where the area is as wide
 /// as the tile, its rows are one line.
-pub fn mix_plane(mix: Mix, s: u8, tile: Tile, cut: Area, plane: &mut [u8])
+pub fn mix_plane(mix: BlendRule, s: u8, tile: Tile, cut: Area, plane: &mut [u8])
     requires tile { IsTile tile }
     requires size { length plane.old ≡ pixels_of tile }
     requires cut { IsInArea (tile_area tile) cut }
@@ -190,8 +192,8 @@ pub fn mix_plane(mix: Mix, s: u8, tile: Tile, cut: Area, plane: &mut [u8])
 {
     if cut.x1 - cut.x0 < tile.width {
         return match mix {
-            Mix::Replace => wash_rows(s, tile, cut, plane),
-            Mix::Cover(weight) => veil_rows(weight, s, tile, cut, plane),
+            BlendRule::Replace => wash_rows(s, tile, cut, plane),
+            BlendRule::Cover(weight) => veil_rows(weight, s, tile, cut, plane),
         };
     }
     let from = (cut.y0 - tile.top) * tile.width;
@@ -239,7 +241,7 @@ fn veil_down(weight: u8, values: &[u8], tile: Tile, cut: Area, plane: &mut [u8])
 }
 
 /// Mixes a value for each column with the pixels of an area, in a plane.
-pub fn mix_across(mix: Mix, values: &[u8], tile: Tile, cut: Area, plane: &mut [u8])
+pub fn mix_across(mix: BlendRule, values: &[u8], tile: Tile, cut: Area, plane: &mut [u8])
     requires values { cut.x1 - cut.x0 ≤ length values.now }
     requires tile { IsTile tile }
     requires size { length plane.old ≡ pixels_of tile }
@@ -251,13 +253,13 @@ pub fn mix_across(mix: Mix, values: &[u8], tile: Tile, cut: Area, plane: &mut [u
         plane.old k) }
 {
     match mix {
-        Mix::Replace => copy_rows(values, tile, cut, plane),
-        Mix::Cover(weight) => weave_rows(weight, values, tile, cut, plane),
+        BlendRule::Replace => copy_rows(values, tile, cut, plane),
+        BlendRule::Cover(weight) => weave_rows(weight, values, tile, cut, plane),
     }
 }
 
 /// Mixes a value for each row with the pixels of an area, in a plane.
-pub fn mix_down(mix: Mix, values: &[u8], tile: Tile, cut: Area, plane: &mut [u8])
+pub fn mix_down(mix: BlendRule, values: &[u8], tile: Tile, cut: Area, plane: &mut [u8])
     requires values { cut.y1 - cut.y0 ≤ length values.now }
     requires tile { IsTile tile }
     requires size { length plane.old ≡ pixels_of tile }
@@ -269,13 +271,13 @@ pub fn mix_down(mix: Mix, values: &[u8], tile: Tile, cut: Area, plane: &mut [u8]
         plane.old k) }
 {
     match mix {
-        Mix::Replace => wash_down(values, tile, cut, plane),
-        Mix::Cover(weight) => veil_down(weight, values, tile, cut, plane),
+        BlendRule::Replace => wash_down(values, tile, cut, plane),
+        BlendRule::Cover(weight) => veil_down(weight, values, tile, cut, plane),
     }
 }
 
 /// Lays ink on the pixels of an area, in a plane.
-pub fn lay_plane(ink: &Ink, tile: Tile, cut: Area, plane: &mut [u8])
+pub fn lay_plane(ink: &ChannelInk, tile: Tile, cut: Area, plane: &mut [u8])
     requires ink { IsShade ink.now.shade }
     requires tile { IsTile tile }
     requires size { length plane.old ≡ pixels_of tile }
@@ -287,8 +289,8 @@ pub fn lay_plane(ink: &Ink, tile: Tile, cut: Area, plane: &mut [u8])
         plane.old k) }
 {
     match &ink.shade {
-        Shade::Even(value) => mix_plane(ink.mix, *value, tile, cut, plane),
-        Shade::Across(values) => mix_across(ink.mix, values.as_slice(), tile, cut, plane),
-        Shade::Down(values) => mix_down(ink.mix, values.as_slice(), tile, cut, plane),
+        ChannelValues::Even(value) => mix_plane(ink.mix, *value, tile, cut, plane),
+        ChannelValues::Across(values) => mix_across(ink.mix, values.as_slice(), tile, cut, plane),
+        ChannelValues::Down(values) => mix_down(ink.mix, values.as_slice(), tile, cut, plane),
     }
 }

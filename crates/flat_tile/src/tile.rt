@@ -13,7 +13,7 @@ ghost use Rattle.flat_tile.specs.Tiles.{IsTile};
 use crate::plane::lay_plane;
 use flat_ink::area::{Area, area_of, common, is_covered, is_missed};
 use flat_ink::brush::{blue_ink, fill_ink, green_ink, red_ink};
-use flat_ink::ink::{Ink, Mix, Shade};
+use flat_ink::channel_ink::{BlendRule, ChannelInk, ChannelValues};
 use flat_ink::texture::{Texture, texture_of};
 use flat_scene::{BlendMode, DrawItem, Paint};
 
@@ -46,7 +46,7 @@ pub fn area(tile: Tile) -> Area
 }
 
 /// Lays ink on the pixels of an area, in the plane of a channel.
-fn ink_channel(c: usize, ink: &Ink, tile: Tile, cut: Area, bytes: &mut [u8])
+fn ink_channel(c: usize, ink: &ChannelInk, tile: Tile, cut: Area, bytes: &mut [u8])
     requires channel { c < 3 }
     requires ink { IsShade ink.now.shade }
     requires tile { IsTile tile }
@@ -181,9 +181,9 @@ fn blacken(tile: Tile, window: Area, bytes: &mut [u8])
     ensures { (m : ℕ) → m < length bytes.old → slice_index bytes.new m
         ≡ (if has_pixel window (x_at tile m) (y_at tile m) then 0 else slice_index bytes.old m) }
 {
-    let black = Ink {
-        shade: Shade::Even(0),
-        mix: Mix::Replace,
+    let black = ChannelInk {
+        shade: ChannelValues::Even(0),
+        mix: BlendRule::Replace,
     };
     ink_channel(0, &black, tile, window, bytes);
     ink_channel(1, &black, tile, window, bytes);

@@ -12,7 +12,7 @@ use Rattle.flat_scene.specs.declared.frames.Paint.{Paint}
 use Rattle.flat_scene.specs.declared.frames.Paint.TheVariants as paint
 use Rattle.flat_scene.specs.declared.frames.SceneMatrix.{SceneMatrix}
 use Rattle.flat_scene.specs.declared.frames.ViewNode.{ViewNode}
-use Rattle.flat_topology.specs.declared.Connected.{Connected}
+use Rattle.flat_topology.specs.declared.ConnectedSession.{ConnectedSession}
 use Rattle.flat_topology.specs.Join.{nothing, join}
 use Rattle.flat_topology.specs.Place.{placed_nodes}
 use Rattle.flat_topology.specs.Draw.{draw_list}
@@ -46,7 +46,7 @@ abbrev view : ℕ → Option ℕ → Rect → ViewNode
 view s None bounds = record { session = session s; parent = None; bounds = bounds }
 view s (Some parent) bounds = record { session = session s; parent = Some (session parent); bounds = bounds }
 
-abbrev connected : ℕ → Option ℕ → Connected
+abbrev connected : ℕ → Option ℕ → ConnectedSession
 connected s at = record { session = session s; at = at }
 
 abbrev hit : ℕ → Interaction → Hit

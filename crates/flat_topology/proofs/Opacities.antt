@@ -11,7 +11,7 @@ use Rattle.flat_scene.specs.declared.trees.Content.{Content}
 use Rattle.flat_scene.specs.declared.trees.Content.TheVariants as content
 use Rattle.flat_scene.specs.declared.trees.Node.{Node}
 use Rattle.flat_scene.specs.Trees.{first}
-use Rattle.flat_topology.specs.declared.Placed.{Placed}
+use Rattle.flat_topology.specs.declared.PlacedNode.{PlacedNode}
 use Rattle.flat_topology.specs.Shown.{Shown}
 use Rattle.flat_topology.specs.Fit.{FitsSetup, greatest_opacity, image_opacity}
 use Rattle.flat_topology.specs.Join.{JoinedTree, Viewer, viewer_from, linked_to, joined_nodes, viewed, led_to}
@@ -19,7 +19,7 @@ use Rattle.flat_topology.specs.Place.{Space, seen_through, node_space, linked_sp
 use Rattle.flat_topology.specs.Laws.{HasLowOpacity}
 use Rattle.flat_topology.proofs.lemmas.Distances.{viewer-state}
 
-abbrev pub AllLow : List Placed → Type 0
+abbrev pub AllLow : List PlacedNode → Type 0
 AllLow = All HasLowOpacity
 
 -- an opacity through another is no greater than it
@@ -54,9 +54,9 @@ module _ (led : ℕ → JoinedTree) (each : (q : ℕ) (outer : Space) → outer.
       let image_low : image_opacity what ≤ OPACITY_MAX = omega (arith, greatest) in
       let inner : Space = node_space outer n in
       let inner_low : inner.opacity ≤ OPACITY_MAX = seen-low outer.opacity opacity low own_low in
-      let linked : List Placed = placed_in (linked_space inner what) (linked_to led what) in
-      let below : List Placed = placed_in inner (joined_nodes led s children) in
-      let after : List Placed = placed_in outer (joined_nodes led s rest) in
+      let linked : List PlacedNode = placed_in (linked_space inner what) (linked_to led what) in
+      let below : List PlacedNode = placed_in inner (joined_nodes led s children) in
+      let after : List PlacedNode = placed_in outer (joined_nodes led s rest) in
       All-cons HasLowOpacity (placed_node s inner n) (linked ++ (below ++ after)) (inner_low, image_low)
       (All-append HasLowOpacity linked (below ++ after) (low-linked inner what inner_low)
       (All-append HasLowOpacity below after (low-nodes s inner children inner_low (omega (arith, greatest)))

@@ -7,7 +7,7 @@ use Rattle.flat_scene.specs.declared.trees.Node.{Node}
 use Rattle.flat_topology.specs.Join.{JoinedTree, nothing, node, child_view, join}
 use Rattle.flat_topology.specs.Laws.{DrawsInPreorder}
 use Rattle.flat_scene.proofs.lemmas.Members.{IsIn, in-left, in-right, in-contained}
-use Rattle.flat_topology.specs.declared.Placed.{Placed}
+use Rattle.flat_topology.specs.declared.PlacedNode.{PlacedNode}
 use Rattle.flat_topology.specs.Place.{Space, display_space, placed_node, node_space, linked_space, placed_in}
 use Rattle.flat_topology.specs.Preorder.{Address, comes_before, are_in_order, node_at, addresses, Kept, kept_of, kept_by}
 use Rattle.std.proofs.lemmas.Bool.{and_from}
@@ -194,22 +194,22 @@ same-parts here view kids rest = cc
 
 -- the nodes at the addresses, in their order, are those that are placed
 pub nodes-placed : (first : ℕ) (tree : JoinedTree) (outer : Space)
-    → map (kept_at first tree) (addresses first tree) ≡ map (λ (at : Placed). Some (kept_by at)) (placed_in outer tree)
+    → map (kept_at first tree) (addresses first tree) ≡ map (λ (at : PlacedNode). Some (kept_by at)) (placed_in outer tree)
 nodes-placed first nothing outer = refl
 nodes-placed first (node s fields linked below after) outer =
     let tree : JoinedTree = node s fields linked below after in
     let here : kept_at first tree (first ∷ []) ≡ Some (kept_of (s, fields)) = ap (option_map kept_of) (at-here first s fields linked below after) in
     let view : map (kept_at first tree) (map (λ a. first ∷ 0 ∷ a) (addresses 0 linked))
-    ≡ map (λ (at : Placed). Some (kept_by at)) (placed_in (linked_space (node_space outer fields) fields.content) linked) =
+    ≡ map (λ (at : PlacedNode). Some (kept_by at)) (placed_in (linked_space (node_space outer fields) fields.content) linked) =
     map-through (kept_at first tree) (λ a. first ∷ 0 ∷ a) (kept_at 0 linked) (λ a. ap (option_map kept_of) (at-linked first s fields linked below after a))
     (addresses 0 linked)
     ∙ nodes-placed 0 linked (linked_space (node_space outer fields) fields.content) in
     let kids : map (kept_at first tree) (map (λ a. first ∷ 1 ∷ a) (addresses 0 below))
-    ≡ map (λ (at : Placed). Some (kept_by at)) (placed_in (node_space outer fields) below) =
+    ≡ map (λ (at : PlacedNode). Some (kept_by at)) (placed_in (node_space outer fields) below) =
     map-through (kept_at first tree) (λ a. first ∷ 1 ∷ a) (kept_at 0 below) (λ a. ap (option_map kept_of) (at-below first s fields linked below after a))
     (addresses 0 below)
     ∙ nodes-placed 0 below (node_space outer fields) in
-    let rest : map (kept_at first tree) (addresses (suc first) after) ≡ map (λ (at : Placed). Some (kept_by at)) (placed_in outer after) =
+    let rest : map (kept_at first tree) (addresses (suc first) after) ≡ map (λ (at : PlacedNode). Some (kept_by at)) (placed_in outer after) =
     map-same (kept_at first tree) (kept_at (suc first) after) (from (suc first))
     (λ a late. ap (option_map kept_of) (at-later first s fields linked below after a late))
     (addresses (suc first) after) (addresses-from (suc first) after)
@@ -218,18 +218,18 @@ nodes-placed first (node s fields linked below after) outer =
   where
     joined : kept_at first (node s fields linked below after) (first ∷ []) ≡ Some (kept_of (s, fields))
         → map (kept_at first (node s fields linked below after)) (map (λ a. first ∷ 0 ∷ a) (addresses 0 linked))
-        ≡ map (λ (at : Placed). Some (kept_by at)) (placed_in (linked_space (node_space outer fields) fields.content) linked)
+        ≡ map (λ (at : PlacedNode). Some (kept_by at)) (placed_in (linked_space (node_space outer fields) fields.content) linked)
         → map (kept_at first (node s fields linked below after)) (map (λ a. first ∷ 1 ∷ a) (addresses 0 below))
-        ≡ map (λ (at : Placed). Some (kept_by at)) (placed_in (node_space outer fields) below)
+        ≡ map (λ (at : PlacedNode). Some (kept_by at)) (placed_in (node_space outer fields) below)
         → map (kept_at first (node s fields linked below after)) (addresses (suc first) after)
-        ≡ map (λ (at : Placed). Some (kept_by at)) (placed_in outer after)
+        ≡ map (λ (at : PlacedNode). Some (kept_by at)) (placed_in outer after)
         → map (kept_at first (node s fields linked below after)) (addresses first (node s fields linked below after))
-        ≡ map (λ (at : Placed). Some (kept_by at)) (placed_in outer (node s fields linked below after))
+        ≡ map (λ (at : PlacedNode). Some (kept_by at)) (placed_in outer (node s fields linked below after))
     joined here view kids rest =
         map-node (kept_at first (node s fields linked below after)) (first ∷ []) (map (λ a. first ∷ 0 ∷ a) (addresses 0 linked))
         (map (λ a. first ∷ 1 ∷ a) (addresses 0 below)) (addresses (suc first) after)
         ∙ same-parts here view kids rest
-        ∙ sym (map-node (λ (at : Placed). Some (kept_by at)) (placed_node s (node_space outer fields) fields)
+        ∙ sym (map-node (λ (at : PlacedNode). Some (kept_by at)) (placed_node s (node_space outer fields) fields)
         (placed_in (linked_space (node_space outer fields) fields.content) linked) (placed_in (node_space outer fields) below) (placed_in outer after))
 nodes-placed first (child_view s root) outer = nodes-placed first root outer
 

@@ -3,7 +3,7 @@ use Rattle.std.proofs.Common.{ℕ, suc, ◌+◌, ◌≡◌, refl, ap, subst, Lis
 use Rattle.std.proofs.lemmas.List.{map-append, length-append}
 use Rattle.flat_base.specs.declared.ids.SessionNo.{SessionNo}
 use Rattle.flat_base.specs.declared.shapes.Rect.{Rect}
-use Rattle.flat_topology.specs.declared.Placed.{Placed}
+use Rattle.flat_topology.specs.declared.PlacedNode.{PlacedNode}
 use Rattle.flat_topology.specs.Join.{JoinedTree, nothing, node, child_view, sessions_in}
 use Rattle.flat_topology.specs.Place.{Space, node_space, linked_space, placed_node, placed_in}
 use Rattle.flat_topology.specs.Views.{views_in, viewport_bounds}
@@ -33,23 +33,23 @@ length-placed outer (node s n linked below after) =
     simp length-append (omega (arith, first, second, third))
 
 -- these nodes stand one after another among all nodes, from a number on
-abbrev pub StandsFrom : List Placed → ℕ → List Placed → Type 0
+abbrev pub StandsFrom : List PlacedNode → ℕ → List PlacedNode → Type 0
 StandsFrom all next [] = Unit {0}
 StandsFrom all next (p ∷ ps) = (slice_get all next ≡ Some p) × StandsFrom all (suc next) ps
 
-one-more : (first : Placed) (all : List Placed) (next : ℕ) (ps : List Placed) → StandsFrom all next ps → StandsFrom (first ∷ all) (suc next) ps
+one-more : (first : PlacedNode) (all : List PlacedNode) (next : ℕ) (ps : List PlacedNode) → StandsFrom all next ps → StandsFrom (first ∷ all) (suc next) ps
 one-more first all next [] stands = tt
 one-more first all next (p ∷ ps) stands = (stands.0, one-more first all (suc next) ps stands.1)
 
-pub stands-all : (all : List Placed) → StandsFrom all 0 all
+pub stands-all : (all : List PlacedNode) → StandsFrom all 0 all
 stands-all [] = tt
 stands-all (p ∷ ps) = (refl, one-more p ps 0 ps (stands-all ps))
 
-stands-left : (all : List Placed) (next : ℕ) (ps qs : List Placed) → StandsFrom all next (ps ++ qs) → StandsFrom all next ps
+stands-left : (all : List PlacedNode) (next : ℕ) (ps qs : List PlacedNode) → StandsFrom all next (ps ++ qs) → StandsFrom all next ps
 stands-left all next [] qs stands = tt
 stands-left all next (p ∷ ps) qs stands = (stands.0, stands-left all (suc next) ps qs stands.1)
 
-stands-right : (all : List Placed) (next count : ℕ) (ps qs : List Placed) → length ps ≡ count → StandsFrom all next (ps ++ qs)
+stands-right : (all : List PlacedNode) (next count : ℕ) (ps qs : List PlacedNode) → length ps ≡ count → StandsFrom all next (ps ++ qs)
     → StandsFrom all (next + count) qs
 stands-right all next count [] qs counted stands =
     let here : next ≡ next + count = omega (arith, counted) in
@@ -62,7 +62,7 @@ stands-right all next count (p ∷ ps) qs counted stands =
 
 -- the views are those of the connected sessions, where these nodes stand among all from the next number on, and a session that hangs there
 -- has this parent and these bounds
-pub views-connected : (display : Rect) (all : List Placed) (next : ℕ) (at : Option ℕ) (parent : Option SessionNo) (bounds : Rect) (outer : Space)
+pub views-connected : (display : Rect) (all : List PlacedNode) (next : ℕ) (at : Option ℕ) (parent : Option SessionNo) (bounds : Rect) (outer : Space)
     (tree : JoinedTree)
     → StandsFrom all next (placed_in outer tree)
     → ((s : ℕ) → connected_view display all (record { session = record { 0 = s }; at = at })
@@ -72,11 +72,11 @@ views-connected display all next at parent bounds outer nothing stands hangs = r
 views-connected display all next at parent bounds outer (child_view s root) stands hangs =
     rw (views-connected display all next at parent bounds outer root stands hangs, hangs s) refl
 views-connected display all next at parent bounds outer (node s n linked below after) stands hangs =
-    let own : Placed = placed_node s (node_space outer n) n in
+    let own : PlacedNode = placed_node s (node_space outer n) n in
     let under : Space = linked_space (node_space outer n) n.content in
-    let first : List Placed = placed_in under linked in
-    let second : List Placed = placed_in (node_space outer n) below in
-    let third : List Placed = placed_in outer after in
+    let first : List PlacedNode = placed_in under linked in
+    let second : List PlacedNode = placed_in (node_space outer n) below in
+    let third : List PlacedNode = placed_in outer after in
     let later : StandsFrom all (suc next + joined_count linked) (second ++ third) =
     stands-right all (suc next) (joined_count linked) first (second ++ third) (length-placed under linked) stands.1 in
     let last : StandsFrom all (suc next + joined_count linked + joined_count below) third =

@@ -13,7 +13,7 @@ use Rattle.flat_scene.specs.declared.frames.SceneMatrix.{SceneMatrix}
 use Rattle.flat_scene.specs.declared.setup.Setup.{Setup}
 use Rattle.flat_scene.specs.declared.trees.Content.{Content}
 use Rattle.flat_scene.specs.declared.trees.Content.TheVariants as content
-use Rattle.flat_topology.specs.declared.Placed.{Placed}
+use Rattle.flat_topology.specs.declared.PlacedNode.{PlacedNode}
 use Rattle.flat_topology.specs.Shown.{Shown}
 use Rattle.flat_topology.specs.Place.{seen_through, placed_nodes}
 
@@ -58,11 +58,11 @@ painting_of seen (Some (content.Image serial buffers index sample w h blend flip
 painting_of seen _ = None
 
 -- the part of the display that a rectangle of that size covers at a node
-abbrev pub visible_rect : Placed → ℕ → ℕ → Rect
+abbrev pub visible_rect : PlacedNode → ℕ → ℕ → Rect
 visible_rect at w h = shared_part (mapped_rect at.matrix (sized_rect w h)) at.clip
 
 -- the item of a painting at a node that is not cut away and whose own opacity is not 0
-abbrev pub item_of : Placed → Option Painting → Option DrawItem
+abbrev pub item_of : PlacedNode → Option Painting → Option DrawItem
 item_of at None = None
 item_of at (Some p) =
     if has_no_point (visible_rect at p.w p.h) || (at.opacity == 0) then None else Some (record {
@@ -78,11 +78,11 @@ item_of at (Some p) =
     })
 
 -- the item that a node gives, if it gives one
-abbrev pub node_item : Placed → Option DrawItem
+abbrev pub node_item : PlacedNode → Option DrawItem
 node_item at = item_of at (painting_of at.opacity at.content)
 
 -- the items of placed nodes, in their order
-abbrev pub items_of : List Placed → List DrawItem
+abbrev pub items_of : List PlacedNode → List DrawItem
 items_of = filter_map node_item
 
 -- the draw list

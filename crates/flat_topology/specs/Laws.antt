@@ -3,7 +3,7 @@ use Rattle.std.specs.Prelude.{ℕ, ℤ, suc, ◌*◌, ◌≤◌, ◌≡◌, ◌�
 use Rattle.std.specs.List.{All, AllPairs}
 use Rattle.flat_base.specs.declared.limits.TheConstants.{OPACITY_MAX, TREE_NODES_MAX}
 use Rattle.flat_scene.specs.declared.setup.Setup.{Setup}
-use Rattle.flat_topology.specs.declared.Placed.{Placed}
+use Rattle.flat_topology.specs.declared.PlacedNode.{PlacedNode}
 use Rattle.flat_topology.specs.Shown.{Shown, state_of}
 use Rattle.flat_topology.specs.Pairs.{display_pair}
 use Rattle.flat_topology.specs.Links.{IsConnected, HangsBelow, IsChild, HasParents}
@@ -46,7 +46,7 @@ JoinsFew = (setup : Setup) (shown : Shown) → FitsSetup setup shown
     → length (placed_nodes setup shown) ≤ length shown * TREE_NODES_MAX
 
 -- neither the opacity of a placed node nor that of its image is above one
-abbrev pub HasLowOpacity : Placed → Type 0
+abbrev pub HasLowOpacity : PlacedNode → Type 0
 HasLowOpacity at = (at.opacity ≤ OPACITY_MAX) × (image_opacity at.content ≤ OPACITY_MAX)
 
 -- no placed node, nor an image on one, has an opacity above the greatest

@@ -11,7 +11,7 @@ use Rattle.flat_scene.specs.declared.setup.Setup.{Setup}
 use Rattle.flat_scene.specs.declared.trees.Content.{Content}
 use Rattle.flat_scene.specs.declared.trees.Content.TheVariants as content
 use Rattle.flat_scene.specs.declared.trees.Node.{Node}
-use Rattle.flat_topology.specs.declared.Placed.{Placed}
+use Rattle.flat_topology.specs.declared.PlacedNode.{PlacedNode}
 use Rattle.flat_topology.specs.Shown.{Shown}
 use Rattle.flat_topology.specs.Join.{JoinedTree, nothing, node, child_view, join}
 
@@ -61,7 +61,7 @@ linked_space here (Some (content.Viewport serial pair props)) =
 linked_space here _ = here
 
 -- a node of a session in its space
-abbrev pub placed_node : ℕ → Space → Node → Placed
+abbrev pub placed_node : ℕ → Space → Node → PlacedNode
 placed_node s here n = record {
   session = record { 0 = s };
   serial = n.serial;
@@ -73,7 +73,7 @@ placed_node s here n = record {
 }
 
 -- the nodes in preorder: a node, then the child view below its viewport, then its children, then the nodes after it
-abbrev pub placed_in : Space → JoinedTree → List Placed
+abbrev pub placed_in : Space → JoinedTree → List PlacedNode
 placed_in outer nothing = []
 placed_in outer (node s n linked below after) =
     placed_node s (node_space outer n) n
@@ -82,5 +82,5 @@ placed_in outer (node s n linked below after) =
 placed_in outer (child_view s root) = placed_in outer root
 
 -- all nodes that the display shows, each in its place
-abbrev pub placed_nodes : Setup → Shown → List Placed
+abbrev pub placed_nodes : Setup → Shown → List PlacedNode
 placed_nodes setup shown = placed_in (display_space setup) (join setup shown)

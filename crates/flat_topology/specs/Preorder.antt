@@ -5,7 +5,7 @@ use Rattle.std.specs.List.{list_all, Contains}
 use Rattle.flat_scene.specs.declared.calls.HitRegion.{HitRegion}
 use Rattle.flat_scene.specs.declared.trees.Content.{Content}
 use Rattle.flat_scene.specs.declared.trees.Node.{Node}
-use Rattle.flat_topology.specs.declared.Placed.{Placed}
+use Rattle.flat_topology.specs.declared.PlacedNode.{PlacedNode}
 use Rattle.flat_topology.specs.Join.{JoinedTree, nothing, node, child_view}
 
 -- The address of a node says how it is reached:
@@ -58,13 +58,13 @@ pub record Kept : Type 0 where
 abbrev pub kept_of : ℕ × Node → Kept
 kept_of (s, n) = record { session = s; serial = n.serial; content = n.content; hits = n.hits }
 
-abbrev pub kept_by : Placed → Kept
+abbrev pub kept_by : PlacedNode → Kept
 kept_by at = record { session = at.session.0; serial = at.serial; content = at.content; hits = at.hits }
 
 -- The placed nodes stand in preorder: they are those at the addresses of the joined tree, each node has an address,
 -- and each address comes
 -- before all later ones.
-pub record IsPreorder (tree : JoinedTree) (placed : List Placed) : Type 0 where
+pub record IsPreorder (tree : JoinedTree) (placed : List PlacedNode) : Type 0 where
   pub in_order : are_in_order (addresses 0 tree) ≡ true
   pub nodes : map (λ address. option_map kept_of (node_at 0 tree address)) (addresses 0 tree)
       ≡ map (λ at. Some (kept_by at)) placed

@@ -8,19 +8,19 @@ use Rattle.flat_scene.specs.declared.frames.ViewTree.{ViewTree}
 use Rattle.flat_scene.specs.declared.setup.Setup.{Setup}
 use Rattle.flat_scene.specs.declared.trees.Content.{Content}
 use Rattle.flat_scene.specs.declared.trees.Content.TheVariants as content
-use Rattle.flat_topology.specs.declared.Placed.{Placed}
+use Rattle.flat_topology.specs.declared.PlacedNode.{PlacedNode}
 use Rattle.flat_topology.specs.Shown.{Shown}
 use Rattle.flat_topology.specs.Join.{JoinedTree, nothing, node, child_view, join, is_joined}
 use Rattle.flat_topology.specs.Place.{Space, display_rect, display_space, node_space, linked_space, viewport_rect}
 use Rattle.flat_topology.specs.Place.{placed_node}
 
 -- the rectangle of a placed node's content, if that is a viewport
-abbrev pub content_bounds : Placed → Option Content → Rect
+abbrev pub content_bounds : PlacedNode → Option Content → Rect
 content_bounds at (Some (content.Viewport serial pair props)) = viewport_rect at.matrix props
 content_bounds at _ = at.clip
 
 -- the bounds of the child view below a placed viewport: the viewport's rectangle, uncut
-abbrev pub viewport_bounds : Placed → Rect
+abbrev pub viewport_bounds : PlacedNode → Rect
 viewport_bounds at = content_bounds at at.content
 
 -- the views of a joined tree in preorder; a view's parent is the session of the viewport that shows it, and the

@@ -28,7 +28,7 @@ use flat_scene::{Content, RegionList};
 
 /// A node of the joined tree in its place on the display.
 #[derive(Drop)]
-pub struct Placed {
+pub struct PlacedNode {
     pub session: SessionNo,
     /// The transform's serial number.
     pub serial: u32,
@@ -43,11 +43,11 @@ pub struct Placed {
 }
 
 /// Placed nodes, in preorder.
-pub type PlacedList = Items<Placed>;
+pub type PlacedList = Items<PlacedNode>;
 
 /// A session that is connected to the display.
 #[derive(Clone, Copy)]
-pub struct Connected {
+pub struct ConnectedSession {
     pub session: SessionNo,
     /// The number of the placed viewport node, from 0, below which the session
     /// hangs; None for the session of the display's pair.
@@ -55,11 +55,11 @@ pub struct Connected {
 }
 
 /// Connected sessions, in preorder of their views.
-pub type ConnectedList = Items<Connected>;
+pub type ConnectedList = Items<ConnectedSession>;
 
 /// The joined tree.
 #[derive(Drop)]
-pub struct Joined {
+pub struct GlobalTopology {
     /// The display's rectangle, in places.
     pub display: Rect,
     pub nodes: PlacedList,

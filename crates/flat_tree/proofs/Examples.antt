@@ -6,9 +6,9 @@ use Rattle.flat_geom.specs.Identity.{identity_matrix}
 use Rattle.flat_scene.specs.declared.frames.SessionSet.{SessionSet}
 use Rattle.flat_scene.specs.declared.frames.ViewNode.{ViewNode}
 use Rattle.flat_scene.specs.declared.trees.Content.TheVariants as content
-use Rattle.flat_topology.specs.declared.Connected.{Connected}
-use Rattle.flat_topology.specs.declared.Joined.{Joined}
-use Rattle.flat_topology.specs.declared.Placed.{Placed}
+use Rattle.flat_topology.specs.declared.ConnectedSession.{ConnectedSession}
+use Rattle.flat_topology.specs.declared.GlobalTopology.{GlobalTopology}
+use Rattle.flat_topology.specs.declared.PlacedNode.{PlacedNode}
 use Rattle.flat_tree.specs.Trees.{is_among, is_apart, if_apart, apart_below, tree_of, tree_from}
 
 abbrev session : ℕ → SessionNo
@@ -18,7 +18,7 @@ abbrev square : ℕ → Rect
 square side = record { x0 = pos 0; y0 = pos 0; x1 = pos (side * 65536); y1 = pos (side * 65536) }
 
 -- a viewport of 20 by 20, cut to 10 by 10
-abbrev placed : Placed
+abbrev placed : PlacedNode
 placed = record {
   session = session 1;
   serial = 1;
@@ -29,10 +29,10 @@ placed = record {
   hits = [];
 }
 
-abbrev connected : List Connected
+abbrev connected : List ConnectedSession
 connected = record { session = session 1; at = None } ∷ record { session = session 2; at = Some 0 } ∷ []
 
-abbrev joined : Joined
+abbrev joined : GlobalTopology
 joined = record { display = square 100; nodes = placed ∷ []; connected = connected }
 
 -- the second view has the viewport's rectangle, uncut

@@ -6,7 +6,7 @@ use Rattle.flat_base.specs.declared.limits.TheConstants.{SESSIONS_MAX}
 use Rattle.flat_scene.specs.declared.frames.SessionSet.{SessionSet}
 use Rattle.flat_scene.specs.declared.frames.ViewNode.{ViewNode}
 use Rattle.flat_scene.specs.declared.frames.ViewTree.{ViewTree}
-use Rattle.flat_topology.specs.declared.Joined.{Joined}
+use Rattle.flat_topology.specs.declared.GlobalTopology.{GlobalTopology}
 use Rattle.flat_topology.specs.Members.{is_member}
 use Rattle.flat_topology.specs.Connected.{connected_view}
 
@@ -33,5 +33,5 @@ abbrev pub tree_of : List ViewNode → SessionSet → ViewTree
 tree_of views with_view = record { nodes = views; apart = apart_below SESSIONS_MAX views with_view }
 
 -- the view tree of a joined tree
-abbrev pub tree_from : Joined → SessionSet → ViewTree
+abbrev pub tree_from : GlobalTopology → SessionSet → ViewTree
 tree_from joined with_view = tree_of (map (connected_view joined.display joined.nodes) joined.connected) with_view

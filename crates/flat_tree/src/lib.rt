@@ -15,12 +15,13 @@ use flat_base::{NoMemory, Rect, Roomy, SESSIONS_MAX, SessionList, SessionNo};
 use flat_geom::{map_rect, sized};
 use flat_scene::{Content, NodeList, SessionSet, ViewNode, ViewTree};
 use flat_topology::{
-    Connected, Joined, Placed, links_make_a_tree, sessions_are_few, views_follow_links,
+    ConnectedSession, GlobalTopology, PlacedNode, links_make_a_tree, sessions_are_few,
+    views_follow_links,
 };
 use std::alloc::Global;
 
 /// The rectangle of a placed viewport, uncut.
-fn bounds(at: &Placed) -> Rect
+fn bounds(at: &PlacedNode) -> Rect
     ensures { result ≡ viewport_bounds at.now }
 {
     match at.content {
@@ -30,7 +31,7 @@ fn bounds(at: &Placed) -> Rect
 }
 
 /// The view of a connected session.
-fn view(joined: &Joined, connected: &Connected) -> ViewNode
+fn view(joined: &GlobalTopology, connected: &ConnectedSession) -> ViewNode
     ensures { result ≡ connected_view joined.now.display joined.now.nodes connected.now }
 {
     let above = match connected.at {
@@ -52,7 +53,7 @@ fn view(joined: &Joined, connected: &Connected) -> ViewNode
 }
 
 /// The views of the connected sessions, in order.
-fn views(alloc: Global, joined: &Joined) -> Result<NodeList, NoMemory>
+fn views(alloc: Global, joined: &GlobalTopology) -> Result<NodeList, NoMemory>
     ensures { IfOk result (λ views. views ≡ map (connected_view joined.now.display joined.now.nodes)
         joined.now.connected) }
 {
@@ -117,7 +118,7 @@ pub fn tree_of(alloc: Global, views: NodeList, with_view: SessionSet) -> Result<
 /// whose end isn't lost.
 pub fn view_tree(
     alloc: Global,
-    joined: &Joined,
+    joined: &GlobalTopology,
     with_view: SessionSet,
 ) -> Result<ViewTree, NoMemory>
     ensures { IfOk result (λ tree. tree ≡ tree_from joined.now with_view) }

@@ -1,12 +1,12 @@
 -- Small tallies.
 use Rattle.std.proofs.Common.{◌≡◌, true, false, refl}
 use Rattle.std.specs.Prelude.{◌+◌, ◌*◌, ◌^◌}
-use Rattle.flat_waits.specs.declared.tally.Change.TheVariants.{Waits, Stops, Enters, Leaves, Returns}
-use Rattle.flat_waits.specs.declared.tally.Tally.{Tally}
+use Rattle.flat_waits.specs.declared.wait_tally.ActorUpdate.TheVariants.{Waits, Stops, Enters, Leaves, Returns}
+use Rattle.flat_waits.specs.declared.wait_tally.WaitTally.{WaitTally}
 use Rattle.flat_waits.specs.Tallies.{after, is_over, tally_of}
 
 -- two actors, one of which has found too little at the news 5
-abbrev one_waits : Tally
+abbrev one_waits : WaitTally
 one_waits = record { news = 5; waiting = 1; acting = 2 }
 
 word : tally_of (5 * 2 ^ 32 + (1 * 2 ^ 16 + 2)) ≡ one_waits

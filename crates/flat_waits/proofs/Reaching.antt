@@ -4,8 +4,8 @@ use Rattle.std.specs.Prelude.{◌==◌, ⊤, if◌then◌else◌, nat_le, replic
 use Rattle.std.specs.List.{All}
 use Rattle.std.proofs.lemmas.Bool.{eqb-true, leb-true}
 use Rattle.std.proofs.lemmas.List.Elements.{All-cons, All-head, All-tail, All-append, All-weaker, All-replicate}
-use Rattle.flat_waits.specs.declared.tally.Change.TheVariants as change
-use Rattle.flat_waits.specs.declared.tally.Tally.{Tally}
+use Rattle.flat_waits.specs.declared.wait_tally.ActorUpdate.TheVariants as change
+use Rattle.flat_waits.specs.declared.wait_tally.WaitTally.{WaitTally}
 use Rattle.flat_waits.specs.Tallies.{after, is_over}
 use Rattle.flat_waits.specs.Stuck.{Doing, Steps, Race, GoesOn, IsReached, IsStuck, OverMeansStuck}
 use Rattle.flat_waits.specs.Stuck.Doing.{Acts, Counts, Reads, Finds, Waits, Gone}
@@ -64,7 +64,7 @@ none-ahead now n c (Waits m seen ∷ ds) h = by (m == suc now) refl (none-ahead 
     by false e later = later
 
 -- What stands of a race: who acts and who waits is counted, and what was seen is known.
-record Holds (tally : Tally) (entries : ℕ) (actors : List Doing) : Type 0 where
+record Holds (tally : WaitTally) (entries : ℕ) (actors : List Doing) : Type 0 where
   acting : tally.acting ≡ count acts actors
   waiting : tally.waiting ≡ count (waits_at tally.news) actors
   seen : All (Sees tally.news entries (count owes actors)) actors
@@ -98,7 +98,7 @@ module _ (before later : List Doing) where
       omega (arith, old, new)
 
   -- nothing is counted anew, and the actor neither makes an entry nor owes one
-  quiet : (d d' : Doing) (t : Tally) (n : ℕ) → acts d ≡ acts d' → waits_at t.news d ≡ waits_at t.news d' → owes d ≡ owes d'
+  quiet : (d d' : Doing) (t : WaitTally) (n : ℕ) → acts d ≡ acts d' → waits_at t.news d ≡ waits_at t.news d' → owes d ≡ owes d'
       → (Sees t.news n (count owes (within before later d)) d → Sees t.news n (count owes (within before later d')) d')
       → Holds t n (within before later d) → Holds t n (within before later d')
   quiet d d' t n acting waiting owing seeing h = record {
@@ -108,7 +108,7 @@ module _ (before later : List Doing) where
   }
 
   -- one more waits, or one less
-  counted : (d d' : Doing) (t : Tally) (n waiting : ℕ) → acts d ≡ acts d' → owes d ≡ owes d'
+  counted : (d d' : Doing) (t : WaitTally) (n waiting : ℕ) → acts d ≡ acts d' → owes d ≡ owes d'
       → waiting ≡ count (waits_at t.news) (within before later d')
       → (Sees t.news n (count owes (within before later d)) d → Sees t.news n (count owes (within before later d')) d')
       → Holds t n (within before later d) → Holds (record t { waiting = waiting }) n (within before later d')
@@ -119,7 +119,7 @@ module _ (before later : List Doing) where
   }
 
   -- there are news
-  renewed : (d d' : Doing) (t : Tally) (n acting : ℕ) → acting ≡ count acts (within before later d')
+  renewed : (d d' : Doing) (t : WaitTally) (n acting : ℕ) → acting ≡ count acts (within before later d')
       → waits_at (suc t.news) d ≡ waits_at (suc t.news) d'
       → (Sees t.news n (count owes (within before later d)) d → Sees (suc t.news) n (count owes (within before later d')) d')
       → Holds t n (within before later d) → Holds (record { news = suc t.news; waiting = 0; acting = acting }) n (within before later d')
@@ -132,24 +132,24 @@ module _ (before later : List Doing) where
       }
 
   -- what an actor knows that found too little
-  known : (m s : ℕ) (t : Tally) (n : ℕ) → IsRecent t.news n (count owes (within before later (Finds m s))) m s
+  known : (m s : ℕ) (t : WaitTally) (n : ℕ) → IsRecent t.news n (count owes (within before later (Finds m s))) m s
       → IsRecent t.news n (count owes (within before later (Waits m s))) m s
   known m s t n x = subst (λ c. IsRecent t.news n c m s) (same-count owes (Finds m s) (Waits m s) refl) x
 
   -- an actor that counts itself, or no more
-  noting : (m s : ℕ) (t : Tally) (n : ℕ) (b : Bool) → (m == t.news) ≡ b → Holds t n (within before later (Finds m s))
+  noting : (m s : ℕ) (t : WaitTally) (n : ℕ) (b : Bool) → (m == t.news) ≡ b → Holds t n (within before later (Finds m s))
       → Holds (if b then record t { waiting = suc t.waiting } else t) n (within before later (Waits m s))
   noting m s t n true e h = counted (Finds m s) (Waits m s) t n (suc t.waiting) refl refl
       (let more = one-less (waits_at t.news) (Waits m s) (Finds m s) e refl in ap (λ k. suc k) h.waiting ∙ sym more) (known m s t n) h
   noting m s t n false e h = quiet (Finds m s) (Waits m s) t n refl (sym e) refl (known m s t n) h
 
-  stopping : (m s : ℕ) (t : Tally) (n : ℕ) (b : Bool) → (m == t.news) ≡ b → Holds t n (within before later (Waits m s))
+  stopping : (m s : ℕ) (t : WaitTally) (n : ℕ) (b : Bool) → (m == t.news) ≡ b → Holds t n (within before later (Waits m s))
       → Holds (if b then record t { waiting = t.waiting - 1 } else t) n (within before later Acts)
   stopping m s t n true e h = counted (Waits m s) Acts t n (t.waiting - 1) refl refl
       (let less = one-less (waits_at t.news) (Waits m s) Acts e refl in let was = h.waiting in omega (arith, less, was)) (λ x. tt) h
   stopping m s t n false e h = quiet (Waits m s) Acts t n refl e refl (λ x. tt) h
 
-  entering : (t : Tally) (n : ℕ) → Holds t n (within before later Acts) → Holds t (suc n) (within before later Counts)
+  entering : (t : WaitTally) (n : ℕ) → Holds t n (within before later Acts) → Holds t (suc n) (within before later Counts)
   entering t n h = record {
     acting = h.acting ∙ same-count acts Acts Counts refl;
     waiting = h.waiting ∙ same-count (waits_at t.news) Acts Counts refl;
@@ -157,7 +157,7 @@ module _ (before later : List Doing) where
         (let more = one-less owes Counts Acts refl refl in omega (arith, more))) (λ x. tt) h.seen;
   }
 
-  step : (d d' : Doing) (t t' : Tally) (n n' : ℕ) → Steps d t n d' t' n' → Holds t n (within before later d) → Holds t' n' (within before later d')
+  step : (d d' : Doing) (t t' : WaitTally) (n n' : ℕ) → Steps d t n d' t' n' → Holds t n (within before later d) → Holds t' n' (within before later d')
   step _ _ _ _ _ _ (reads t n) h = quiet Acts (Reads t.news) t n refl refl refl (λ x. omega arith) h
   step _ _ _ _ _ _ (reads_again m s t n other) h = quiet (Waits m s) (Reads t.news) t n refl other refl (λ x. omega arith) h
   step _ _ _ _ _ _ (finds m t n) h = quiet (Reads m) (Finds m n) t n refl refl refl

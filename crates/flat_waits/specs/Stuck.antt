@@ -1,8 +1,8 @@
 -- Why no Wait ends that could still be met.
 use Rattle.std.specs.Prelude.{ℕ, suc, ◌≡◌, ◌==◌, ⊤, Bool, true, false, List, ◌∷◌, ◌++◌, replicate}
 use Rattle.std.specs.List.{All}
-use Rattle.flat_waits.specs.declared.tally.Change.TheVariants as change
-use Rattle.flat_waits.specs.declared.tally.Tally.{Tally}
+use Rattle.flat_waits.specs.declared.wait_tally.ActorUpdate.TheVariants as change
+use Rattle.flat_waits.specs.declared.wait_tally.WaitTally.{WaitTally}
 use Rattle.flat_waits.specs.Tallies.{after, is_over}
 
 -- What an actor is doing.
@@ -21,23 +21,23 @@ pub data Doing : Type 0 where
   Gone : Doing
 
 -- What an actor may do next, by the tally and the number of entries that there are, and what it makes of these.
-pub data Steps : Doing → Tally → ℕ → Doing → Tally → ℕ → Type 0 where
-  reads : (t : Tally) (n : ℕ) → Steps Acts t n (Reads t.news) t n
-  reads_again : (news seen : ℕ) (t : Tally) (n : ℕ) → (news == t.news) ≡ false
+pub data Steps : Doing → WaitTally → ℕ → Doing → WaitTally → ℕ → Type 0 where
+  reads : (t : WaitTally) (n : ℕ) → Steps Acts t n (Reads t.news) t n
+  reads_again : (news seen : ℕ) (t : WaitTally) (n : ℕ) → (news == t.news) ≡ false
       → Steps (Waits news seen) t n (Reads t.news) t n
-  finds : (news : ℕ) (t : Tally) (n : ℕ) → Steps (Reads news) t n (Finds news n) t n
-  is_met : (news : ℕ) (t : Tally) (n : ℕ) → Steps (Reads news) t n Acts t n
-  notes : (news seen : ℕ) (t : Tally) (n : ℕ)
+  finds : (news : ℕ) (t : WaitTally) (n : ℕ) → Steps (Reads news) t n (Finds news n) t n
+  is_met : (news : ℕ) (t : WaitTally) (n : ℕ) → Steps (Reads news) t n Acts t n
+  notes : (news seen : ℕ) (t : WaitTally) (n : ℕ)
       → Steps (Finds news seen) t n (Waits news seen) (after (change.Waits news) t) n
-  stops : (news seen : ℕ) (t : Tally) (n : ℕ) → Steps (Waits news seen) t n Acts (after (change.Stops news) t) n
-  enters : (t : Tally) (n : ℕ) → Steps Acts t n Counts t (suc n)
-  counts : (t : Tally) (n : ℕ) → Steps Counts t n Acts (after change.Enters t) n
-  leaves : (t : Tally) (n : ℕ) → Steps Acts t n Gone (after change.Leaves t) n
-  returns : (t : Tally) (n : ℕ) → Steps Gone t n Acts (after change.Returns t) n
+  stops : (news seen : ℕ) (t : WaitTally) (n : ℕ) → Steps (Waits news seen) t n Acts (after (change.Stops news) t) n
+  enters : (t : WaitTally) (n : ℕ) → Steps Acts t n Counts t (suc n)
+  counts : (t : WaitTally) (n : ℕ) → Steps Counts t n Acts (after change.Enters t) n
+  leaves : (t : WaitTally) (n : ℕ) → Steps Acts t n Gone (after change.Leaves t) n
+  returns : (t : WaitTally) (n : ℕ) → Steps Gone t n Acts (after change.Returns t) n
 
 -- The actors of a race, with their tally and the number of entries.
 pub record Race : Type 0 where
-  pub tally : Tally
+  pub tally : WaitTally
   pub entries : ℕ
   pub actors : List Doing
 

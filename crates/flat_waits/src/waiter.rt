@@ -1,9 +1,9 @@
-use crate::waits::Waits;
+use crate::shared_waits::SharedWaits;
 
 /// An actor in a Wait: it looks, and looks again once there is news, until waiting is over.
 #[derive(Drop)]
 pub struct Waiter<'a> {
-    waits: &'a Waits,
+    waits: &'a SharedWaits,
     /// The news that it read last.
     news: u32,
     has_looked: bool,
@@ -11,7 +11,7 @@ pub struct Waiter<'a> {
 
 impl<'a> Waiter<'a> {
     /// An actor that hasn't looked yet.
-    pub fn new(waits: &'a Waits) -> Waiter<'a> {
+    pub fn new(waits: &'a SharedWaits) -> Waiter<'a> {
         Waiter {
             waits,
             news: 0,

@@ -3,14 +3,14 @@ use Rattle.std.proofs.Common.{◌≡◌, ℕ, true, false, [], ◌∷◌, Some, 
 use Rattle.std.specs.Prelude.{find}
 use Rattle.std.specs.List.{position_from}
 use Rattle.flat_scene.specs.declared.calls.Watch.TheVariants as watch
-use Rattle.flat_scene.specs.declared.journal.Told.{Told}
-use Rattle.flat_scene.specs.declared.journal.Told.TheVariants.{Layout, Connected, Disconnected, HasPresented, Gone}
-use Rattle.flat_watch.specs.declared.cell.GetAnswer.TheVariants.{Now, Held, BadHangingGet}
+use Rattle.flat_scene.specs.declared.journal.WatcherValue.{WatcherValue}
+use Rattle.flat_scene.specs.declared.journal.WatcherValue.TheVariants.{Layout, Connected, Disconnected, HasPresented, Gone}
+use Rattle.flat_watch.specs.declared.hanging_get.GetAnswer.TheVariants.{Now, Held, BadHangingGet}
 use Rattle.flat_watch.specs.Told.{same_told, news, asking, settled}
-use Rattle.flat_watch.specs.Cells.{after_all, after_get, answers, answered_get, got, new_cell}
+use Rattle.flat_watch.specs.HangingGets.{after_all, after_get, answers, answered_get, got, new_hanging_get}
 use Rattle.flat_watch.specs.Laws.{answers_from, is_news}
 
-abbrev sized : ℕ → Told
+abbrev sized : ℕ → WatcherValue
 sized w = Layout (record { w = w; h = 1; inset = record { top = 0; right = 0; bottom = 0; left = 0 }; ratio = 65536 })
 
 layouts_differ : same_told (sized 5) (sized 6) ≡ false
@@ -29,7 +29,7 @@ first_is_news : news (Some Gone) None ≡ Some Gone
 first_is_news = refl
 
 -- answered at once, and then held until the value changes; the same value answers nothing
-at_once : after_get watch.Layout (Some (sized 5)) new_cell ≡ record { last = Some (sized 5); waits = None }
+at_once : after_get watch.Layout (Some (sized 5)) new_hanging_get ≡ record { last = Some (sized 5); waits = None }
 at_once = refl
 
 held_until_it_changes : answers_from watch.Layout (Some (sized 5)) (Some (sized 5) ∷ Some (sized 6) ∷ Some (sized 7) ∷ [])
@@ -56,7 +56,7 @@ get_at_once : got false (news (Some Gone) (Some HasPresented)) ≡ Now Gone
 get_at_once = refl
 
 -- a value that is there no more answers nothing
-gone_before_asked : answers (after_get watch.Layout None (after_all new_cell (Some HasPresented ∷ None ∷ []))) (Some Gone ∷ []) ≡ Some Gone ∷ []
+gone_before_asked : answers (after_get watch.Layout None (after_all new_hanging_get (Some HasPresented ∷ None ∷ []))) (Some Gone ∷ []) ≡ Some Gone ∷ []
 gone_before_asked = refl
 
 -- an answer has the name of its get

@@ -1,3 +1,3 @@
-pub mod Cells
+pub mod HangingGets
 pub mod Laws
 pub mod Told

@@ -3,8 +3,8 @@ use Rattle.std.specs.Prelude.{Bool, true, false, cond, ◌&&◌, ◌==◌, Optio
 use Rattle.std.specs.Option.{option_or}
 use Rattle.flat_scene.specs.declared.calls.Watch.{Watch}
 use Rattle.flat_scene.specs.declared.journal.Layout.{Layout}
-use Rattle.flat_scene.specs.declared.journal.Told.{Told}
-use Rattle.flat_scene.specs.declared.journal.Told.TheVariants as tell
+use Rattle.flat_scene.specs.declared.journal.WatcherValue.{WatcherValue}
+use Rattle.flat_scene.specs.declared.journal.WatcherValue.TheVariants as tell
 
 -- whether two layouts are the same, and two values
 abbrev pub same_layout : Layout → Layout → Bool
@@ -13,7 +13,7 @@ same_layout a b =
     && a.inset.top == b.inset.top && a.inset.right == b.inset.right && a.inset.bottom == b.inset.bottom
     && a.inset.left == b.inset.left
 
-abbrev pub same_told : Told → Told → Bool
+abbrev pub same_told : WatcherValue → WatcherValue → Bool
 same_told (tell.Layout a) (tell.Layout b) = same_layout a b
 same_told tell.Connected tell.Connected = true
 same_told tell.Disconnected tell.Disconnected = true
@@ -23,11 +23,11 @@ same_told _ _ = false
 
 -- The value that a watcher answered last, and the get that it holds.
 pub record Watching : Type 0 where
-  pub last : Option Told
+  pub last : Option WatcherValue
   pub waits : Option Watch
 
 -- the value to answer where another was answered last: the one told, where it is there and differs
-abbrev pub news : Option Told → Option Told → Option Told
+abbrev pub news : Option WatcherValue → Option WatcherValue → Option WatcherValue
 news now None = now
 news None (Some last) = None
 news (Some now) (Some last) = cond (same_told now last) None (Some now)
@@ -37,14 +37,14 @@ abbrev pub asking : Option Watch → Watching → Watching
 asking get w = record w { waits = option_or w.waits get }
 
 -- the answer to the held get
-abbrev pub answer : Option Told → Watching → Option Told
+abbrev pub answer : Option WatcherValue → Watching → Option WatcherValue
 answer now w = cond (is_some w.waits) (news now w.last) None
 
 -- the watcher after it answered
-abbrev pub answered_by : Option Told → Watching → Watching
+abbrev pub answered_by : Option WatcherValue → Watching → Watching
 answered_by (Some value) w = record { last = Some value; waits = None }
 answered_by None w = w
 
 -- the held get is answered where its session listens and there is news
-abbrev pub settled : Bool → Option Told → Watching → Watching
+abbrev pub settled : Bool → Option WatcherValue → Watching → Watching
 settled listens now w = cond listens (answered_by (answer now w) w) w

@@ -4,14 +4,14 @@ use Rattle.std.specs.Prelude.{◌==◌}
 use Rattle.std.specs.List.{list_any}
 use Rattle.flat_base.specs.declared.ids.SessionNo.{SessionNo}
 use Rattle.flat_scene.specs.declared.frames.ViewNode.{ViewNode}
-use Rattle.flat_why.specs.declared.causes.Hidden.TheVariants.{Cycle, Parent}
-use Rattle.flat_why.specs.declared.causes.Standing.{Standing}
-use Rattle.flat_why.specs.declared.causes.Standing.TheVariants.{OnDisplay, Below, Nowhere}
+use Rattle.flat_why.specs.declared.reasons.HiddenReason.TheVariants.{Cycle, Parent}
+use Rattle.flat_why.specs.declared.reasons.AttachPoint.{AttachPoint}
+use Rattle.flat_why.specs.declared.reasons.AttachPoint.TheVariants.{OnDisplay, Below, Nowhere}
 use Rattle.flat_why.specs.Hidden.{ancestors, hidden_by, hidden_in, is_cyclic, node_of}
 
-module _ (n : ℕ) (f g : SessionNo → Standing) (same : (s : SessionNo) → 0 < s.0 → s.0 ≤ n → f s ≡ g s)
+module _ (n : ℕ) (f g : SessionNo → AttachPoint) (same : (s : SessionNo) → 0 < s.0 → s.0 ≤ n → f s ≡ g s)
     (there : (s q : SessionNo) → g s ≡ Below q → (0 < q.0) × (q.0 ≤ n)) where
-  ancestors-alike : (steps : ℕ) (standing : Standing) (s : SessionNo) → g s ≡ standing → ancestors f steps standing ≡ ancestors g steps standing
+  ancestors-alike : (steps : ℕ) (standing : AttachPoint) (s : SessionNo) → g s ≡ standing → ancestors f steps standing ≡ ancestors g steps standing
   ancestors-alike zero standing s is = refl
   ancestors-alike (suc steps) OnDisplay s is = refl
   ancestors-alike (suc steps) (Nowhere cause) s is = refl
@@ -24,9 +24,9 @@ module _ (n : ℕ) (f g : SessionNo → Standing) (same : (s : SessionNo) → 0 
       (ap (ancestors f n) (same s some few) ∙ ancestors-alike n (g s) s refl)
 
   pub hidden-alike : (nodes : List ViewNode) (s : SessionNo) → 0 < s.0 → s.0 ≤ n → hidden_in n f nodes s ≡ hidden_in n g nodes s
-  hidden-alike nodes s some few = ap (λ (standing : Standing). hidden_by n f nodes s standing) (same s some few) ∙ by (g s)
+  hidden-alike nodes s some few = ap (λ (standing : AttachPoint). hidden_by n f nodes s standing) (same s some few) ∙ by (g s)
     where
-      by : (standing : Standing) → hidden_by n f nodes s standing ≡ hidden_by n g nodes s standing
+      by : (standing : AttachPoint) → hidden_by n f nodes s standing ≡ hidden_by n g nodes s standing
       by OnDisplay = refl
       by (Nowhere cause) = refl
       by (Below q) = ap (λ (b : Bool). cond (is_some (node_of q nodes)) None (Some (cond b Cycle (Parent q)))) (cyclic-alike s some few)

@@ -11,7 +11,7 @@ use Rattle.flat_base.proofs.lemmas.Tests.{and-left, and-true}
 use Rattle.flat_base.specs.declared.ids.SessionNo.{SessionNo}
 use Rattle.flat_page.specs.Words.{number}
 use Rattle.flat_scene.specs.declared.frames.DrawItem.{DrawItem}
-use Rattle.flat_why.specs.declared.causes.Blank.{Blank}
+use Rattle.flat_why.specs.declared.reasons.BlankReason.{BlankReason}
 use Rattle.flat_why.specs.Laws.{OwnItemsAreSaid}
 use Rattle.flat_why.specs.Noted.{counts_in, with_item}
 use Rattle.flat_why.specs.Text.{drawn_words}
@@ -85,7 +85,7 @@ counted-next items i n d counts new low many is counted s some few =
 
 -- ---- what a line says
 
-drawn-first : (items : ℕ) (blank : Blank) → slice_get (drawn_words items blank) 0 ≡ Some (number items)
+drawn-first : (items : ℕ) (blank : BlankReason) → slice_get (drawn_words items blank) 0 ≡ Some (number items)
 drawn-first zero blank = refl
 drawn-first (suc n) blank = refl
 

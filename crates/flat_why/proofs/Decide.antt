@@ -23,11 +23,11 @@ use Rattle.flat_topology.specs.Owners.{OwnsView, OwnsViewport}
 use Rattle.flat_topology.proofs.lemmas.Distinct.{contains-in, in-contains}
 use Rattle.flat_why.proofs.ShownPairs.{found-in, in-found}
 use Rattle.flat_rules.specs.Ends.{viewport_owner}
-use Rattle.flat_why.specs.declared.causes.Cause.{Cause}
-use Rattle.flat_why.specs.declared.causes.Cause.TheVariants.{Parted}
-use Rattle.flat_why.specs.declared.causes.Standing.{Standing}
-use Rattle.flat_why.specs.declared.causes.Standing.TheVariants.{Below, Nowhere}
-use Rattle.flat_why.specs.Causes.{hanging_by, parting_of, standing_by, viewed_by}
+use Rattle.flat_why.specs.declared.reasons.DetachedReason.{DetachedReason}
+use Rattle.flat_why.specs.declared.reasons.DetachedReason.TheVariants.{Parted}
+use Rattle.flat_why.specs.declared.reasons.AttachPoint.{AttachPoint}
+use Rattle.flat_why.specs.declared.reasons.AttachPoint.TheVariants.{Below, Nowhere}
+use Rattle.flat_why.specs.Reasons.{hanging_by, parting_of, standing_by, viewed_by}
 use Rattle.flat_why.specs.Laws.{IsOn, StandingsDecide}
 
 -- ---- the display's pair
@@ -153,7 +153,7 @@ module _ (setup : Setup) (shown : Shown) (fit : FitsSetup setup shown) (single :
     by-owner Display is = (λ on. tt, λ on. on-top p pair view at is)
     by-owner (Session q) is = by (is_shown_by shown p.0 q.0) refl
       where
-        why : Standing
+        why : AttachPoint
         why = Nowhere (Parted q p (parting_of p (state_of shown q.0) (taken q) (last_use p)))
 
         by : (b : Bool) → is_shown_by shown p.0 q.0 ≡ b → Joined s.0 ↔ IsOn setup shown (cond b (Below q) why)
@@ -192,7 +192,7 @@ module _ (setup : Setup) (shown : Shown) (fit : FitsSetup setup shown) (single :
       let P : Option Actor → Type 0 = λ o. Joined s.0 ↔ IsOn setup shown (hanging_by setup shown taken last_use p o) in
       subst P (sym owner) (by-owner p own.0 some own.1 own.0.viewport refl)
 
-  by-state : (nothing : Cause) (state : Option Tree) → state_of shown s.0 ≡ state
+  by-state : (nothing : DetachedReason) (state : Option Tree) → state_of shown s.0 ≡ state
       → Joined s.0 ↔ IsOn setup shown (standing_by setup shown taken last_use nothing state)
   by-state nothing None is = (λ on. (let some = viewed on in let wrong : None ≡ Some some.0 = sym (ap view_of is) ∙ some.1 in absurd (cc)), λ on. absurd on)
   by-state nothing (Some tree) is = by-view tree.view (ap view_of is)

@@ -10,26 +10,26 @@ use Rattle.flat_page.specs.Words.{line_of}
 use Rattle.flat_places.specs.declared.script.Script.{Script}
 use Rattle.flat_scene.specs.declared.calls.Call.TheVariants as call
 use Rattle.flat_scene.specs.declared.journal.Entry.{Entry}
-use Rattle.flat_scene.specs.declared.journal.Kind.TheVariants as kind
+use Rattle.flat_scene.specs.declared.journal.EntryKind.TheVariants as kind
 use Rattle.flat_scene.specs.declared.journal.Reply.TheVariants as reply
 use Rattle.flat_scene.specs.declared.setup.Setup.{Setup}
 use Rattle.flat_scene.specs.History.{◌▹◌}
 use Rattle.flat_rules.proofs.lemmas.Samples.{s, f, p, t, c, by, present}
-use Rattle.flat_why.specs.declared.causes.Cause.TheVariants as cause
-use Rattle.flat_why.specs.declared.causes.Due.{Due}
-use Rattle.flat_why.specs.declared.causes.Hold.TheVariants as hold
-use Rattle.flat_why.specs.declared.causes.Parting.TheVariants as parting
-use Rattle.flat_why.specs.declared.causes.Hidden.TheVariants as hidden
-use Rattle.flat_why.specs.declared.causes.Standing.{Standing}
-use Rattle.flat_why.specs.declared.causes.Standing.TheVariants as standing
-use Rattle.flat_why.specs.Causes.{hold_of, parting_of, standing_of}
+use Rattle.flat_why.specs.declared.reasons.DetachedReason.TheVariants as cause
+use Rattle.flat_why.specs.declared.reasons.MadePresent.{MadePresent}
+use Rattle.flat_why.specs.declared.reasons.HoldReason.TheVariants as hold
+use Rattle.flat_why.specs.declared.reasons.UnplacedReason.TheVariants as parting
+use Rattle.flat_why.specs.declared.reasons.HiddenReason.TheVariants as hidden
+use Rattle.flat_why.specs.declared.reasons.AttachPoint.{AttachPoint}
+use Rattle.flat_why.specs.declared.reasons.AttachPoint.TheVariants as standing
+use Rattle.flat_why.specs.Reasons.{hold_of, parting_of, standing_of}
 use Rattle.flat_why.specs.Hidden.{hidden_in}
 use Rattle.flat_why.specs.Noted.{stands_in}
 use Rattle.flat_why.specs.Text.{why_lines}
 
 -- ---- what holds a present back
 
-abbrev due : ℕ → List FenceNo → Due
+abbrev due : ℕ → List FenceNo → MadePresent
 due time acquire = record { session = s 1; number = 1; time = time; acquire = acquire }
 
 -- its time comes first, then its fences in their order, then those before it
@@ -117,7 +117,7 @@ first_frame = refl
 -- ---- sessions below one another
 
 -- the first two hang below each other, and the third below the first
-abbrev each_other : List Standing
+abbrev each_other : List AttachPoint
 each_other = standing.Below (s 2) ∷ standing.Below (s 1) ∷ standing.Below (s 1) ∷ []
 
 on_a_cycle : hidden_in 3 (stands_in each_other) [] (s 2) ≡ Some hidden.Cycle

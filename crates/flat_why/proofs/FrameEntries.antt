@@ -21,7 +21,7 @@ use Rattle.flat_places.specs.declared.script.Script.{Script}
 use Rattle.flat_report.specs.Report.{finished, frame_at}
 use Rattle.flat_scene.specs.declared.frames.FrameOut.{FrameOut}
 use Rattle.flat_scene.specs.declared.journal.Entry.{Entry}
-use Rattle.flat_scene.specs.declared.journal.Kind.TheVariants.{Begin, Finish}
+use Rattle.flat_scene.specs.declared.journal.EntryKind.TheVariants.{Begin, Finish}
 use Rattle.flat_scene.specs.declared.journal.Reply.{Reply}
 use Rattle.flat_scene.specs.declared.setup.PairDecl.{PairDecl}
 use Rattle.flat_scene.specs.declared.setup.Setup.{Setup}
@@ -36,14 +36,14 @@ use Rattle.flat_rules.specs.Shown.{is_pair, shown_states}
 use Rattle.flat_rules.proofs.lemmas.ShownList.{listed-at}
 use Rattle.flat_topology.specs.Shown.{is_shown_by, Shown, state_of}
 use Rattle.flat_topology.specs.Place.{placed_nodes}
-use Rattle.flat_why.specs.declared.causes.Cause.{Cause}
-use Rattle.flat_why.specs.declared.causes.Cause.TheVariants.{Parted}
-use Rattle.flat_why.specs.declared.causes.Hidden.{Hidden}
-use Rattle.flat_why.specs.declared.causes.Standing.TheVariants.{OnDisplay, Below, Nowhere}
-use Rattle.flat_why.specs.declared.whys.Whys.{Whys}
+use Rattle.flat_why.specs.declared.reasons.DetachedReason.{DetachedReason}
+use Rattle.flat_why.specs.declared.reasons.DetachedReason.TheVariants.{Parted}
+use Rattle.flat_why.specs.declared.reasons.HiddenReason.{HiddenReason}
+use Rattle.flat_why.specs.declared.reasons.AttachPoint.TheVariants.{OnDisplay, Below, Nowhere}
+use Rattle.flat_why.specs.declared.reason_tracker.ReasonTracker.{ReasonTracker}
 use Rattle.flat_why.specs.Blanks.{blank_of}
-use Rattle.flat_why.specs.Causes.{closing_of, dues, dues_by, first_of, hanging_by, is_waiting, last_use, made_by, nothing_by, parting_of, standing_by}
-use Rattle.flat_why.specs.Causes.{standing_in, standing_of, used_by, viewed_by, waiting_of, waits_at}
+use Rattle.flat_why.specs.Reasons.{closing_of, dues, dues_by, first_of, hanging_by, is_waiting, last_use, made_by, nothing_by, parting_of, standing_by}
+use Rattle.flat_why.specs.Reasons.{standing_in, standing_of, used_by, viewed_by, waiting_of, waits_at}
 use Rattle.flat_why.specs.Noted.{closings_in, session_line, stands_in, uses_in, IsKnown, WhysStand}
 use Rattle.flat_why.specs.Hidden.{hidden_in, hidden_of, node_of}
 use Rattle.flat_why.specs.Text.{blank_at, line_by, wait_line, why_lines, whys_at}
@@ -80,7 +80,8 @@ module _ (setup : Setup) (shown : Shown) (taken : SessionNo → ℕ) (u v : Pair
   viewed-alike None = refl
   viewed-alike (Some p) = hanging-alike p (slice_get setup.pairs p.0) refl
 
-  standing-alike : (nothing : Cause) (state : Option Tree) → standing_by setup shown taken u nothing state ≡ standing_by setup shown taken v nothing state
+  standing-alike : (nothing : DetachedReason) (state : Option Tree) → standing_by setup shown taken u nothing state
+      ≡ standing_by setup shown taken v nothing state
   standing-alike nothing None = refl
   standing-alike nothing (Some tree) = viewed-alike tree.view
 
@@ -106,7 +107,7 @@ no-due time Display r = refl
 no-due time (Session s) r = refl
 no-due time (Probe p) r = refl
 
-pub begin-noted : (script : Script) (old history : List Entry) (entry : Entry) (time : ℕ) (shown : Shown) (was now : Whys) → history ≡ (old ▹ entry)
+pub begin-noted : (script : Script) (old history : List Entry) (entry : Entry) (time : ℕ) (shown : Shown) (was now : ReasonTracker) → history ≡ (old ▹ entry)
     → entry.kind ≡ Begin time → LegalEntry script.setup old entry
     → shown ≡ shown_states script.setup history → WhysStand script old was
     → now.dues.items ≡ filter (is_waiting script.setup history) was.dues.items
@@ -186,7 +187,8 @@ begin-noted script old history entry time shown was now is kind legal shows stan
 
 -- ---- the end of a frame
 
-pub finish-noted : (script : Script) (old history : List Entry) (entry : Entry) (at : ℕ) (shown : Shown) (frame : FrameOut) (was now : Whys) (mid : List ℕ)
+pub finish-noted : (script : Script) (old history : List Entry) (entry : Entry) (at : ℕ) (shown : Shown) (frame : FrameOut) (was now : ReasonTracker)
+    (mid : List ℕ)
     → history ≡ (old ▹ entry) → entry.kind ≡ Finish → LegalEntry script.setup old entry
     → owners_declared script.setup ≡ true → Some frame ≡ last_item (finished script.setup history) → shown ≡ shown_states script.setup (to_begin history)
     → at ≡ ratio script.setup (to_begin history) → WhysStand script old was
@@ -293,7 +295,7 @@ finish-noted script old history entry at shown frame was now mid is kind legal o
         sessions-alike _ _ setup.sessions (λ s some few.
         (λ i. line_by script (frame-is i) s (hidden_in (length was.standings.items) (stands_in was.standings.items) (frame-is i).tree.nodes s)
         (blank_of (state_of (shown-is i) s.0) s (placed_nodes (scaled i) (shown-is i))) (node_of s (frame-is i).tree.nodes))
-        ∙ ap (λ (h : Option Hidden). line_by script whole s h (blank_at script (to_begin old) s) (node_of s whole.tree.nodes)) (hides s some few))
+        ∙ ap (λ (h : Option HiddenReason). line_by script whole s h (blank_at script (to_begin old) s) (node_of s whole.tree.nodes)) (hides s some few))
 
     then-waits : map (wait_line script frame.frame.0) was.waits.items ≡ map (wait_line script whole.frame.0) (waits_at setup (to_begin old))
     then-waits = (λ i. map (wait_line script (frame-is i).frame.0) (stands.waits opened i))

@@ -14,11 +14,11 @@ use Rattle.flat_topology.specs.Join.{is_joined}
 use Rattle.flat_topology.specs.Laws.{ViewsTheJoined}
 use Rattle.flat_topology.specs.Shown.{Shown}
 use Rattle.flat_topology.specs.Views.{view_nodes}
-use Rattle.flat_why.specs.declared.causes.Hidden.{Hidden}
-use Rattle.flat_why.specs.declared.causes.Hidden.TheVariants.{Cycle, Parent}
-use Rattle.flat_why.specs.declared.causes.Standing.{Standing}
-use Rattle.flat_why.specs.declared.causes.Standing.TheVariants.{OnDisplay, Below, Nowhere}
-use Rattle.flat_why.specs.Causes.{last_use, nothing_of, standing_of}
+use Rattle.flat_why.specs.declared.reasons.HiddenReason.{HiddenReason}
+use Rattle.flat_why.specs.declared.reasons.HiddenReason.TheVariants.{Cycle, Parent}
+use Rattle.flat_why.specs.declared.reasons.AttachPoint.{AttachPoint}
+use Rattle.flat_why.specs.declared.reasons.AttachPoint.TheVariants.{OnDisplay, Below, Nowhere}
+use Rattle.flat_why.specs.Reasons.{last_use, nothing_of, standing_of}
 use Rattle.flat_why.specs.Hidden.{hidden_by, is_cyclic, node_of}
 use Rattle.flat_why.specs.Laws.{HiddenHaveCauses, IsOn, StandingsDecide}
 
@@ -48,13 +48,13 @@ some-unless true x = refl
 some-unless false x = refl
 
 module _ (setup : Setup) (shown : Shown) (nodes : List ViewNode) (node : (s : SessionNo) → is_some (node_of s nodes) ≡ is_joined setup shown s.0) (n : ℕ)
-    (stands : SessionNo → Standing) (s : SessionNo) where
-  pub by-standing : (standing : Standing) → IsTrue (is_joined setup shown s.0) ↔ IsOn setup shown standing
+    (stands : SessionNo → AttachPoint) (s : SessionNo) where
+  pub by-standing : (standing : AttachPoint) → IsTrue (is_joined setup shown s.0) ↔ IsOn setup shown standing
       → is_some (hidden_by n stands nodes s standing) ≡ not (is_some (node_of s nodes))
   by-standing OnDisplay both = sym (ap not (node s ∙ both.1 tt))
   by-standing (Nowhere cause) both = sym (ap not (node s ∙ never (is_joined setup shown s.0) both.0))
   by-standing (Below q) both =
-      let why : Hidden = cond (is_cyclic n stands s) Cycle (Parent q) in
+      let why : HiddenReason = cond (is_cyclic n stands s) Cycle (Parent q) in
       some-unless (is_some (node_of q nodes)) why ∙ ap not
       (node q ∙ sym (same-bools (is_joined setup shown s.0) (is_joined setup shown q.0) both.0 both.1) ∙ sym (node s))
 

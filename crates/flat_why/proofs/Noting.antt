@@ -18,9 +18,9 @@ use Rattle.flat_scene.specs.Setups.{is_declared}
 use Rattle.flat_facts.proofs.lemmas.Earlier.{begin-earlier, one-earlier, taken-earlier}
 use Rattle.flat_rules.specs.Ends.{to_begin}
 use Rattle.flat_rules.specs.Shown.{is_pair}
-use Rattle.flat_why.specs.declared.causes.Closing.{Closing}
-use Rattle.flat_why.specs.declared.causes.Due.{Due}
-use Rattle.flat_why.specs.Causes.{closing_by, closing_of, dues, dues_by, is_waiting, last_use, made_by, used_by}
+use Rattle.flat_why.specs.declared.reasons.CloseReason.{CloseReason}
+use Rattle.flat_why.specs.declared.reasons.MadePresent.{MadePresent}
+use Rattle.flat_why.specs.Reasons.{closing_by, closing_of, dues, dues_by, is_waiting, last_use, made_by, used_by}
 use Rattle.std.specs.Option.{option_or}
 use Rattle.flat_why.specs.Noted.{closings_in, uses_in, with_closing, with_use}
 
@@ -34,11 +34,11 @@ declared-number setup s is =
 
 -- ---- how sessions were closed
 
-nothing-new : (b : Bool) (before : Option Closing) → option_or (cond b None None) before ≡ before
+nothing-new : (b : Bool) (before : Option CloseReason) → option_or (cond b None None) before ≡ before
 nothing-new true before = refl
 nothing-new false before = refl
 
-pub closed-step : (setup : Setup) (old : List Entry) (entry : Entry) (s : SessionNo) (closings new : List (Option Closing)) → entry.actor ≡ Session s
+pub closed-step : (setup : Setup) (old : List Entry) (entry : Entry) (s : SessionNo) (closings new : List (Option CloseReason)) → entry.actor ≡ Session s
     → is_declared setup s ≡ true → length closings ≡ setup.sessions
     → new ≡ with_closing s (closing_by entry.line entry.reply) closings
     → ((t : SessionNo) → is_declared setup t ≡ true → closings_in closings t ≡ closing_of t old)
@@ -48,7 +48,7 @@ closed-step setup old entry s closings new mine known many is was t there = ap (
     after : closing_of t (old ▹ entry) ≡ option_or (cond (s.0 == t.0) (closing_by entry.line entry.reply) None) (closing_of t old)
     after = ap (λ (a : Actor). option_or (cond (is_session t a) (closing_by entry.line entry.reply) None) (closing_of t old)) mine
 
-    by : (c : Option Closing) → closings_in (with_closing s c closings) t ≡ option_or (cond (s.0 == t.0) c None) (closing_of t old)
+    by : (c : Option CloseReason) → closings_in (with_closing s c closings) t ≡ option_or (cond (s.0 == t.0) c None) (closing_of t old)
     by None = was t there ∙ sym (nothing-new (s.0 == t.0) (closing_of t old))
     by (Some closing) = by_test (eqb_tells s.0 t.0)
       where
@@ -126,7 +126,7 @@ is-not true wrong = absurd (cc)
 is-not false is = refl
 
 -- what waits at a begin was there before, or waited at the begin before
-pub waits-on : (setup : Setup) (old : List Entry) (entry : Entry) (due : Due) → is_waiting setup (old ▹ entry) due ≡ true
+pub waits-on : (setup : Setup) (old : List Entry) (entry : Entry) (due : MadePresent) → is_waiting setup (old ▹ entry) due ≡ true
     → is_waiting setup (to_begin old) due ≡ true
 waits-on setup old entry due waits =
     let unclosed : is_closed due.session (old ▹ entry) ≡ false =
@@ -149,7 +149,7 @@ filter-more p q (x ∷ xs) more = by (filter-more p q xs more) (q x) refl (p x) 
     by rest false is true it = absurd (let wrong : false ≡ true = sym is ∙ more x it in cc)
     by rest false is false it = rest ∙ sym (ap (λ b. cond b (x ∷ filter p xs) (filter p xs)) it)
 
-pub dues-begun : (setup : Setup) (old : List Entry) (entry : Entry) (kept : List Due) → kept ≡ filter (is_waiting setup (to_begin old)) (dues old)
+pub dues-begun : (setup : Setup) (old : List Entry) (entry : Entry) (kept : List MadePresent) → kept ≡ filter (is_waiting setup (to_begin old)) (dues old)
     → dues_by entry.actor entry.kind entry.reply ≡ []
     → filter (is_waiting setup (old ▹ entry)) kept ≡ filter (is_waiting setup (old ▹ entry)) (dues (old ▹ entry))
 dues-begun setup old entry kept is none =
@@ -157,6 +157,6 @@ dues-begun setup old entry kept is none =
     (waits-on setup old entry)
     ∙ sym (ap (λ ds. filter (is_waiting setup (old ▹ entry)) (dues old ++ ds)) none ∙ ap (filter (is_waiting setup (old ▹ entry))) (append-none (dues old)))
   where
-    append-none : (xs : List Due) → xs ++ [] ≡ xs
+    append-none : (xs : List MadePresent) → xs ++ [] ≡ xs
     append-none [] = refl
     append-none (x ∷ xs) = ap (λ ys. x ∷ ys) (append-none xs)

@@ -14,10 +14,10 @@ use Rattle.flat_scene.specs.Setups.{is_declared}
 use Rattle.flat_scene.specs.Heads.{is_pair_declared, may_own, owners_declared}
 use Rattle.flat_topology.specs.Shown.{is_shown_by, Shown, state_of}
 use Rattle.flat_rules.specs.Ends.{viewport_owner}
-use Rattle.flat_why.specs.declared.causes.Cause.{Cause}
-use Rattle.flat_why.specs.declared.causes.Cause.TheVariants.{Parted}
-use Rattle.flat_why.specs.declared.causes.Standing.TheVariants.{Below, Nowhere}
-use Rattle.flat_why.specs.Causes.{hanging_by, parting_of, standing_by, viewed_by}
+use Rattle.flat_why.specs.declared.reasons.DetachedReason.{DetachedReason}
+use Rattle.flat_why.specs.declared.reasons.DetachedReason.TheVariants.{Parted}
+use Rattle.flat_why.specs.declared.reasons.AttachPoint.TheVariants.{Below, Nowhere}
+use Rattle.flat_why.specs.Reasons.{hanging_by, parting_of, standing_by, viewed_by}
 
 all-at : {A : Type 0} (test : A → Bool) (xs : List A) (i : ℕ) (x : A) → list_all test xs ≡ true → slice_get xs i ≡ Some x → test x ≡ true
 all-at test [] i x all at = absurd (cc)
@@ -60,7 +60,7 @@ module _ (setup : Setup) (shown : Shown) (taken : SessionNo → ℕ) (last_use :
   viewed-declared None q is = absurd (cc)
   viewed-declared (Some p) q is = hanging-declared p (viewport_owner setup p) q refl is
 
-  pub parent-declared : (nothing : Cause) (state : Option Tree) (q : SessionNo) → standing_by setup shown taken last_use nothing state ≡ Below q
+  pub parent-declared : (nothing : DetachedReason) (state : Option Tree) (q : SessionNo) → standing_by setup shown taken last_use nothing state ≡ Below q
       → is_declared setup q ≡ true
   parent-declared nothing None q is = absurd (cc)
   parent-declared nothing (Some tree) q is = viewed-declared tree.view q is

@@ -16,8 +16,8 @@ use Rattle.flat_page.specs.Words.{text_of}
 use Rattle.flat_places.specs.declared.script.Script.{Script}
 use Rattle.flat_scene.specs.declared.calls.PresentArgs.{PresentArgs}
 use Rattle.flat_scene.specs.declared.journal.Entry.{Entry}
-use Rattle.flat_scene.specs.declared.journal.Kind.{Kind}
-use Rattle.flat_scene.specs.declared.journal.Kind.TheVariants as kind
+use Rattle.flat_scene.specs.declared.journal.EntryKind.{EntryKind}
+use Rattle.flat_scene.specs.declared.journal.EntryKind.TheVariants as kind
 use Rattle.flat_scene.specs.declared.journal.Reply.{Reply}
 use Rattle.flat_scene.specs.declared.journal.Reply.TheVariants as reply
 use Rattle.flat_scene.specs.declared.setup.Setup.{Setup}
@@ -28,10 +28,10 @@ use Rattle.flat_facts.proofs.lemmas.Earlier.{begin-earlier, taken-fits}
 use Rattle.flat_rules.specs.Ends.{to_begin}
 use Rattle.flat_rules.specs.Legal.{LegalEntry, frames, goes_on, is_frame_open, may_act, owns_all, owns_fence, owns_in_kind, reply_to, session_may}
 use Rattle.flat_rules.proofs.lemmas.FrameKinds.{not-begin, not-finish}
-use Rattle.flat_why.specs.declared.causes.Closing.{Closing}
-use Rattle.flat_why.specs.declared.causes.Due.{Due}
-use Rattle.flat_why.specs.declared.whys.Whys.{Whys}
-use Rattle.flat_why.specs.Causes.{closing_by, dues, dues_by, is_waiting, made_by, standing_of, used_by, waits_at}
+use Rattle.flat_why.specs.declared.reasons.CloseReason.{CloseReason}
+use Rattle.flat_why.specs.declared.reasons.MadePresent.{MadePresent}
+use Rattle.flat_why.specs.declared.reason_tracker.ReasonTracker.{ReasonTracker}
+use Rattle.flat_why.specs.Reasons.{closing_by, dues, dues_by, is_waiting, made_by, standing_of, used_by, waits_at}
 use Rattle.flat_why.specs.Noted.{with_closing, with_use, IsKnown, WhysStand}
 use Rattle.flat_why.specs.Text.{why_lines, whys_at}
 use Rattle.flat_why.proofs.Noting.{closed-step, open-begin, used-step}
@@ -62,7 +62,7 @@ presented-number true n m left c refused none is = let same : reply.Presented m 
 presented-number false n m left c refused none is = absurd (none m c (sym is))
 
 -- What a session's entry makes waits, and is known.
-pub record DuesStand (setup : Setup) (old : List Entry) (made : List Due) : Type 0 where
+pub record DuesStand (setup : Setup) (old : List Entry) (made : List MadePresent) : Type 0 where
   pub waits : filter (is_waiting setup (to_begin old)) made ≡ made
   pub known : All (IsKnown setup) made
 
@@ -89,7 +89,7 @@ module _ (setup : Setup) (old : List Entry) (entry : Entry) (s : SessionNo) (leg
     known = All-cons (IsKnown setup) due [] (record { session = declared; acquire = below }) (λ k d low. absurd (omega (arith, low)));
   }
     where
-      due : Due
+      due : MadePresent
       due = record { session = s; number = number; time = args.time; acquire = args.acquire }
 
       replied : reply.Presented number left ≡ reply_to setup old (Session s) entry.calls (kind.Present args)
@@ -119,7 +119,7 @@ module _ (setup : Setup) (old : List Entry) (entry : Entry) (s : SessionNo) (leg
       below : All (λ f. f.0 < length setup.fences) args.acquire
       below = owned-below setup s args.acquire (and-left (list_all (owns_fence setup s) args.acquire) (list_all (owns_fence setup s) args.release) owned)
 
-  dues-stand : (k : Kind) (r : Reply) → entry.kind ≡ k → entry.reply ≡ r → DuesStand setup old (dues_by (Session s) k r)
+  dues-stand : (k : EntryKind) (r : Reply) → entry.kind ≡ k → entry.reply ≡ r → DuesStand setup old (dues_by (Session s) k r)
   dues-stand (kind.Present args) (reply.Presented number left) is answered = made-stands args number left is answered
   dues-stand _ _ is answered = no-dues setup old
 
@@ -142,7 +142,7 @@ module _ (setup : Setup) (old : List Entry) (entry : Entry) (s : SessionNo) (leg
       ∙ append-nil (why_lines script old)
 
 -- the whole step
-pub session-noted : (script : Script) (old history : List Entry) (entry : Entry) (s : SessionNo) (was now : Whys) → history ≡ (old ▹ entry)
+pub session-noted : (script : Script) (old history : List Entry) (entry : Entry) (s : SessionNo) (was now : ReasonTracker) → history ≡ (old ▹ entry)
     → LegalEntry script.setup old entry → entry.actor ≡ Session s → WhysStand script old was
     → now.closings.items ≡ with_closing s (closing_by entry.line entry.reply) was.closings.items
     → now.last_uses.items ≡ with_use (used_by entry.kind entry.reply) (length (presents s history)) was.last_uses.items
@@ -184,7 +184,7 @@ session-noted script old history entry s was now is legal mine stands closings u
     made : length (presents s history) ≡ made_by entry.actor (old ▹ entry)
     made = ap (λ h. length (presents s h)) is ∙ ap (λ (a : Actor). made_by a (old ▹ entry)) (sym mine)
 
-pub length-closings : (s : SessionNo) (c : Option Closing) (xs : List (Option Closing)) → length (with_closing s c xs) ≡ length xs
+pub length-closings : (s : SessionNo) (c : Option CloseReason) (xs : List (Option CloseReason)) → length (with_closing s c xs) ≡ length xs
 length-closings s None xs = refl
 length-closings s (Some closing) xs = length-set xs (s.0 - 1) (Some closing)
 

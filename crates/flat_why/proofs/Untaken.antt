@@ -16,16 +16,16 @@ use Rattle.flat_rules.specs.Legal.{Legal, LegalEntry, reply_to}
 use Rattle.flat_scene.specs.declared.calls.Call.{Call}
 use Rattle.flat_scene.specs.declared.calls.PresentArgs.{PresentArgs}
 use Rattle.flat_scene.specs.declared.journal.Entry.{Entry}
-use Rattle.flat_scene.specs.declared.journal.Kind.{Kind}
-use Rattle.flat_scene.specs.declared.journal.Kind.TheVariants as kind
+use Rattle.flat_scene.specs.declared.journal.EntryKind.{EntryKind}
+use Rattle.flat_scene.specs.declared.journal.EntryKind.TheVariants as kind
 use Rattle.flat_scene.specs.declared.journal.Reply.{Reply}
 use Rattle.flat_scene.specs.declared.journal.Reply.TheVariants as reply
 use Rattle.flat_scene.specs.declared.setup.Setup.{Setup}
 use Rattle.flat_scene.specs.Frames.{credits, taken}
 use Rattle.flat_scene.specs.History.{◌▹◌, calls, is_closed, is_session, presents, published, Published}
 use Rattle.flat_scene.proofs.lemmas.Steps.{presents-other, presents-own}
-use Rattle.flat_why.specs.declared.causes.Due.{Due}
-use Rattle.flat_why.specs.Causes.{dues, dues_by, is_waiting, waiting_of}
+use Rattle.flat_why.specs.declared.reasons.MadePresent.{MadePresent}
+use Rattle.flat_why.specs.Reasons.{dues, dues_by, is_waiting, waiting_of}
 use Rattle.flat_why.specs.Laws.{UntakenPresentsWait, is_said_to_wait}
 use Rattle.flat_why.proofs.SessionEntries.{presented-number}
 
@@ -38,7 +38,7 @@ no-more = []
 -- ---- the presents of a session are those of its numbers
 
 module _ (s : SessionNo) (k : ℕ) where
-  abbrev is_it : Due → Bool
+  abbrev is_it : MadePresent → Bool
   is_it due = due.session.0 == s.0 && due.number == k
 
   nothing-new : (n : ℕ) → (nat_le k n || false) ≡ nat_le k (n + 0)
@@ -52,14 +52,14 @@ module _ (s : SessionNo) (k : ℕ) where
       by (inr apart) = let test = apart.0 in let e = apart.1 in grind (arith, nat_tests, is, test, e)
 
   -- what an entry adds
-  told-step : (a : Actor) (kd : Kind) (r : Reply) (made : List Call) (n : ℕ)
+  told-step : (a : Actor) (kd : EntryKind) (r : Reply) (made : List Call) (n : ℕ)
       → ((args : PresentArgs) (number left : ℕ) → is_session s a ≡ true → kd ≡ kind.Present args → r ≡ reply.Presented number left → number ≡ n + 1)
       → (nat_le k n || list_any is_it (dues_by a kd r)) ≡ nat_le k (n + length (cond (is_session s a) (published kd r made) []))
   told-step Display kd r made n numbered = nothing-new n
   told-step (Probe m) kd r made n numbered = nothing-new n
   told-step (Session t) kd r made n numbered = by-kind kd r refl refl
     where
-      by-kind : (x : Kind) (y : Reply) → kd ≡ x → r ≡ y → (nat_le k n || list_any is_it (dues_by (Session t) x y))
+      by-kind : (x : EntryKind) (y : Reply) → kd ≡ x → r ≡ y → (nat_le k n || list_any is_it (dues_by (Session t) x y))
           ≡ nat_le k (n + length (cond (t.0 == s.0) (published x y made) []))
       by-kind (kind.Present args) (reply.Presented number left) is answered = by (t.0 == s.0) refl
         where
@@ -121,13 +121,14 @@ module _ (s : SessionNo) (k : ℕ) where
       abbrev waits : Bool
       waits = not (is_closed s begun) && nat_lt (taken setup begun s) k
 
-      its-own : (due : Due) → is_it due ≡ true → is_waiting setup begun due ≡ waits
+      its-own : (due : MadePresent) → is_it due ≡ true → is_waiting setup begun due ≡ waits
       its-own due it =
           let who : due.session.0 ≡ s.0 = eqb-true due.session.0 s.0 (and-left (due.session.0 == s.0) (due.number == k) it) in
           let which : due.number ≡ k = eqb-true due.number k (and-right (due.session.0 == s.0) (due.number == k) it) in
           (λ i. not (is_closed (session (who i)) begun) && nat_lt (taken setup begun (session (who i))) (which i))
 
-      said-by : (all : List Due) → is_said_to_wait (map (waiting_of setup begun) (filter (is_waiting setup begun) all)) s k ≡ (waits && list_any is_it all)
+      said-by : (all : List MadePresent) → is_said_to_wait (map (waiting_of setup begun) (filter (is_waiting setup begun) all)) s k
+          ≡ (waits && list_any is_it all)
       said-by [] = by waits
         where
           by : (b : Bool) → false ≡ (b && false)

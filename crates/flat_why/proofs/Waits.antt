@@ -9,12 +9,12 @@ use Rattle.flat_scene.specs.declared.journal.Entry.{Entry}
 use Rattle.flat_scene.specs.declared.journal.Reply.{Reply}
 use Rattle.flat_scene.specs.declared.journal.Reply.TheVariants as reply
 use Rattle.flat_scene.specs.History.{◌▹◌, closes, is_closed, is_session, own}
-use Rattle.flat_why.specs.declared.causes.Closing.{Closing}
-use Rattle.flat_why.specs.Causes.{closing_by, closing_of}
+use Rattle.flat_why.specs.declared.reasons.CloseReason.{CloseReason}
+use Rattle.flat_why.specs.Reasons.{closing_by, closing_of}
 use Rattle.std.specs.Option.{option_or}
 
 -- a session was closed exactly where it is known how
-closed-by : (line : ℕ) (r : Reply) (before : Option Closing) → is_some (option_or (closing_by line r) before) ≡ (closes r || is_some before)
+closed-by : (line : ℕ) (r : Reply) (before : Option CloseReason) → is_some (option_or (closing_by line r) before) ≡ (closes r || is_some before)
 closed-by line (reply.Closed error reason) before = refl
 closed-by line _ before = refl
 

@@ -20,18 +20,18 @@ use Rattle.flat_scene.specs.Heads.{has_one_display_pair}
 use Rattle.flat_topology.specs.Fit.{FitsSetup}
 use Rattle.flat_topology.specs.Join.{is_joined}
 use Rattle.flat_topology.specs.Shown.{Shown}
-use Rattle.flat_why.specs.declared.causes.Blank.{Blank}
-use Rattle.flat_why.specs.declared.causes.Cause.{Cause}
-use Rattle.flat_why.specs.declared.causes.Hidden.{Hidden}
-use Rattle.flat_why.specs.declared.causes.Standing.{Standing}
-use Rattle.flat_why.specs.declared.causes.Standing.TheVariants.{OnDisplay, Below, Nowhere}
-use Rattle.flat_why.specs.declared.causes.Waiting.{Waiting}
-use Rattle.flat_why.specs.Causes.{standing_in, waits_at}
+use Rattle.flat_why.specs.declared.reasons.BlankReason.{BlankReason}
+use Rattle.flat_why.specs.declared.reasons.DetachedReason.{DetachedReason}
+use Rattle.flat_why.specs.declared.reasons.HiddenReason.{HiddenReason}
+use Rattle.flat_why.specs.declared.reasons.AttachPoint.{AttachPoint}
+use Rattle.flat_why.specs.declared.reasons.AttachPoint.TheVariants.{OnDisplay, Below, Nowhere}
+use Rattle.flat_why.specs.declared.reasons.PendingPresent.{PendingPresent}
+use Rattle.flat_why.specs.Reasons.{standing_in, waits_at}
 use Rattle.flat_why.specs.Hidden.{hidden_of, node_of}
 use Rattle.flat_why.specs.Text.{line_by}
 
 -- a session that stands so is on the display: it hangs there, or below one that is
-abbrev pub IsOn : Setup → Shown → Standing → Type 0
+abbrev pub IsOn : Setup → Shown → AttachPoint → Type 0
 IsOn setup shown OnDisplay = ⊤
 IsOn setup shown (Below parent) = IsTrue (is_joined setup shown parent.0)
 IsOn setup shown (Nowhere cause) = ⊥
@@ -39,7 +39,7 @@ IsOn setup shown (Nowhere cause) = ⊥
 -- A session is in the view tree if and only if it hangs on the display, or below a session that is in it.
 abbrev pub StandingsDecide : Type 0
 StandingsDecide = (setup : Setup) (shown : Shown) (taken : SessionNo → ℕ) (last_use : PairNo → Option ℕ)
-    (nothing : Cause) → FitsSetup setup shown → has_one_display_pair setup ≡ true
+    (nothing : DetachedReason) → FitsSetup setup shown → has_one_display_pair setup ≡ true
     → (s : SessionNo) → IsTrue (is_joined setup shown s.0)
     ↔ IsOn setup shown (standing_in setup shown taken last_use nothing s)
 
@@ -57,12 +57,13 @@ SaysItems line items = slice_get line 7 ≡ Some (number items)
 -- A session is said to draw so many items if and only if so many of the frame's items are its own.
 abbrev pub OwnItemsAreSaid : Type 0
 OwnItemsAreSaid = (script : Script) (frame : FrameOut) → length frame.items < 2 ^ 64
-    → (s : SessionNo) (hidden : Option Hidden) (blank : Blank) (node : ViewNode) (items : ℕ) → items < 2 ^ 64
+    → (s : SessionNo) (hidden : Option HiddenReason) (blank : BlankReason) (node : ViewNode) (items : ℕ)
+    → items < 2 ^ 64
     → SaysItems (line_by script frame s hidden blank (Some node)) items
     ↔ (length (filter (λ item. item.session.0 == s.0) frame.items) ≡ items)
 
 -- whether a session's present of a number is said to wait
-abbrev pub is_said_to_wait : List Waiting → SessionNo → ℕ → Bool
+abbrev pub is_said_to_wait : List PendingPresent → SessionNo → ℕ → Bool
 is_said_to_wait waits s k = list_any (λ waiting. waiting.session.0 == s.0 && waiting.number == k) waits
 
 -- A present is said to wait if and only if its session is open and no frame took it.

@@ -1,5 +1,5 @@
 pub mod Blanks
-pub mod Causes
+pub mod Reasons
 pub mod Hidden
 pub mod Laws
 pub mod Noted

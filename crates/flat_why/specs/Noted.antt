@@ -19,25 +19,25 @@ use Rattle.flat_scene.specs.History.{◌▹◌}
 use Rattle.flat_scene.specs.Setups.{at_ratio, is_declared}
 use Rattle.flat_topology.specs.Place.{placed_nodes}
 use Rattle.flat_topology.specs.Shown.{Shown, state_of}
-use Rattle.flat_why.specs.declared.causes.Closing.{Closing}
-use Rattle.flat_why.specs.declared.causes.Due.{Due}
-use Rattle.flat_why.specs.declared.causes.Standing.{Standing}
-use Rattle.flat_why.specs.declared.causes.Standing.TheVariants.{OnDisplay}
-use Rattle.flat_why.specs.declared.whys.Whys.{Whys}
-use Rattle.flat_why.specs.Causes.{closing_of, dues, is_waiting, last_use, standing_of, waits_at}
+use Rattle.flat_why.specs.declared.reasons.CloseReason.{CloseReason}
+use Rattle.flat_why.specs.declared.reasons.MadePresent.{MadePresent}
+use Rattle.flat_why.specs.declared.reasons.AttachPoint.{AttachPoint}
+use Rattle.flat_why.specs.declared.reasons.AttachPoint.TheVariants.{OnDisplay}
+use Rattle.flat_why.specs.declared.reason_tracker.ReasonTracker.{ReasonTracker}
+use Rattle.flat_why.specs.Reasons.{closing_of, dues, is_waiting, last_use, standing_of, waits_at}
 use Rattle.flat_why.specs.Blanks.{blank_of}
 use Rattle.flat_why.specs.Hidden.{hidden_in, node_of}
 use Rattle.flat_why.specs.Text.{line_by, why_lines}
 
 -- ---- what is kept of a session, and of a pair
 
-abbrev pub closings_in : List (Option Closing) → SessionNo → Option Closing
+abbrev pub closings_in : List (Option CloseReason) → SessionNo → Option CloseReason
 closings_in closings s = slice_index_or closings (s.0 - 1) None
 
 abbrev pub uses_in : List (Option ℕ) → PairNo → Option ℕ
 uses_in uses p = slice_index_or uses p.0 None
 
-abbrev pub stands_in : List Standing → SessionNo → Standing
+abbrev pub stands_in : List AttachPoint → SessionNo → AttachPoint
 stands_in standings s = slice_index_or standings (s.0 - 1) OnDisplay
 
 -- how many items a session has
@@ -50,14 +50,14 @@ with_item s counts =
     cond (nat_lt 0 s.0 && nat_le s.0 (length counts)) (slice_set counts (s.0 - 1) (counts_in counts s + 1)) counts
 
 -- the line of a session of a frame, by the states and the ratio of which it is composed and by where all sessions hang
-abbrev pub session_line : Script → ℕ → Shown → FrameOut → List Standing → SessionNo → List Word
+abbrev pub session_line : Script → ℕ → Shown → FrameOut → List AttachPoint → SessionNo → List Word
 session_line script ratio shown frame standings s =
     line_by script frame s (hidden_in (length standings) (stands_in standings) frame.tree.nodes s)
     (blank_of (state_of shown s.0) s (placed_nodes (at_ratio ratio script.setup) shown)) (node_of s frame.tree.nodes)
 
 -- ---- what an entry changes
 
-abbrev pub with_closing : SessionNo → Option Closing → List (Option Closing) → List (Option Closing)
+abbrev pub with_closing : SessionNo → Option CloseReason → List (Option CloseReason) → List (Option CloseReason)
 with_closing s None closings = closings
 with_closing s (Some closing) closings = slice_set closings (s.0 - 1) (Some closing)
 
@@ -75,26 +75,26 @@ abbrev pub newest : List Entry → Option Entry
 newest [] = None
 newest (before ▹ entry) = Some entry
 
-abbrev pub as_list : Option Due → List Due
+abbrev pub as_list : Option MadePresent → List MadePresent
 as_list None = []
 as_list (Some due) = due ∷ []
 
 -- ---- what stands for the history
 
 -- A present is one of a declared session, and waits for declared fences.
-pub record IsKnown (setup : Setup) (due : Due) : Type 0 where
+pub record IsKnown (setup : Setup) (due : MadePresent) : Type 0 where
   pub session : is_declared setup due.session ≡ true
   pub acquire : All (λ f. f.0 < length setup.fences) due.acquire
 
 -- The lines of all frames that are finished are written.
-pub record WhysTell (script : Script) (history : List Entry) (whys : Whys) : Type 0 where
+pub record WhysTell (script : Script) (history : List Entry) (whys : ReasonTracker) : Type 0 where
   pub frames : whys.frames ≡ frames history
   pub text : whys.page ≡ text_of (why_lines script history)
 
 -- What is kept is what the rules say of the history: how sessions were closed, the last uses of viewport
 -- ends, and the presents that may still wait; and of the frame begun last, while it is open, where sessions
 -- hang and what waits.
-pub record WhysStand (script : Script) (history : List Entry) (whys : Whys) : Type 0 where
+pub record WhysStand (script : Script) (history : List Entry) (whys : ReasonTracker) : Type 0 where
   pub sessions : length whys.closings.items ≡ script.setup.sessions
   pub pairs : length whys.last_uses.items ≡ length script.setup.pairs
   pub count : length whys.standings.items ≡ script.setup.sessions

@@ -8,13 +8,13 @@ ghost use Rattle.flat_topology.specs.Shown.{state_of, nodes_of};
 ghost use Rattle.flat_why.specs.Blanks.{painted_size, paints, is_seen, has_area, has_size};
 ghost use Rattle.flat_why.specs.Blanks.{some_node, some_paint, unseen_of, blank_of};
 
-use crate::causes::Blank;
+use crate::reasons::BlankReason;
 use flat_base::{NoMemory, SESSIONS_MAX, SessionNo};
 use flat_geom::{Matrix, is_empty, map_rect, sized};
-use flat_join::{Shown, join};
+use flat_join::{ShownStates, join};
 use flat_scene::{Content, Setup};
 use flat_snap::Snapshot;
-use flat_topology::Placed;
+use flat_topology::PlacedNode;
 use std::alloc::Global;
 
 /// The size at which a content is painted.
@@ -35,7 +35,7 @@ fn paints(content: Option<Content>) -> bool
 }
 
 /// Whether a node paints, and is seen through with an opacity that isn't 0.
-fn is_seen(at: &Placed) -> bool
+fn is_seen(at: &PlacedNode) -> bool
     ensures { result ≡ is_seen at.now }
 {
     paints(at.content) && at.opacity != 0
@@ -51,35 +51,35 @@ fn has_area(m: Matrix, size: Option<(u32, u32)>) -> bool
 }
 
 /// Whether what a node paints has a point on an endless display.
-fn has_size(at: &Placed) -> bool
+fn has_size(at: &PlacedNode) -> bool
     ensures { result ≡ has_size at.now }
 {
     is_seen(at) && has_area(at.matrix, painted_size(at.content))
 }
 
-fn some_seen(s: SessionNo, nodes: &[Placed]) -> bool
+fn some_seen(s: SessionNo, nodes: &[PlacedNode]) -> bool
     ensures { result ≡ some_node s is_seen nodes.now }
 {
     nodes.iter().any(|at| at.session.0 == s.0 && is_seen(at))
 }
 
-fn some_sized(s: SessionNo, nodes: &[Placed]) -> bool
+fn some_sized(s: SessionNo, nodes: &[PlacedNode]) -> bool
     ensures { result ≡ some_node s has_size nodes.now }
 {
     nodes.iter().any(|at| at.session.0 == s.0 && has_size(at))
 }
 
 /// Why none of a session's nodes that paint is drawn.
-fn unseen(s: SessionNo, nodes: &[Placed]) -> Blank
+fn unseen(s: SessionNo, nodes: &[PlacedNode]) -> BlankReason
     ensures { result ≡ unseen_of s nodes.now }
 {
     if !some_seen(s, nodes) {
-        return Blank::Transparent;
+        return BlankReason::Transparent;
     }
     if !some_sized(s, nodes) {
-        return Blank::Sizeless;
+        return BlankReason::Sizeless;
     }
-    Blank::Clipped
+    BlankReason::Clipped
 }
 
 /// Whether a state has no root.
@@ -106,9 +106,9 @@ pub fn why_blank(
     alloc: Global,
     setup: &Setup,
     ratio: u32,
-    shown: &Shown,
+    shown: &ShownStates,
     s: SessionNo,
-) -> Result<Blank, NoMemory>
+) -> Result<BlankReason, NoMemory>
     requires some { 0 < s.0 }
     requires few { s.0 ≤ length shown.now }
     requires made { length shown.now ≡ setup.now.sessions }
@@ -118,13 +118,13 @@ pub fn why_blank(
         (placed_nodes (at_ratio ratio setup.now) shown.now)) }
 {
     let Some(state) = shown.state(s) else {
-        return Ok(Blank::Rootless);
+        return Ok(BlankReason::Rootless);
     };
     if is_rootless(state) {
-        return Ok(Blank::Rootless);
+        return Ok(BlankReason::Rootless);
     }
     if !some_paints(state) {
-        return Ok(Blank::Contentless);
+        return Ok(BlankReason::Contentless);
     }
     let joined = join(alloc, shown, setup, ratio)?;
     Ok(unseen(s, joined.nodes.as_slice()))

@@ -1,24 +1,24 @@
-//! Which presents wait, and what holds them back (specs/Causes).
+//! Which presents wait, and what holds them back (specs/Reasons).
 ghost use Rattle.std.specs.Prelude.{◌≡◌, ◌==◌, suc, true, not, None, length, find};
 ghost use Rattle.flat_rules.specs.Legal.{begin_time};
 ghost use Rattle.flat_scene.specs.Frames.{is_signalled};
 ghost use Rattle.flat_scene.specs.History.{is_closed};
 ghost use Rattle.flat_scene.specs.Setups.{is_declared};
-ghost use Rattle.flat_why.specs.Causes.{closing_of, hold_of, is_waiting, waiting_of};
+ghost use Rattle.flat_why.specs.Reasons.{closing_of, hold_of, is_waiting, waiting_of};
 ghost use Rattle.flat_why.specs.Noted.{closings_in, IsKnown};
 
-use crate::causes::{Closing, Due, Hold, Waiting};
+use crate::reasons::{CloseReason, HoldReason, MadePresent, PendingPresent};
 use crate::standings::taken;
 use flat_base::{Actor, FenceNo, SessionNo};
 use flat_core::Board;
-use flat_scene::Cond;
+use flat_scene::WaitCondition;
 
 /// Whether a fence is signalled, as a session may ask.
 fn is_signalled(board: &Board, s: SessionNo, f: FenceNo) -> bool
     requires { is_declared board.now.setup s ≡ true }
     ensures { result ≡ is_signalled board.now.setup board.now.history f }
 {
-    board.value(Actor::Session(s), Cond::Fence(f)) > 0
+    board.value(Actor::Session(s), WaitCondition::Fence(f)) > 0
 }
 
 /// The first of a session's fences that isn't signalled.
@@ -36,25 +36,25 @@ fn first_unsignalled(board: &Board, s: SessionNo, acquire: &[FenceNo]) -> Option
 }
 
 /// What holds a present back at a time.
-fn hold_of(board: &Board, now: u64, is_first: bool, due: &Due) -> Hold
+fn hold_of(board: &Board, now: u64, is_first: bool, due: &MadePresent) -> HoldReason
     requires { is_declared board.now.setup due.now.session ≡ true }
     ensures { result
         ≡ hold_of now (is_signalled board.now.setup board.now.history) is_first due.now }
 {
     if now < due.time {
-        return Hold::Time(due.time);
+        return HoldReason::Time(due.time);
     }
     if let Some(f) = first_unsignalled(board, due.session, due.acquire.as_slice()) {
-        return Hold::Fence(f);
+        return HoldReason::Fence(f);
     }
     if is_first {
-        return Hold::Unsquashable;
+        return HoldReason::Unsquashable;
     }
-    Hold::Behind
+    HoldReason::Behind
 }
 
 /// Whether a session was closed.
-fn is_closed(closings: &[Option<Closing>], board: &Board, s: SessionNo) -> bool
+fn is_closed(closings: &[Option<CloseReason>], board: &Board, s: SessionNo) -> bool
     requires declared { is_declared board.now.setup s ≡ true }
     requires sessions { length closings.now ≡ board.now.setup.sessions }
     requires closed { (s : SessionNo) → is_declared board.now.setup s ≡ true →
@@ -65,7 +65,7 @@ fn is_closed(closings: &[Option<Closing>], board: &Board, s: SessionNo) -> bool
 }
 
 /// Whether a present waits.
-pub fn is_waiting(closings: &[Option<Closing>], board: &Board, due: &Due) -> bool
+pub fn is_waiting(closings: &[Option<CloseReason>], board: &Board, due: &MadePresent) -> bool
     requires known { IsKnown board.now.setup due.now }
     requires sessions { length closings.now ≡ board.now.setup.sessions }
     requires closed { (s : SessionNo) → is_declared board.now.setup s ≡ true →
@@ -87,13 +87,13 @@ fn is_next(number: u32, before: u32) -> bool
 }
 
 /// A present that waits, with what holds it.
-pub fn waiting_of(board: &Board, time: u64, due: &Due) -> Waiting
+pub fn waiting_of(board: &Board, time: u64, due: &MadePresent) -> PendingPresent
     requires time { time ≡ begin_time board.now.history }
     requires known { IsKnown board.now.setup due.now }
     ensures { result ≡ waiting_of board.now.setup board.now.history due.now }
 {
     let is_first = is_next(due.number, taken(board, due.session));
-    Waiting {
+    PendingPresent {
         session: due.session,
         number: due.number,
         hold: hold_of(board, time, is_first, due),

@@ -1,4 +1,4 @@
-//! Where a session hangs, or why it hangs nowhere (specs/Causes).
+//! Where a session hangs, or why it hangs nowhere (specs/Reasons).
 ghost use Rattle.std.specs.Prelude.{◌≡◌, ◌<◌, ◌≤◌, true, length, slice_index_or, Option, Some, None, option_map};
 ghost use Rattle.std.specs.Option.{option_copied};
 ghost use Rattle.std.specs.List.{list_any};
@@ -10,15 +10,15 @@ ghost use Rattle.flat_snap.specs.Flat.{flat_nodes};
 ghost use Rattle.flat_join.specs.Distances.{leads_to};
 ghost use Rattle.flat_topology.specs.Shown.{is_shown_by, state_of};
 ghost use Rattle.flat_rules.specs.Ends.{viewport_owner};
-ghost use Rattle.flat_why.specs.Causes.{has_viewport, parting_of, hanging_by, viewed_by, standing_in, nothing_by};
-ghost use Rattle.flat_why.specs.Causes.{first_of};
+ghost use Rattle.flat_why.specs.Reasons.{has_viewport, parting_of, hanging_by, viewed_by, standing_in, nothing_by};
+ghost use Rattle.flat_why.specs.Reasons.{first_of};
 ghost use Rattle.flat_why.specs.Noted.{uses_in};
 
-use crate::causes::{Cause, Closing, Parting, Standing, Waiting};
+use crate::reasons::{AttachPoint, CloseReason, DetachedReason, PendingPresent, UnplacedReason};
 use flat_base::{Actor, PairNo, SessionNo};
 use flat_core::Board;
-use flat_join::Shown;
-use flat_scene::{Cond, Content, Setup};
+use flat_join::ShownStates;
+use flat_scene::{Content, Setup, WaitCondition};
 use flat_snap::Snapshot;
 
 /// How many presents of a session frames have taken.
@@ -26,7 +26,7 @@ pub fn taken(board: &Board, s: SessionNo) -> u32
     requires { is_declared board.now.setup s ≡ true }
     ensures { result ≡ taken board.now.setup board.now.history s }
 {
-    board.value(Actor::Session(s), Cond::Taken(0))
+    board.value(Actor::Session(s), WaitCondition::Taken(0))
 }
 
 /// Whether a content is a viewport of a pair.
@@ -52,7 +52,7 @@ fn is_on_node(state: &Snapshot, p: PairNo) -> bool
 }
 
 /// Whether a session shows a viewport of a pair.
-fn is_shown_by(shown: &Shown, p: PairNo, q: SessionNo) -> bool
+fn is_shown_by(shown: &ShownStates, p: PairNo, q: SessionNo) -> bool
     requires some { 0 < q.0 }
     requires few { q.0 ≤ length shown.now }
     ensures { result ≡ is_shown_by shown.now p.0 q.0 }
@@ -72,24 +72,30 @@ fn has_viewport(state: &Snapshot, p: PairNo) -> bool
 }
 
 /// Why a viewport is on no node of what its owner shows.
-fn why_parted(shown: &Shown, p: PairNo, q: SessionNo, taken: u32, last_use: Option<u32>) -> Parting
+fn why_parted(
+    shown: &ShownStates,
+    p: PairNo,
+    q: SessionNo,
+    taken: u32,
+    last_use: Option<u32>,
+) -> UnplacedReason
     requires some { 0 < q.0 }
     requires few { q.0 ≤ length shown.now }
     ensures { result ≡ parting_of p (state_of shown.now q.0) taken last_use }
 {
     let Some(made) = last_use else {
-        return Parting::Unmade;
+        return UnplacedReason::Unmade;
     };
     let Some(state) = shown.state(q) else {
-        return Parting::Unshown;
+        return UnplacedReason::Unshown;
     };
     if has_viewport(state, p) {
-        return Parting::Loose;
+        return UnplacedReason::Loose;
     }
     if made < taken {
-        return Parting::Ended;
+        return UnplacedReason::Ended;
     }
-    Parting::Unshown
+    UnplacedReason::Unshown
 }
 
 /// The number of presents at the last use of a pair's viewport end.
@@ -105,11 +111,11 @@ fn use_of(last_uses: &[Option<u32>], p: PairNo) -> Option<u32>
 /// Where a view hangs whose pair's viewport end a session owns.
 fn hanging_below(
     board: &Board,
-    shown: &Shown,
+    shown: &ShownStates,
     last_uses: &[Option<u32>],
     p: PairNo,
     q: SessionNo,
-) -> Standing
+) -> AttachPoint
     requires owner { is_declared board.now.setup q ≡ true }
     requires made { length shown.now ≡ board.now.setup.sessions }
     ensures { result ≡ hanging_by board.now.setup shown.now
@@ -117,10 +123,10 @@ fn hanging_below(
         (Some (Session q)) }
 {
     if is_shown_by(shown, p, q) {
-        return Standing::Below(q);
+        return AttachPoint::Below(q);
     }
     let why = why_parted(shown, p, q, taken(board, q), use_of(last_uses, p));
-    Standing::Nowhere(Cause::Parted {
+    AttachPoint::Nowhere(DetachedReason::Parted {
         parent: q,
         pair: p,
         why,
@@ -137,27 +143,27 @@ fn viewport_owner(setup: &Setup, p: PairNo) -> Option<Actor>
 }
 
 /// Where the view of a pair hangs.
-fn hanging(board: &Board, shown: &Shown, last_uses: &[Option<u32>], p: PairNo) -> Standing
+fn hanging(board: &Board, shown: &ShownStates, last_uses: &[Option<u32>], p: PairNo) -> AttachPoint
     requires owners { owners_declared board.now.setup ≡ true }
     requires made { length shown.now ≡ board.now.setup.sessions }
     ensures { result ≡ viewed_by board.now.setup shown.now
         (taken board.now.setup board.now.history) (uses_in last_uses.now) (Some p) }
 {
     match viewport_owner(board.setup(), p) {
-        Some(Actor::Display) => Standing::OnDisplay,
+        Some(Actor::Display) => AttachPoint::OnDisplay,
         Some(Actor::Session(q)) => hanging_below(board, shown, last_uses, p, q),
-        _ => Standing::Nowhere(Cause::Viewless),
+        _ => AttachPoint::Nowhere(DetachedReason::Viewless),
     }
 }
 
 /// Where a session hangs, where it is known why, if nothing is shown of it.
 pub fn standing_at(
     board: &Board,
-    shown: &Shown,
+    shown: &ShownStates,
     last_uses: &[Option<u32>],
-    nothing: Cause,
+    nothing: DetachedReason,
     s: SessionNo,
-) -> Standing
+) -> AttachPoint
     requires declared { is_declared board.now.setup s ≡ true }
     requires owners { owners_declared board.now.setup ≡ true }
     requires made { length shown.now ≡ board.now.setup.sessions }
@@ -165,16 +171,16 @@ pub fn standing_at(
         (taken board.now.setup board.now.history) (uses_in last_uses.now) nothing s }
 {
     let Some(state) = shown.state(s) else {
-        return Standing::Nowhere(nothing);
+        return AttachPoint::Nowhere(nothing);
     };
     match state.view() {
         Some(p) => hanging(board, shown, last_uses, p),
-        None => Standing::Nowhere(Cause::Viewless),
+        None => AttachPoint::Nowhere(DetachedReason::Viewless),
     }
 }
 
 /// The first of a session's presents that wait.
-fn first_of(s: SessionNo, waits: &[Waiting]) -> Option<Waiting>
+fn first_of(s: SessionNo, waits: &[PendingPresent]) -> Option<PendingPresent>
     ensures { result ≡ first_of s waits.now }
 {
     waits
@@ -184,14 +190,18 @@ fn first_of(s: SessionNo, waits: &[Waiting]) -> Option<Waiting>
 }
 
 /// Why nothing is shown of a session.
-pub fn nothing(closing: Option<Closing>, s: SessionNo, waits: &[Waiting]) -> Cause
+pub fn nothing(
+    closing: Option<CloseReason>,
+    s: SessionNo,
+    waits: &[PendingPresent],
+) -> DetachedReason
     ensures { result ≡ nothing_by closing (first_of s waits.now) }
 {
     if let Some(closing) = closing {
-        return Cause::Closed(closing);
+        return DetachedReason::Closed(closing);
     }
     match first_of(s, waits) {
-        Some(waiting) => Cause::Held(waiting.hold),
-        None => Cause::Unpresented,
+        Some(waiting) => DetachedReason::Held(waiting.hold),
+        None => DetachedReason::Unpresented,
     }
 }

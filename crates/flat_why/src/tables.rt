@@ -2,24 +2,24 @@
 ghost use Rattle.std.specs.Prelude.{◌≡◌, true, IfOk, None, length, map, replicate};
 ghost use Rattle.flat_scene.specs.Frames.{sessions_to, taken};
 ghost use Rattle.flat_scene.specs.Heads.{is_setup};
-ghost use Rattle.flat_why.specs.Causes.{first_of, nothing_by, standing_in};
+ghost use Rattle.flat_why.specs.Reasons.{first_of, nothing_by, standing_in};
 ghost use Rattle.flat_why.specs.Noted.{closings_in, uses_in};
 
-use crate::causes::{Cause, Closing, Standing, Waiting};
+use crate::reasons::{AttachPoint, CloseReason, DetachedReason, PendingPresent};
 use crate::standings::{nothing, standing_at};
 use flat_base::{NoMemory, SessionNo};
 use flat_core::Board;
-use flat_join::Shown;
+use flat_join::ShownStates;
 use std::alloc::Global;
 
 /// Notes where each session hangs.
 pub fn note_standings(
-    standings: &mut [Standing],
+    standings: &mut [AttachPoint],
     board: &Board,
-    shown: &Shown,
-    closings: &[Option<Closing>],
+    shown: &ShownStates,
+    closings: &[Option<CloseReason>],
     last_uses: &[Option<u32>],
-    waits: &[Waiting],
+    waits: &[PendingPresent],
 )
     requires setup { is_setup board.now.setup ≡ true }
     requires sessions { length closings.now ≡ board.now.setup.sessions }
@@ -37,7 +37,7 @@ pub fn note_standings(
     }
 }
 
-pub fn no_closings(alloc: Global, sessions: u32) -> Result<Vec<Option<Closing>>, NoMemory>
+pub fn no_closings(alloc: Global, sessions: u32) -> Result<Vec<Option<CloseReason>>, NoMemory>
     ensures { IfOk result (λ closings. closings.items ≡ replicate sessions None) }
 {
     let mut closings = Vec::with_capacity(alloc, sessions as usize)?;
@@ -57,12 +57,12 @@ pub fn no_uses(alloc: Global, pairs: usize) -> Result<Vec<Option<u32>>, NoMemory
     Ok(uses)
 }
 
-pub fn no_standings(alloc: Global, sessions: u32) -> Result<Vec<Standing>, NoMemory>
+pub fn no_standings(alloc: Global, sessions: u32) -> Result<Vec<AttachPoint>, NoMemory>
     ensures { IfOk result (λ standings. length standings.items ≡ sessions) }
 {
     let mut standings = Vec::with_capacity(alloc, sessions as usize)?;
     for _ in 0..sessions {
-        standings.push(Standing::Nowhere(Cause::Unpresented))?;
+        standings.push(AttachPoint::Nowhere(DetachedReason::Unpresented))?;
     }
     Ok(standings)
 }

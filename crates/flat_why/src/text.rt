@@ -16,12 +16,12 @@ ghost use Rattle.flat_why.specs.Text.{hidden_line, wait_line, own_items};
 ghost use Rattle.flat_why.specs.Noted.{session_line, stands_in};
 
 use crate::blanks::why_blank;
-use crate::causes::{Blank, Drawn, Hidden, Standing, Waiting};
 use crate::counts::count_items;
 use crate::hidden::{hidden_in, node_of};
+use crate::reasons::{AttachPoint, BlankReason, DisplayedSession, HiddenReason, PendingPresent};
 use crate::words::{push_hold, push_shown, push_why};
 use flat_base::{FrameNo, NoMemory, SESSIONS_MAX, SessionNo};
-use flat_join::Shown;
+use flat_join::ShownStates;
 use flat_page::{Page, session_name};
 use flat_places::Script;
 use flat_scene::FrameOut;
@@ -47,7 +47,7 @@ fn push_shown_words(
     script: &Script,
     frame: FrameNo,
     s: SessionNo,
-    drawn: Drawn,
+    drawn: DisplayedSession,
 ) -> Result<(), NoMemory>
     ensures { OnOk result (Writes (number frame.0 ∷ session_name script.now.sessions s
         ∷ rect_words drawn.bounds ++ drawn_words drawn.items drawn.blank) page.old page.new) }
@@ -63,7 +63,7 @@ fn push_shown_line(
     script: &Script,
     frame: FrameNo,
     s: SessionNo,
-    drawn: Drawn,
+    drawn: DisplayedSession,
 ) -> Result<(), NoMemory>
     ensures { OnOk result (WritesLines (shown_line script.now frame.0 s drawn ∷ []) page.old
         page.new) }
@@ -79,7 +79,7 @@ fn push_hidden_words(
     script: &Script,
     frame: FrameNo,
     s: SessionNo,
-    hidden: Option<Hidden>,
+    hidden: Option<HiddenReason>,
 ) -> Result<(), NoMemory>
     ensures { OnOk result (Writes (number frame.0 ∷ session_name script.now.sessions s
         ∷ hidden_words script.now hidden) page.old page.new) }
@@ -95,7 +95,7 @@ fn push_hidden_line(
     script: &Script,
     frame: FrameNo,
     s: SessionNo,
-    hidden: Option<Hidden>,
+    hidden: Option<HiddenReason>,
 ) -> Result<(), NoMemory>
     ensures { OnOk result (WritesLines (hidden_line script.now frame.0 s hidden ∷ []) page.old
         page.new) }
@@ -110,7 +110,7 @@ fn push_wait_words(
     page: &mut Page,
     script: &Script,
     frame: FrameNo,
-    waiting: Waiting,
+    waiting: PendingPresent,
 ) -> Result<(), NoMemory>
     ensures { OnOk result (Writes (number frame.0 ∷ session_name script.now.sessions waiting.session
         ∷ number waiting.number ∷ hold_words script.now waiting.hold) page.old page.new) }
@@ -126,7 +126,7 @@ fn push_wait_line(
     page: &mut Page,
     script: &Script,
     frame: FrameNo,
-    waiting: Waiting,
+    waiting: PendingPresent,
 ) -> Result<(), NoMemory>
     ensures { OnOk result (WritesLines (wait_line script.now frame.0 waiting ∷ []) page.old
         page.new) }
@@ -142,7 +142,7 @@ pub fn push_waits(
     page: &mut Page,
     script: &Script,
     frame: FrameNo,
-    waits: &[Waiting],
+    waits: &[PendingPresent],
 ) -> Result<(), NoMemory>
     ensures { OnOk result (WritesLines (map (wait_line script.now frame.0) waits.now) page.old
         page.new) }
@@ -156,11 +156,11 @@ pub fn push_waits(
 /// A finished frame: the states that it shows, the pixel ratio at its begin, what was
 /// composed of them, and where each session hangs, session 1 first.
 #[derive(Clone, Copy)]
-pub struct Scene<'a> {
-    pub shown: &'a Shown,
+pub struct ExplainedFrame<'a> {
+    pub shown: &'a ShownStates,
     pub ratio: u32,
     pub frame: &'a FrameOut,
-    pub standings: &'a [Standing],
+    pub standings: &'a [AttachPoint],
 }
 
 /// Why a session draws nothing in a frame, where it has so many items: looked for only
@@ -168,10 +168,10 @@ pub struct Scene<'a> {
 fn blank_for(
     alloc: Global,
     script: &Script,
-    scene: &Scene<'_>,
+    scene: &ExplainedFrame<'_>,
     s: SessionNo,
     items: usize,
-) -> Result<Blank, NoMemory>
+) -> Result<BlankReason, NoMemory>
     requires some { 0 < s.0 }
     requires few { s.0 ≤ length scene.now.shown.now }
     requires made { length scene.now.shown.now ≡ script.now.setup.sessions }
@@ -182,7 +182,7 @@ fn blank_for(
         (placed_nodes (at_ratio scene.now.ratio script.now.setup) scene.now.shown.now))) }
 {
     if items > 0 {
-        return Ok(Blank::Clipped);
+        return Ok(BlankReason::Clipped);
     }
     why_blank(alloc, &script.setup, scene.ratio, scene.shown, s)
 }
@@ -192,7 +192,7 @@ fn push_session(
     page: &mut Page,
     alloc: Global,
     script: &Script,
-    scene: &Scene<'_>,
+    scene: &ExplainedFrame<'_>,
     s: SessionNo,
     items: usize,
 ) -> Result<(), NoMemory>
@@ -212,7 +212,7 @@ fn push_session(
         Some(node) => {
             let bounds = node.bounds;
             let blank = blank_for(alloc, script, scene, s, items)?;
-            let drawn = Drawn {
+            let drawn = DisplayedSession {
                 bounds,
                 items,
                 blank,
@@ -228,7 +228,7 @@ pub fn push_sessions(
     page: &mut Page,
     alloc: Global,
     script: &Script,
-    scene: &Scene<'_>,
+    scene: &ExplainedFrame<'_>,
 ) -> Result<(), NoMemory>
     requires made { length scene.now.shown.now ≡ script.now.setup.sessions }
     requires all { length scene.now.standings.now ≡ script.now.setup.sessions }

@@ -14,8 +14,8 @@ use Rattle.clap.specs.declared.error.kind.ErrorKind.TheVariants.{InvalidSubcomma
 use Rattle.clap.proofs.OnLiterals.{clap_on_literals}
 use Rattle.clap.proofs.FaultLemmas.{stopped_fault}
 use Rattle.clap.proofs.WalkLemmas.{walk_stopped}
-use Rattle.flat_words.specs.declared.form.Form.{Form}
-use Rattle.flat_words.specs.declared.form.Form.TheVariants.{Play, Race, Stress, Render, Damage, Focus, Pointer, Judge, Why, Film}
+use Rattle.flat_words.specs.declared.service_word.ServiceWord.{ServiceWord}
+use Rattle.flat_words.specs.declared.service_word.ServiceWord.TheVariants.{Play, Race, Stress, Render, Damage, Focus, Pointer, Judge, Why, Film}
 use Rattle.flat_words.specs.Command.{IsNamed, frames, service, is_option}
 
 -- ---- a word without a hyphen
@@ -340,11 +340,11 @@ told (Some x) name_of rows_of name rows n r =
 
 -- a load's frames are what its word says
 pub load_only : (found : Option (Text × List Row)) (rows : List Row) (word : Option Text) → found ≡ Some (codes "stress", rows)
-    → first_of (codes "frames") rows ≡ word → (form : Form) → IsSomeAnd found (λ call. IsNamed call form)
+    → first_of (codes "frames") rows ≡ word → (form : ServiceWord) → IsSomeAnd found (λ call. IsNamed call form)
     → (n : ℕ) × (form ≡ Stress n) × (word ≡ Some (decimal n)) × (1 ≤ n) × (n ≤ 500)
 load_only found rows word is read form named = go form (subst (λ o. IsSomeAnd o (λ call. IsNamed call form)) is named)
   where
-    go : (form : Form) → IsNamed (codes "stress", rows) form → (n : ℕ) × (form ≡ Stress n) × (word ≡ Some (decimal n)) × (1 ≤ n) × (n ≤ 500)
+    go : (form : ServiceWord) → IsNamed (codes "stress", rows) form → (n : ℕ) × (form ≡ Stress n) × (word ≡ Some (decimal n)) × (1 ≤ n) × (n ≤ 500)
     go Play e = absurd (true≢false (ap (bytes_eq (codes "stress")) e))
     go Race e = absurd (true≢false (ap (bytes_eq (codes "stress")) e))
     go Render e = absurd (true≢false (ap (bytes_eq (codes "stress")) e))

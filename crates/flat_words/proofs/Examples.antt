@@ -4,7 +4,7 @@ use Rattle.std.specs.Fmt.{digits}
 use Rattle.clap.specs.Words.{Row, Text, fault_of, first_of, subcommand_of}
 use Rattle.clap.specs.declared.error.kind.ErrorKind.TheVariants.{InvalidSubcommand, MissingRequiredArgument, MissingSubcommand, UnknownArgument}
 use Rattle.clap.proofs.OnLiterals.{clap_on_literals}
-use Rattle.flat_words.specs.declared.form.Form.TheVariants.{Stress}
+use Rattle.flat_words.specs.declared.service_word.ServiceWord.TheVariants.{Stress}
 use Rattle.flat_words.specs.Command.{service, is_option}
 use Rattle.flat_words.specs.Forms.{words_of}
 

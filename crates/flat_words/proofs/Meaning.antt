@@ -7,8 +7,8 @@ use Rattle.std.proofs.lemmas.Slice.Eq.{bytes_eq-Decides}
 use Rattle.clap.proofs.CountText.{decimal-count_text}
 use Rattle.clap.specs.Words.{Row, Text, count_text, fault_of, subcommand_of}
 use Rattle.clap.specs.Walk.{idle, subcommand_met}
-use Rattle.flat_words.specs.declared.form.Form.{Form}
-use Rattle.flat_words.specs.declared.form.Form.TheVariants.{Play, Race, Stress, Render, Damage, Focus, Pointer, Judge, Why, Film}
+use Rattle.flat_words.specs.declared.service_word.ServiceWord.{ServiceWord}
+use Rattle.flat_words.specs.declared.service_word.ServiceWord.TheVariants.{Play, Race, Stress, Render, Damage, Focus, Pointer, Judge, Why, Film}
 use Rattle.flat_words.specs.Command.{IsNamed, service, is_option}
 use Rattle.flat_words.specs.Forms.{CallFor, IsAllowed, words_of}
 use Rattle.clap.specs.declared.error.kind.ErrorKind.TheVariants.{UnknownArgument}
@@ -24,21 +24,21 @@ is_filled (x ∷ xs) = true
 filled : {X : Type 0} {x : X} {xs : List X} → x ∷ xs ≡ [] → ⊥
 filled e = true≢false (ap is_filled e)
 
-abbrev Names : Option (Text × List Row) → Form → Type 0
+abbrev Names : Option (Text × List Row) → ServiceWord → Type 0
 Names found form = IsSomeAnd found (λ call. IsNamed call form)
 
 -- ---- the words that the command takes
 
 -- a word that is the whole of a form: the command takes it alone, and it names that form alone
-record Lone (name : Text) (form : Form) : Type 0 where
+record Lone (name : Text) (form : ServiceWord) : Type 0 where
   pub words : words_of form ≡ name ∷ []
   pub allowed : IsAllowed form
   pub alone : fault_of service (name ∷ []) ≡ []
   pub more : (word : Text) (rest : List Text) → is_option word ≡ false → fault_of service (name ∷ word ∷ rest) ≡ UnknownArgument ∷ []
   pub called : subcommand_of service (name ∷ []) ≡ Some (name, [])
-  pub only : (other : Form) → IsNamed (name, []) other → other ≡ form
+  pub only : (other : ServiceWord) → IsNamed (name, []) other → other ≡ form
 
-play_only : (other : Form) → IsNamed (codes "play", []) other → other ≡ Play
+play_only : (other : ServiceWord) → IsNamed (codes "play", []) other → other ≡ Play
 play_only Play e = refl
 play_only Race e = absurd (true≢false (ap (bytes_eq (codes "play")) e))
 play_only (Stress n) e = absurd (true≢false (ap (bytes_eq (codes "play")) e.0))
@@ -53,7 +53,7 @@ play_only Film e = absurd (true≢false (ap (bytes_eq (codes "play")) e))
 play : Lone (codes "play") Play
 play = record { words = refl; allowed = tt; alone = play_alone; more = play_more; called = play_called; only = play_only }
 
-race_only : (other : Form) → IsNamed (codes "race", []) other → other ≡ Race
+race_only : (other : ServiceWord) → IsNamed (codes "race", []) other → other ≡ Race
 race_only Play e = absurd (true≢false (ap (bytes_eq (codes "race")) e))
 race_only Race e = refl
 race_only (Stress n) e = absurd (true≢false (ap (bytes_eq (codes "race")) e.0))
@@ -68,7 +68,7 @@ race_only Film e = absurd (true≢false (ap (bytes_eq (codes "race")) e))
 race : Lone (codes "race") Race
 race = record { words = refl; allowed = tt; alone = race_alone; more = race_more; called = race_called; only = race_only }
 
-render_only : (other : Form) → IsNamed (codes "render", []) other → other ≡ Render
+render_only : (other : ServiceWord) → IsNamed (codes "render", []) other → other ≡ Render
 render_only Play e = absurd (true≢false (ap (bytes_eq (codes "render")) e))
 render_only Race e = absurd (true≢false (ap (bytes_eq (codes "render")) e))
 render_only (Stress n) e = absurd (true≢false (ap (bytes_eq (codes "render")) e.0))
@@ -83,7 +83,7 @@ render_only Film e = absurd (true≢false (ap (bytes_eq (codes "render")) e))
 render : Lone (codes "render") Render
 render = record { words = refl; allowed = tt; alone = render_alone; more = render_more; called = render_called; only = render_only }
 
-damage_only : (other : Form) → IsNamed (codes "damage", []) other → other ≡ Damage
+damage_only : (other : ServiceWord) → IsNamed (codes "damage", []) other → other ≡ Damage
 damage_only Play e = absurd (true≢false (ap (bytes_eq (codes "damage")) e))
 damage_only Race e = absurd (true≢false (ap (bytes_eq (codes "damage")) e))
 damage_only (Stress n) e = absurd (true≢false (ap (bytes_eq (codes "damage")) e.0))
@@ -98,7 +98,7 @@ damage_only Film e = absurd (true≢false (ap (bytes_eq (codes "damage")) e))
 damage : Lone (codes "damage") Damage
 damage = record { words = refl; allowed = tt; alone = damage_alone; more = damage_more; called = damage_called; only = damage_only }
 
-focus_only : (other : Form) → IsNamed (codes "focus", []) other → other ≡ Focus
+focus_only : (other : ServiceWord) → IsNamed (codes "focus", []) other → other ≡ Focus
 focus_only Play e = absurd (true≢false (ap (bytes_eq (codes "focus")) e))
 focus_only Race e = absurd (true≢false (ap (bytes_eq (codes "focus")) e))
 focus_only (Stress n) e = absurd (true≢false (ap (bytes_eq (codes "focus")) e.0))
@@ -113,7 +113,7 @@ focus_only Film e = absurd (true≢false (ap (bytes_eq (codes "focus")) e))
 focus : Lone (codes "focus") Focus
 focus = record { words = refl; allowed = tt; alone = focus_alone; more = focus_more; called = focus_called; only = focus_only }
 
-pointer_only : (other : Form) → IsNamed (codes "pointer", []) other → other ≡ Pointer
+pointer_only : (other : ServiceWord) → IsNamed (codes "pointer", []) other → other ≡ Pointer
 pointer_only Play e = absurd (true≢false (ap (bytes_eq (codes "pointer")) e))
 pointer_only Race e = absurd (true≢false (ap (bytes_eq (codes "pointer")) e))
 pointer_only (Stress n) e = absurd (true≢false (ap (bytes_eq (codes "pointer")) e.0))
@@ -128,7 +128,7 @@ pointer_only Film e = absurd (true≢false (ap (bytes_eq (codes "pointer")) e))
 pointer : Lone (codes "pointer") Pointer
 pointer = record { words = refl; allowed = tt; alone = pointer_alone; more = pointer_more; called = pointer_called; only = pointer_only }
 
-judge_only : (other : Form) → IsNamed (codes "judge", []) other → other ≡ Judge
+judge_only : (other : ServiceWord) → IsNamed (codes "judge", []) other → other ≡ Judge
 judge_only Play e = absurd (true≢false (ap (bytes_eq (codes "judge")) e))
 judge_only Race e = absurd (true≢false (ap (bytes_eq (codes "judge")) e))
 judge_only (Stress n) e = absurd (true≢false (ap (bytes_eq (codes "judge")) e.0))
@@ -143,7 +143,7 @@ judge_only Judge e = refl
 judge : Lone (codes "judge") Judge
 judge = record { words = refl; allowed = tt; alone = judge_alone; more = judge_more; called = judge_called; only = judge_only }
 
-why_only : (other : Form) → IsNamed (codes "why", []) other → other ≡ Why
+why_only : (other : ServiceWord) → IsNamed (codes "why", []) other → other ≡ Why
 why_only Play e = absurd (true≢false (ap (bytes_eq (codes "why")) e))
 why_only Race e = absurd (true≢false (ap (bytes_eq (codes "why")) e))
 why_only (Stress n) e = absurd (true≢false (ap (bytes_eq (codes "why")) e.0))
@@ -158,7 +158,7 @@ why_only Film e = absurd (true≢false (ap (bytes_eq (codes "why")) e))
 why : Lone (codes "why") Why
 why = record { words = refl; allowed = tt; alone = why_alone; more = why_more; called = why_called; only = why_only }
 
-film_only : (other : Form) → IsNamed (codes "film", []) other → other ≡ Film
+film_only : (other : ServiceWord) → IsNamed (codes "film", []) other → other ≡ Film
 film_only Play e = absurd (true≢false (ap (bytes_eq (codes "film")) e))
 film_only Race e = absurd (true≢false (ap (bytes_eq (codes "film")) e))
 film_only (Stress n) e = absurd (true≢false (ap (bytes_eq (codes "film")) e.0))
@@ -173,14 +173,14 @@ film_only Film e = refl
 film : Lone (codes "film") Film
 film = record { words = refl; allowed = tt; alone = film_alone; more = film_more; called = film_called; only = film_only }
 
-after_lone : {name : Text} {lone : Form} → Lone name lone → (rest : List Text) → list_any is_option rest ≡ false → fault_of service (name ∷ rest) ≡ []
-    → (form : Form)
+after_lone : {name : Text} {lone : ServiceWord} → Lone name lone → (rest : List Text) → list_any is_option rest ≡ false → fault_of service (name ∷ rest) ≡ []
+    → (form : ServiceWord)
     → Names (subcommand_of service (name ∷ rest)) form → CallFor (name ∷ rest) form
 after_lone {name} {lone} is [] plain ok form named =
     subst (CallFor (name ∷ [])) (sym (is.only form (subst (λ o. Names o form) is.called named))) (sym is.words, is.allowed)
 after_lone is (word ∷ rest) plain ok form named = absurd (filled (sym (is.more word rest (or_parts (is_option word) _ plain).0) ∙ ok))
 
-after_stress : (rest : List Text) → list_any is_option rest ≡ false → fault_of service (codes "stress" ∷ rest) ≡ [] → (form : Form)
+after_stress : (rest : List Text) → list_any is_option rest ≡ false → fault_of service (codes "stress" ∷ rest) ≡ [] → (form : ServiceWord)
     → Names (subcommand_of service (codes "stress" ∷ rest)) form → CallFor (codes "stress" ∷ rest) form
 after_stress [] plain ok form named = absurd (filled (sym stress_alone ∙ ok))
 after_stress (word ∷ []) plain ok form named =
@@ -206,7 +206,7 @@ unknown word play race stress render damage focus pointer judge why film =
     (cond (why i || false) (Some (codes "why", [])) (cond (film i || false) (Some (codes "film", [])) None))))))))))
 
 -- where no word begins with a hyphen, and the command takes them all, they call for the form that they name
-pub called : (words : List Text) → list_any is_option words ≡ false → fault_of service words ≡ [] → (form : Form)
+pub called : (words : List Text) → list_any is_option words ≡ false → fault_of service words ≡ [] → (form : ServiceWord)
     → Names (subcommand_of service words) form → CallFor words form
 called [] plain ok form named = absurd (filled (sym nothing ∙ ok))
 called (word ∷ rest) plain ok form named =
@@ -227,7 +227,7 @@ called (word ∷ rest) plain ok form named =
     by_name name meant true e is later = subst Meant (is.0 refl) meant ok named
     by_name name meant false e is later = later e
 
-    by_lone : {name : Text} {lone : Form} → Lone name lone → (bytes_eq name word ≡ false → CallFor (word ∷ rest) form) → CallFor (word ∷ rest) form
+    by_lone : {name : Text} {lone : ServiceWord} → Lone name lone → (bytes_eq name word ≡ false → CallFor (word ∷ rest) form) → CallFor (word ∷ rest) form
     by_lone {name} is later = by_name name (λ k n. after_lone is rest parts.1 k form n) (bytes_eq name word) refl (bytes_eq-Decides name word) later
 
     by_stress : (bytes_eq (codes "stress") word ≡ false → CallFor (word ∷ rest) form) → CallFor (word ∷ rest) form
@@ -253,10 +253,10 @@ decimal_plain : (n : ℕ) → n ≤ 500 → is_option (decimal n) ≡ false
 decimal_plain n high = subst (λ t. is_option t ≡ false) (sym (decimal-count_text n (omega (arith, high)))) (count_plain n)
 
 -- the words of a form have no hyphen in front, the command takes them, and they name the form
-abbrev Taken : Form → List Text → Type 0
+abbrev Taken : ServiceWord → List Text → Type 0
 Taken form words = (list_any is_option words ≡ false) × (fault_of service words ≡ []) × Names (subcommand_of service words) form
 
-pub taken : (words : List Text) (form : Form) → CallFor words form → Taken form words
+pub taken : (words : List Text) (form : ServiceWord) → CallFor words form → Taken form words
 taken words Play call = subst (Taken Play) (sym call.0) (refl, play_alone, subst (λ o. Names o Play) (sym play_called) refl)
 taken words Race call = subst (Taken Race) (sym call.0) (refl, race_alone, subst (λ o. Names o Race) (sym race_called) refl)
 taken words Render call = subst (Taken Render) (sym call.0) (refl, render_alone, subst (λ o. Names o Render) (sym render_called) refl)

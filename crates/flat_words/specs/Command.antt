@@ -4,9 +4,10 @@ use Rattle.std.specs.Fmt.{decimal}
 use Rattle.clap.specs.Words.{App, Row, Rule, Text, first_of, new_app, new_rule, with_rule, with_subcommand}
 use Rattle.clap.specs.Simple.{Shape, on_top}
 use Rattle.flat_base.specs.declared.limits.TheConstants.{LOAD_FRAMES_MAX}
-use Rattle.flat_words.specs.declared.form.Form.{Form}
-use Rattle.flat_words.specs.declared.form.Form.TheVariants.{Play, Race, Stress, Render, Damage, Focus, Pointer, Judge}
-use Rattle.flat_words.specs.declared.form.Form.TheVariants.{Why, Film}
+use Rattle.flat_words.specs.declared.service_word.ServiceWord.{ServiceWord}
+use Rattle.flat_words.specs.declared.service_word.ServiceWord.TheVariants.{Play, Race, Stress, Render, Damage, Focus}
+use Rattle.flat_words.specs.declared.service_word.ServiceWord.TheVariants.{Pointer, Judge}
+use Rattle.flat_words.specs.declared.service_word.ServiceWord.TheVariants.{Why, Film}
 
 -- the word after `stress`: the number of frames
 abbrev pub frames : Rule
@@ -46,7 +47,7 @@ service =
     (new_app (codes "film")).top
 
 -- A subcommand, with its name and its own words, is that of a form.
-abbrev pub IsNamed : Text × List Row → Form → Type 0
+abbrev pub IsNamed : Text × List Row → ServiceWord → Type 0
 IsNamed call Play = call.0 ≡ codes "play"
 IsNamed call Race = call.0 ≡ codes "race"
 IsNamed call (Stress number) = (call.0 ≡ codes "stress")

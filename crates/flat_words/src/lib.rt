@@ -1,9 +1,9 @@
 //! The words that call the service.
 //!
-//! `read` (form) answers what specs/Forms says of the words, which the command of
+//! `read` (service_word) answers what specs/Forms says of the words, which the command of
 //! specs/Command reads.
 #![tactic(auto)]
 
-mod form;
+mod service_word;
 
-pub use form::{Form, read};
+pub use service_word::{ServiceWord, read};

@@ -5,7 +5,7 @@ use Rattle.std.specs.Prelude.{option_to_list}
 use Rattle.std.specs.List.{Contains}
 use Rattle.std.specs.Option.{option_map, option_and_then}
 use Rattle.std.proofs.lemmas.Option.{slice_get-map}
-use Rattle.flat_scene.specs.declared.trees.Held.{Held}
+use Rattle.flat_scene.specs.declared.trees.HeldContent.{HeldContent}
 use Rattle.flat_scene.specs.declared.trees.Node.{Node}
 use Rattle.flat_scene.specs.declared.trees.Children.{Children}
 use Rattle.flat_scene.specs.Cycles.{Walk, HasCycle}
@@ -86,7 +86,7 @@ module _ (graph : GraphState) (draft : Draft) (s : StandsFor graph draft) where
   -- ---- the tree
 
   -- the viewport of a kept node is that of its transform
-  viewport-stands : (n : GraphNode) (content : Option Held) → ((it : Held) → content ≡ Some it → IsHeld draft.contents it)
+  viewport-stands : (n : GraphNode) (content : Option HeldContent) → ((it : HeldContent) → content ≡ Some it → IsHeld draft.contents it)
       → scene.viewport_in (content_held draft (option_map serial_of content)) ≡ option_to_list (viewport_held content)
   viewport-stands n None made = refl
   viewport-stands n (Some it) made = by_made (of_serial draft.contents it.serial) (made it refl).made (made it refl).sort refl

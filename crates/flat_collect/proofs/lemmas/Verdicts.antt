@@ -17,7 +17,7 @@ use Rattle.flat_scene.specs.Tree.{tree_tests, all_nodes, is_cyclic, children_at,
 use Rattle.flat_scene.proofs.lemmas.CycleLemmas.{cycle-is-reached}
 use Rattle.flat_graph.specs.State.{GraphState, IsKept}
 use Rattle.flat_graph.specs.Stands.{StandsFor, serial_at}
-use Rattle.flat_collect.specs.declared.Verdict.TheVariants.{Good, Bad}
+use Rattle.flat_collect.specs.declared.TreeCheck.TheVariants.{Good, Bad}
 use Rattle.flat_collect.specs.Forest.{Forest, size, height, held}
 use Rattle.flat_collect.specs.Judge.{IsCyclic, is_too_large, shows_twice, graph_tree, viewport_in, HasFault, HasTree}
 use Rattle.flat_collect.specs.Laws.{VerdictStands, Presents}

@@ -18,7 +18,7 @@ use Rattle.flat_scene.specs.declared.calls.Call.TheVariants.{SetSolidFill, Relea
 use Rattle.flat_scene.specs.declared.calls.Inset.{Inset}
 use Rattle.flat_scene.specs.declared.calls.ViewportProps.{ViewportProps}
 use Rattle.flat_scene.specs.declared.setup.Setup.{Setup}
-use Rattle.flat_scene.specs.declared.trees.Held.{Held}
+use Rattle.flat_scene.specs.declared.trees.HeldContent.{HeldContent}
 use Rattle.flat_scene.specs.Draft as scene
 use Rattle.flat_scene.specs.Draft.{Draft, Made, Name, an_image, a_fill, named, without_name, of_serial, changed_at, content_of, made_of}
 use Rattle.flat_scene.specs.Effect as effect
@@ -26,16 +26,16 @@ use Rattle.flat_scene.specs.Effect.{effect, changed_if, on_fill, with_made, with
 use Rattle.flat_scene.specs.Misuse.{Test, misuse, first_reason, is_bad_image, is_bad_index, is_bad_rect, is_bad_side, is_fill, is_image, is_viewport}
 use Rattle.flat_scene.specs.Misuse.{leaves_made}
 use Rattle.flat_scene.specs.Tree.{content_held, shown_content, use_in, use_of}
-use Rattle.flat_graph.specs.declared.names.Named.{Named}
+use Rattle.flat_graph.specs.declared.names.NamedNode.{NamedNode}
 use Rattle.flat_graph.specs.Names.{key_named, names_but}
 use Rattle.flat_graph.specs.State.{GraphState}
 use Rattle.flat_graph.specs.Stands.{IsHeld, serial_of}
 use Rattle.flat_graph.specs.Laws.{IsContent}
 use Rattle.flat_graph.proofs.lemmas.DraftNames.{named-append, once-append, named-without, once-without, length-without, of_serial-map}
 use Rattle.flat_graph.proofs.lemmas.NameLemmas.{named-with, length-with, named-but, length-but}
-use Rattle.flat_content.specs.declared.stored.Stored.{Stored}
-use Rattle.flat_content.specs.declared.stored.StoredImage.{StoredImage}
-use Rattle.flat_content.specs.declared.stored.Stored.TheVariants.{Image, Fill, Viewport}
+use Rattle.flat_content.specs.declared.stored_content.StoredContent.{StoredContent}
+use Rattle.flat_content.specs.declared.stored_content.StoredImage.{StoredImage}
+use Rattle.flat_content.specs.declared.stored_content.StoredContent.TheVariants.{Image, Fill, Viewport}
 use Rattle.flat_content.specs.Table.{TableState, as_made, change_named, cleared, content_at, held_at, held_of, in_use, made_at, change_at, made_named}
 use Rattle.flat_content.specs.Table.{new_image, on_image, on_viewport, released, use_at, viewport_released, with_stored}
 use Rattle.flat_content.proofs.Soundness.{sound-released, sound-added, sound-changed, change-length}
@@ -59,7 +59,8 @@ first-none true reason rest e = absurd (cc)
 first-none false reason rest e = (refl, e)
 
 -- a change of one content, in the table and in the draft
-changed-made : (serial : ℕ) (f : Stored → Stored) (g : Made → Made) (contents : List Stored) (stored : Stored) → of_serial contents serial ≡ Some stored
+changed-made : (serial : ℕ) (f : StoredContent → StoredContent) (g : Made → Made) (contents : List StoredContent) (stored : StoredContent)
+    → of_serial contents serial ≡ Some stored
     → as_made (f stored) ≡ g (as_made stored)
     → map as_made (changed_at serial f contents) ≡ changed_at serial g (map as_made contents)
 changed-made serial f g [] stored e same = absurd (cc)
@@ -86,7 +87,7 @@ as_image image = record {
 }
 
 -- what the sort of a stored content says of a change
-fill-change : (stored : Stored) (rgba : List ℕ) (size : ℕ × ℕ) → is_fill (Some (as_made stored)) ≡ true
+fill-change : (stored : StoredContent) (rgba : List ℕ) (size : ℕ × ℕ) → is_fill (Some (as_made stored)) ≡ true
     → as_made (Fill (Some (record { rgba = rgba; size = size }))) ≡ on_fill (record { rgba = rgba; size = size }) (as_made stored)
 fill-change (Image image) rgba size e = absurd (cc)
 fill-change (Fill None) rgba size e = refl
@@ -136,7 +137,7 @@ module _ (setup : Setup) (table : TableState) (draft : Draft) (s : StandsFor set
   use-same serial = ap (option_and_then (use_in serial)) (made-same serial)
 
   -- one content more
-  stands-added : (c : ContentId) (stored : Stored) (viewports : List ℕ) → c.0 ≢ 0 → key_named table.names c.0 ≡ None
+  stands-added : (c : ContentId) (stored : StoredContent) (viewports : List ℕ) → c.0 ≢ 0 → key_named table.names c.0 ≡ None
       → in_use stored (length table.contents + 1) table.viewports ≡ viewports
       → StandsFor setup (with_stored table c.0 stored) (record (with_made draft c (as_made stored)) { viewports = viewports })
   stands-added c stored viewports some absent used = record {
@@ -150,7 +151,7 @@ module _ (setup : Setup) (table : TableState) (draft : Draft) (s : StandsFor set
     viewports = used;
   }
     where
-      name : Named
+      name : NamedNode
       name = record { id = c.0; key = length table.contents + 1 }
 
       name' : Name
@@ -159,7 +160,8 @@ module _ (setup : Setup) (table : TableState) (draft : Draft) (s : StandsFor set
       absent' : named draft.content_names c.0 ≡ None
       absent' = sym (s.names c.0) ∙ absent
 
-  stands-changed : (c : ContentId) (f : Stored → Stored) (g : Made → Made) (serial : ℕ) (stored : Stored) → key_named table.names c.0 ≡ Some serial
+  stands-changed : (c : ContentId) (f : StoredContent → StoredContent) (g : Made → Made) (serial : ℕ) (stored : StoredContent)
+      → key_named table.names c.0 ≡ Some serial
       → of_serial table.contents serial ≡ Some stored
       → as_made (f stored) ≡ g (as_made stored) → StandsFor setup (change_named table c.0 f) (with_content draft c g)
   stands-changed c f g serial stored named_so there same = record {
@@ -184,17 +186,17 @@ module _ (setup : Setup) (table : TableState) (draft : Draft) (s : StandsFor set
       by_serial None = refl
       by_serial (Some serial) = refl
 
-      some-map : (x : Option Stored) → IsSome x → IsSome (option_map as_made x)
+      some-map : (x : Option StoredContent) → IsSome x → IsSome (option_map as_made x)
       some-map None e = e
       some-map (Some stored) e = refl
 
-      by_name : (it : Held) (x : Option ℕ) → key_named table.names c.0 ≡ x → option_map (held_at table) x ≡ Some it → IsHeld draft.contents it
+      by_name : (it : HeldContent) (x : Option ℕ) → key_named table.names c.0 ≡ x → option_map (held_at table) x ≡ Some it → IsHeld draft.contents it
       by_name it None named_so e = absurd (cc)
       by_name it (Some serial) named_so e =
           let is : held_at table serial ≡ it = cc in
           let low : 1 ≤ serial = s.sound.from_one c.0 serial named_so in
           let high : serial ≤ length table.contents = s.sound.made c.0 serial named_so in
-          subst (λ (h : Held). IsHeld draft.contents h) is (record {
+          subst (λ (h : HeldContent). IsHeld draft.contents h) is (record {
             made = rw (← made-same serial) (some-map (of_serial table.contents serial) (of_serial-some table.contents serial low high));
             sort = ap is_viewport (made-same serial);
           })
@@ -204,8 +206,8 @@ module _ (setup : Setup) (table : TableState) (draft : Draft) (s : StandsFor set
   shown-same (Some serial) = ap (option_and_then (shown_content serial)) (made-same serial)
 
   -- a change of what is of a sort, where that is asked
-  sorted-stands : (c : ContentId) (sort : Option Made → Bool) (rest : List Test) (f : Stored → Stored) (g : Made → Made) → sort None ≡ false
-      → ((stored : Stored) → sort (Some (as_made stored)) ≡ true → as_made (f stored) ≡ g (as_made stored))
+  sorted-stands : (c : ContentId) (sort : Option Made → Bool) (rest : List Test) (f : StoredContent → StoredContent) (g : Made → Made) → sort None ≡ false
+      → ((stored : StoredContent) → sort (Some (as_made stored)) ≡ true → as_made (f stored) ≡ g (as_made stored))
       → first_reason (sort_tests table sort c.0 ++ rest) ≡ None → StandsFor setup (change_named table c.0 f) (with_content draft c g)
   sorted-stands c sort rest f g never same none =
       let first = first-none (c.0 == 0) ZeroId _ none in
@@ -213,7 +215,7 @@ module _ (setup : Setup) (table : TableState) (draft : Draft) (s : StandsFor set
       let third = first-none (not (sort (made_named table c.0))) WrongContent _ second.1 in
       by_name (key_named table.names c.0) refl third.0
     where
-      by_content : (serial : ℕ) (x : Option Stored) → key_named table.names c.0 ≡ Some serial → of_serial table.contents serial ≡ x
+      by_content : (serial : ℕ) (x : Option StoredContent) → key_named table.names c.0 ≡ Some serial → of_serial table.contents serial ≡ x
           → not (sort (option_map as_made x)) ≡ false
           → StandsFor setup (change_named table c.0 f) (with_content draft c g)
       by_content serial None named_so there e = absurd (let no : ◌≡◌ {A = Bool} true false = sym (ap not never) ∙ e in cc)
@@ -246,7 +248,7 @@ module _ (setup : Setup) (table : TableState) (draft : Draft) (s : StandsFor set
     stands = λ none. rw is (sorted-stands c is_image rest (on_image f) (effect.on_image g) refl (λ stored sort. each stored) none);
   }
     where
-      each : (stored : Stored) → as_made (on_image f stored) ≡ effect.on_image g (as_made stored)
+      each : (stored : StoredContent) → as_made (on_image f stored) ≡ effect.on_image g (as_made stored)
       each (Image image) = ap an_image (same image)
       each (Fill None) = refl
       each (Fill (Some fill)) = refl
@@ -264,7 +266,7 @@ module _ (setup : Setup) (table : TableState) (draft : Draft) (s : StandsFor set
       change : ViewportProps → ViewportProps
       change props = record { w = w; h = h; inset = unwrap_or inset props.inset }
 
-      each : (stored : Stored) → as_made (on_viewport change stored) ≡ effect.on_viewport change (as_made stored)
+      each : (stored : StoredContent) → as_made (on_viewport change stored) ≡ effect.on_viewport change (as_made stored)
       each (Image image) = refl
       each (Fill None) = refl
       each (Fill (Some fill)) = refl

@@ -7,11 +7,11 @@ ghost use Rattle.flat_states.specs.Presents.{reply_to_close};
 use crate::board::Board;
 use crate::entries::enter;
 use flat_base::{Actor, FlatlandError, Reason, SessionNo};
-use flat_scene::{CallList, Entry, Kind, Reply};
+use flat_scene::{CallList, Entry, EntryKind, Reply};
 
 impl Board {
     ghost use Rattle.flat_base.specs.declared.ids.Actor.TheVariants.{Session};
-    ghost use Rattle.flat_scene.specs.declared.journal.Kind.TheVariants.{Close, End};
+    ghost use Rattle.flat_scene.specs.declared.journal.EntryKind.TheVariants.{Close, End};
     ghost use Rattle.flat_scene.specs.declared.journal.Reply.TheVariants.{Done};
 
     /// Closes the session: for the reason of a misuse, or by its own wish. It takes
@@ -26,13 +26,13 @@ impl Board {
         enter(
             &mut self.sessions,
             &mut self.viewports,
-            &mut self.ties,
+            &mut self.links,
             &mut self.log,
             Entry {
                 actor: Actor::Session(s),
                 line,
                 calls,
-                kind: Kind::Close(why),
+                kind: EntryKind::Close(why),
                 reply,
             },
         );
@@ -49,13 +49,13 @@ impl Board {
         enter(
             &mut self.sessions,
             &mut self.viewports,
-            &mut self.ties,
+            &mut self.links,
             &mut self.log,
             Entry {
                 actor: Actor::Session(s),
                 line,
                 calls,
-                kind: Kind::End(refused),
+                kind: EntryKind::End(refused),
                 reply: Reply::Done,
             },
         );

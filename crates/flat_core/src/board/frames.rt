@@ -17,17 +17,17 @@ use crate::begins::{FrameBegin, begin_all};
 use crate::board::Board;
 use crate::dones::{FrameEnd, done_all};
 use crate::entries::enter;
+use crate::pair_values::PairValues;
 use crate::start::FrameStart;
-use crate::telling::Telling;
 use flat_base::{Actor, FrameNo};
-use flat_join::Shown;
-use flat_scene::{CallList, DisplayLine, Entry, Kind, Reply, SessionSet};
-use flat_states::clock::Clock;
+use flat_join::ShownStates;
+use flat_scene::{CallList, DisplayLine, Entry, EntryKind, Reply, SessionSet};
+use flat_states::frame_clock::FrameClock;
 use flat_states::port::port_of;
 use std::alloc::Global;
 
 /// An entry of the display that is done and carries no calls.
-fn display_entry(alloc: Global, line: u32, kind: Kind) -> Entry
+fn display_entry(alloc: Global, line: u32, kind: EntryKind) -> Entry
     ensures { result ≡ entry_of Display line [] kind Done }
 {
     Entry {
@@ -40,7 +40,7 @@ fn display_entry(alloc: Global, line: u32, kind: Kind) -> Entry
 }
 
 impl Board {
-    ghost use Rattle.flat_scene.specs.declared.journal.Kind.TheVariants.{Begin, Dpr, Finish, Hit};
+    ghost use Rattle.flat_scene.specs.declared.journal.EntryKind.TheVariants.{Begin, Dpr, Finish, Hit};
 
     /// Begins a frame, of which `start` then says what it shows. Each open session shows what
     /// was taken last of it, a closed one nothing. Answers the frame's number. It takes no memory.
@@ -65,7 +65,7 @@ impl Board {
         &mut self,
         line: u32,
         time: u64,
-        into: &mut Shown,
+        into: &mut ShownStates,
         changed: &mut SessionSet,
     ) -> FrameNo
         requires may { MayCall self.old Display [] (Begin time) }
@@ -83,11 +83,12 @@ impl Board {
             fences: &self.fences,
         };
         let count = begin_all(begin, &mut self.sessions, &mut self.log, into, changed);
-        self.ties.begin(&self.setup, self.sessions.as_slice(), into);
+        self.links
+            .begin(&self.setup, self.sessions.as_slice(), into);
         self.owed -= count;
         let frames = self.clock.frames;
         let ratios = self.clock.ratios.begin();
-        self.clock = Clock {
+        self.clock = FrameClock {
             frames,
             is_open: true,
             time,
@@ -96,9 +97,9 @@ impl Board {
         enter(
             &mut self.sessions,
             &mut self.viewports,
-            &mut self.ties,
+            &mut self.links,
             &mut self.log,
-            display_entry(self.alloc, line, Kind::Begin(time)),
+            display_entry(self.alloc, line, EntryKind::Begin(time)),
         );
         FrameNo(frames + 1)
     }
@@ -119,11 +120,11 @@ impl Board {
     {
         let before = self.clock.ratios.finished;
         let ratios = self.clock.ratios.finish();
-        let heard = self.ties.finish(&self.setup, ratios.finished != before);
-        let telling = Telling {
+        let heard = self.links.finish(&self.setup, ratios.finished != before);
+        let telling = PairValues {
             setup: &self.setup,
             port: port_of(ratios.finished, &self.setup),
-            ties: &self.ties,
+            links: &self.links,
             views: &self.view_ends,
         };
         let end = FrameEnd {
@@ -143,7 +144,7 @@ impl Board {
         self.owed -= count;
         let frames = self.clock.frames + 1;
         let time = self.clock.time;
-        self.clock = Clock {
+        self.clock = FrameClock {
             frames,
             is_open: false,
             time,
@@ -152,9 +153,9 @@ impl Board {
         enter(
             &mut self.sessions,
             &mut self.viewports,
-            &mut self.ties,
+            &mut self.links,
             &mut self.log,
-            display_entry(self.alloc, line, Kind::Finish),
+            display_entry(self.alloc, line, EntryKind::Finish),
         );
         FrameNo(frames)
     }
@@ -189,9 +190,9 @@ impl Board {
         enter(
             &mut self.sessions,
             &mut self.viewports,
-            &mut self.ties,
+            &mut self.links,
             &mut self.log,
-            display_entry(self.alloc, line, Kind::Dpr(ratio)),
+            display_entry(self.alloc, line, EntryKind::Dpr(ratio)),
         );
         Reply::Done
     }
@@ -206,9 +207,9 @@ impl Board {
         enter(
             &mut self.sessions,
             &mut self.viewports,
-            &mut self.ties,
+            &mut self.links,
             &mut self.log,
-            display_entry(self.alloc, line, Kind::Hit(x, y)),
+            display_entry(self.alloc, line, EntryKind::Hit(x, y)),
         );
         Reply::Done
     }

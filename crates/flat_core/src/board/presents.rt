@@ -10,14 +10,14 @@ use crate::board::Board;
 use crate::entries::enter;
 use crate::polls::{EventList, push_events_from};
 use flat_base::{Actor, SessionNo, TryCopy};
-use flat_scene::{CallList, Entry, Kind, PresentArgs, Reply};
+use flat_scene::{CallList, Entry, EntryKind, PresentArgs, Reply};
 use flat_snap::Snapshot;
 use flat_states::state::present_in;
 use std::sync::Arc;
 
 impl Board {
     ghost use Rattle.flat_base.specs.declared.ids.Actor.TheVariants.{Session};
-    ghost use Rattle.flat_scene.specs.declared.journal.Kind.TheVariants.{Poll, Present};
+    ghost use Rattle.flat_scene.specs.declared.journal.EntryKind.TheVariants.{Poll, Present};
     ghost use Rattle.flat_scene.specs.declared.journal.Reply.TheVariants.{Polled};
 
     /// Presents the tree of all calls of the session: its number and the credits
@@ -55,13 +55,13 @@ impl Board {
         enter(
             &mut self.sessions,
             &mut self.viewports,
-            &mut self.ties,
+            &mut self.links,
             &mut self.log,
             Entry {
                 actor: Actor::Session(s),
                 line,
                 calls,
-                kind: Kind::Present(args),
+                kind: EntryKind::Present(args),
                 reply,
             },
         );
@@ -104,13 +104,13 @@ impl Board {
         enter(
             &mut self.sessions,
             &mut self.viewports,
-            &mut self.ties,
+            &mut self.links,
             &mut self.log,
             Entry {
                 actor: Actor::Session(s),
                 line,
                 calls,
-                kind: Kind::Poll,
+                kind: EntryKind::Poll,
                 reply: Reply::Polled(count),
             },
         );

@@ -11,20 +11,20 @@ ghost use Rattle.flat_gets.specs.Watchers.{AreWatched, HasRoomAt, is_held, is_sh
 
 use crate::board::{Board, number_if};
 use crate::entries::enter;
-use crate::telling::Telling;
+use crate::pair_values::PairValues;
 use flat_base::{Actor, NoMemory, PairNo, SessionNo};
 use flat_gets::watching::Watchers;
 use flat_links::entries::{NewViewport, use_ends};
 use flat_links::viewports::Viewports;
-use flat_scene::{CallList, Entry, Kind, Reply, ViewportProps, Watch};
-use flat_states::log::Log;
+use flat_scene::{CallList, Entry, EntryKind, Reply, ViewportProps, Watch};
 use flat_states::port::port_of;
 use flat_states::replies::{note_entry, use_reply};
+use flat_states::roomy_journal::RoomyJournal;
 use flat_states::state::SessionState;
 
 impl Board {
     ghost use Rattle.flat_base.specs.declared.ids.Actor.TheVariants.{Session};
-    ghost use Rattle.flat_scene.specs.declared.journal.Kind.TheVariants.{Get, View, Viewport};
+    ghost use Rattle.flat_scene.specs.declared.journal.EntryKind.TheVariants.{Get, View, Viewport};
 
     /// Makes a view: done, or the session is closed where the token isn't held. It
     /// takes no memory.
@@ -40,13 +40,13 @@ impl Board {
         enter(
             &mut self.sessions,
             &mut self.viewports,
-            &mut self.ties,
+            &mut self.links,
             &mut self.log,
             Entry {
                 actor: Actor::Session(s),
                 line,
                 calls,
-                kind: Kind::View(p),
+                kind: EntryKind::View(p),
                 reply,
             },
         );
@@ -84,20 +84,20 @@ impl Board {
         let state = &mut self.sessions[place];
         let ends = &mut self.viewports[place];
         let made = NewViewport { pair: p, props };
-        let is_held = use_ends(state, ends, &mut self.ties, s, calls.as_slice(), made);
+        let is_held = use_ends(state, ends, &mut self.links, s, calls.as_slice(), made);
         let reply = use_reply(is_held);
         let entry = Entry {
             actor: Actor::Session(s),
             line,
             calls,
-            kind: Kind::Viewport(p, props),
+            kind: EntryKind::Viewport(p, props),
             reply,
         };
         note_entry(state, &entry);
-        let telling = Telling {
+        let telling = PairValues {
             setup: &self.setup,
             port: port_of(self.clock.ratios.finished, &self.setup),
-            ties: &self.ties,
+            links: &self.links,
             views: &self.view_ends,
         };
         let told = self
@@ -130,10 +130,10 @@ impl Board {
         ensures same { IfErr result (λ back. self.new ≡ self.old) }
         ensures back { IfErr result (λ back. back ≡ calls) }
     {
-        let telling = Telling {
+        let telling = PairValues {
             setup: &self.setup,
             port: port_of(self.clock.ratios.finished, &self.setup),
-            ties: &self.ties,
+            links: &self.links,
             views: &self.view_ends,
         };
         let posts = self.owed + 1;
@@ -145,13 +145,13 @@ impl Board {
         enter(
             &mut self.sessions,
             &mut self.viewports,
-            &mut self.ties,
+            &mut self.links,
             &mut self.log,
             Entry {
                 actor: Actor::Session(s),
                 line,
                 calls,
-                kind: Kind::Get(get),
+                kind: EntryKind::Get(get),
                 reply,
             },
         );
@@ -163,12 +163,13 @@ impl Board {
 fn make_room(
     watchers: &mut Watchers,
     ends: &mut Viewports,
-    log: &mut Log,
+    log: &mut RoomyJournal,
     p: PairNo,
     posts: usize,
 ) -> Result<(), NoMemory>
     requires { p.0 < length watchers.old.pairs.items }
-    ensures watched { (setup : Setup) (history : List Entry) → AreWatched setup history watchers.old →
+    ensures watched { (setup : Setup) (history : List Entry)
+        → AreWatched setup history watchers.old →
         AreWatched setup history watchers.new }
     ensures told { due_told watchers.new ≡ due_told watchers.old }
     ensures sessions { watchers.new.sessions ≡ watchers.old.sessions }

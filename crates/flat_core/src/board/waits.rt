@@ -6,10 +6,10 @@ ghost use Rattle.flat_rules.specs.Legal.{asked_of, reply_to, value_of, waited};
 use crate::board::{Board, number_if};
 use crate::entries::enter;
 use flat_base::{Actor, FenceNo};
-use flat_scene::{CallList, Cond, Entry, Kind, Reply};
+use flat_scene::{CallList, Entry, EntryKind, Reply, WaitCondition};
 
 impl Board {
-    ghost use Rattle.flat_scene.specs.declared.journal.Kind.TheVariants.{Signal, Wait};
+    ghost use Rattle.flat_scene.specs.declared.journal.EntryKind.TheVariants.{Signal, Wait};
     ghost use Rattle.flat_scene.specs.declared.journal.Reply.TheVariants.{Done};
 
     /// Signals a fence. It takes no memory.
@@ -22,13 +22,13 @@ impl Board {
         enter(
             &mut self.sessions,
             &mut self.viewports,
-            &mut self.ties,
+            &mut self.links,
             &mut self.log,
             Entry {
                 actor: who,
                 line,
                 calls,
-                kind: Kind::Signal(f),
+                kind: EntryKind::Signal(f),
                 reply: Reply::Done,
             },
         );
@@ -37,7 +37,7 @@ impl Board {
 
     /// Looks once whether a condition is met, and answers the value looked at. It
     /// takes no memory.
-    pub fn wait(&mut self, who: Actor, line: u32, calls: CallList, c: Cond) -> Reply
+    pub fn wait(&mut self, who: Actor, line: u32, calls: CallList, c: WaitCondition) -> Reply
         requires { MayCall self.old who calls (Wait c) }
         ensures reply { result ≡ reply_to self.old.setup self.old.history who calls (Wait c) }
         ensures entry { self.new ≡ entered self.old who line calls (Wait c) result }
@@ -47,13 +47,13 @@ impl Board {
         enter(
             &mut self.sessions,
             &mut self.viewports,
-            &mut self.ties,
+            &mut self.links,
             &mut self.log,
             Entry {
                 actor: who,
                 line,
                 calls,
-                kind: Kind::Wait(c),
+                kind: EntryKind::Wait(c),
                 reply,
             },
         );
@@ -61,23 +61,23 @@ impl Board {
     }
 
     /// The value of a condition for an actor. It makes no entry.
-    pub fn value(&self, who: Actor, c: Cond) -> u32
+    pub fn value(&self, who: Actor, c: WaitCondition) -> u32
         requires { MayLook self.now.setup who c }
         ensures { result ≡ value_of self.now.setup self.now.history who c }
     {
         match c {
-            Cond::Frames(_) => self.clock.frames,
-            Cond::Fence(f) => number_if(self.fences.is_signalled(f)),
-            Cond::Presents(s, _) => self.sessions[s.0 as usize - 1].account.presents,
-            Cond::Credits(_) => match who {
+            WaitCondition::Frames(_) => self.clock.frames,
+            WaitCondition::Fence(f) => number_if(self.fences.is_signalled(f)),
+            WaitCondition::Presents(s, _) => self.sessions[s.0 as usize - 1].account.presents,
+            WaitCondition::Credits(_) => match who {
                 Actor::Session(s) => self.sessions[s.0 as usize - 1].credits(),
                 _ => 0,
             },
-            Cond::Taken(_) => match who {
+            WaitCondition::Taken(_) => match who {
                 Actor::Session(s) => self.sessions[s.0 as usize - 1].taken(),
                 _ => 0,
             },
-            Cond::Answers(_) => match who {
+            WaitCondition::Answers(_) => match who {
                 Actor::Session(s) => self.watchers.answers(s),
                 _ => 0,
             },
@@ -86,16 +86,16 @@ impl Board {
 }
 
 /// The number that a condition asks for: it is met by a value that isn't below it.
-pub fn asked_of(c: Cond) -> u32
+pub fn asked_of(c: WaitCondition) -> u32
     ensures { result ≡ asked_of c }
 {
     match c {
-        Cond::Frames(n) => n,
-        Cond::Credits(n) => n,
-        Cond::Taken(n) => n,
-        Cond::Answers(n) => n,
-        Cond::Fence(_) => 1,
-        Cond::Presents(_, n) => n,
+        WaitCondition::Frames(n) => n,
+        WaitCondition::Credits(n) => n,
+        WaitCondition::Taken(n) => n,
+        WaitCondition::Answers(n) => n,
+        WaitCondition::Fence(_) => 1,
+        WaitCondition::Presents(_, n) => n,
     }
 }
 

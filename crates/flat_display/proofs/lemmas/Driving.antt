@@ -6,7 +6,7 @@ use Rattle.std.proofs.lemmas.List.Folds.{list_any-append}
 use Rattle.flat_io.specs.Counts.{has_risen}
 use Rattle.flat_base.specs.declared.ids.FrameNo.{FrameNo}
 use Rattle.flat_scene.specs.declared.frames.FrameOut.{FrameOut}
-use Rattle.flat_scene.specs.declared.frames.Lost.{Lost}
+use Rattle.flat_scene.specs.declared.frames.LostDisplay.{LostDisplay}
 use Rattle.flat_io.specs.Told.{Appends}
 use Rattle.flat_display.specs.Lost.{is_lost, lost_at, AreWithin}
 use Rattle.flat_display.specs.Shows.{Takes, Fails, Shows}
@@ -31,31 +31,31 @@ risen_before a b c r h = grind arith
 risen_after : (a b c : ℕ) → a ≤ b → IsTrue (has_risen b c) → IsTrue (has_risen a c)
 risen_after a b c h r = grind arith
 
-own_loss : (l : Lost) (ls : List Lost) (n : ℕ) (b : Bool) → (l.display == n) ≡ b → lost_at (l ∷ ls) n ≡ (if b then Some l.frame else lost_at ls n)
+own_loss : (l : LostDisplay) (ls : List LostDisplay) (n : ℕ) (b : Bool) → (l.display == n) ≡ b → lost_at (l ∷ ls) n ≡ (if b then Some l.frame else lost_at ls n)
 own_loss l ls n b e = rw e refl
 
-by_display : (l : Lost) (n : ℕ) → ((l.display == n) ≡ true) ⊎ ((l.display == n) ≡ false)
+by_display : (l : LostDisplay) (n : ℕ) → ((l.display == n) ≡ true) ⊎ ((l.display == n) ≡ false)
 by_display l n = by _ refl
   where
     by : (b : Bool) → (l.display == n) ≡ b → ((l.display == n) ≡ true) ⊎ ((l.display == n) ≡ false)
     by true e = inl e
     by false e = inr e
 
-not_lost_at : (lost : List Lost) (n : ℕ) → is_lost lost n ≡ false → lost_at lost n ≡ None
+not_lost_at : (lost : List LostDisplay) (n : ℕ) → is_lost lost n ≡ false → lost_at lost n ≡ None
 not_lost_at [] n h = refl
 not_lost_at (l ∷ ls) n h = own_loss l ls n false (grind (arith, not_first l ls n h)) ∙ not_lost_at ls n (not_later l ls n h)
 
-later_lost : (l : Lost) (ls : List Lost) (n : ℕ) → (l.display == n) ≡ false → is_lost (l ∷ ls) n ≡ true → is_lost ls n ≡ true
+later_lost : (l : LostDisplay) (ls : List LostDisplay) (n : ℕ) → (l.display == n) ≡ false → is_lost (l ∷ ls) n ≡ true → is_lost ls n ≡ true
 later_lost l ls n e h = grind arith
 
-lost_at-append_lost : (lost more : List Lost) (n : ℕ) → is_lost lost n ≡ true → lost_at (lost ++ more) n ≡ lost_at lost n
+lost_at-append_lost : (lost more : List LostDisplay) (n : ℕ) → is_lost lost n ≡ true → lost_at (lost ++ more) n ≡ lost_at lost n
 lost_at-append_lost [] more n h = absurd (grind arith)
 lost_at-append_lost (l ∷ ls) more n h = elim (by_display l n) [
   | inl e ↦ own_loss l (ls ++ more) n true e ∙ sym (own_loss l ls n true e)
   | inr e ↦ own_loss l (ls ++ more) n false e ∙ lost_at-append_lost ls more n (later_lost l ls n e h) ∙ sym (own_loss l ls n false e)
 ]
 
-lost_at-append_new : (lost more : List Lost) (n : ℕ) → is_lost lost n ≡ false → lost_at (lost ++ more) n ≡ lost_at more n
+lost_at-append_new : (lost more : List LostDisplay) (n : ℕ) → is_lost lost n ≡ false → lost_at (lost ++ more) n ≡ lost_at more n
 lost_at-append_new [] more n h = refl
 lost_at-append_new (l ∷ ls) more n h = own_loss l (ls ++ more) n false (grind (arith, not_first l ls n h)) ∙ lost_at-append_new ls more n (not_later l ls n h)
 
@@ -65,14 +65,15 @@ some_none h = cc
 no_both : (b : Bool) → b ≡ false → b ≡ true → ⊥
 no_both b h k = grind arith
 
-not_lost : (lost : List Lost) (n : ℕ) → lost_at lost n ≡ None → is_lost lost n ≡ false
+not_lost : (lost : List LostDisplay) (n : ℕ) → lost_at lost n ≡ None → is_lost lost n ≡ false
 not_lost [] n h = refl
 not_lost (l ∷ ls) n h = elim (by_display l n) [
   | inl e ↦ absurd (some_none (sym (own_loss l ls n true e) ∙ h))
   | inr e ↦ let later = not_lost ls n (sym (own_loss l ls n false e) ∙ h) in grind (arith, e, later)
 ]
 
-skip_one : (lost : List Lost) (l : Lost) (more : List Lost) (n : ℕ) → l.display ≢ n → lost_at (lost ++ l ∷ more) n ≡ lost_at (lost ++ more) n
+skip_one : (lost : List LostDisplay) (l : LostDisplay) (more : List LostDisplay) (n : ℕ) → l.display ≢ n
+    → lost_at (lost ++ l ∷ more) n ≡ lost_at (lost ++ more) n
 skip_one [] l more n h = own_loss l more n false (grind arith)
 skip_one (x ∷ xs) l more n h = elim (by_display x n) [
   | inl e ↦ own_loss x (xs ++ l ∷ more) n true e ∙ sym (own_loss x (xs ++ more) n true e)
@@ -112,11 +113,11 @@ until-new (x ∷ xs) frame new = one_until frame.frame x (xs ++ frame ∷ []) fa
 among_more : (number : FrameNo) (frames more : List FrameOut) → is_among frames number ≡ true → is_among (frames ++ more) number ≡ true
 among_more number frames more h = rw (list_any-append (is_numbered number) frames more, h) refl
 
-at_more : (frames more : List FrameOut) (lost : List Lost) → AreLostAt frames lost → AreLostAt (frames ++ more) lost
+at_more : (frames more : List FrameOut) (lost : List LostDisplay) → AreLostAt frames lost → AreLostAt (frames ++ more) lost
 at_more frames more [] at = tt
 at_more frames more (l ∷ ls) (first, at) = (among_more l.frame frames more first, at_more frames more ls at)
 
-at_append : (frames : List FrameOut) (ls more : List Lost) → AreLostAt frames ls → AreLostAt frames more → AreLostAt frames (ls ++ more)
+at_append : (frames : List FrameOut) (ls more : List LostDisplay) → AreLostAt frames ls → AreLostAt frames more → AreLostAt frames (ls ++ more)
 at_append frames [] more at at' = at'
 at_append frames (l ∷ ls) more (first, at) at' = (first, at_append frames ls more at at')
 
@@ -124,7 +125,7 @@ last_among : (frames : List FrameOut) (frame : FrameOut) → is_among (frames ++
 last_among [] frame = grind arith
 last_among (x ∷ xs) frame = grind (arith, last_among xs frame)
 
-at_of_lost : (frames : List FrameOut) (lost : List Lost) (n : ℕ) → AreLostAt frames lost → is_lost lost n ≡ true
+at_of_lost : (frames : List FrameOut) (lost : List LostDisplay) (n : ℕ) → AreLostAt frames lost → is_lost lost n ≡ true
     → (number : FrameNo) × (lost_at lost n ≡ Some number) × (is_among frames number ≡ true)
 at_of_lost frames [] n at is = absurd (grind arith)
 at_of_lost frames (l ∷ ls) n (first, at) is = elim (by_display l n) [
@@ -134,7 +135,7 @@ at_of_lost frames (l ∷ ls) n (first, at) is = elim (by_display l n) [
 
 module _ {D : Type 0} (told : D → Option (List FrameOut)) (count : D → ℕ) (frame : FrameOut) where
   -- all losses of a show are at its frame
-  shows_at : (frames : List FrameOut) (lost : List Lost) (n : ℕ) (ds ds' : List D) (more : List Lost) → Shows told count frame lost n ds ds' more
+  shows_at : (frames : List FrameOut) (lost : List LostDisplay) (n : ℕ) (ds ds' : List D) (more : List LostDisplay) → Shows told count frame lost n ds ds' more
       → AreLostAt (frames ++ frame ∷ []) more
   shows_at frames lost n ds ds' more none = tt
   shows_at frames lost n (d ∷ ds) (_ ∷ ds') more (passed is rest) = shows_at frames lost (suc n) ds ds' more rest
@@ -142,7 +143,7 @@ module _ {D : Type 0} (told : D → Option (List FrameOut)) (count : D → ℕ) 
   shows_at frames lost n (d ∷ ds) (d' ∷ ds') (l ∷ more) (failed is t rest) = (last_among frames frame, shows_at frames lost (suc n) ds ds' more rest)
 
   -- no display before is lost by a later one's failure
-  none_before : (lost : List Lost) (n : ℕ) (ds ds' : List D) (more : List Lost) (m : ℕ) → Shows told count frame lost n ds ds' more → m < n
+  none_before : (lost : List LostDisplay) (n : ℕ) (ds ds' : List D) (more : List LostDisplay) (m : ℕ) → Shows told count frame lost n ds ds' more → m < n
       → is_lost more m ≡ false
   none_before lost n ds ds' more m none h = refl
   none_before lost n (d ∷ ds) (_ ∷ ds') more m (passed is rest) h = none_before lost (suc n) ds ds' more m rest (omega arith)
@@ -150,7 +151,7 @@ module _ {D : Type 0} (told : D → Option (List FrameOut)) (count : D → ℕ) 
   none_before lost n (d ∷ ds) (d' ∷ ds') (x ∷ more) m (failed is t rest) h = let later =
       none_before lost (suc n) ds ds' more m rest (omega arith) in grind (arith, later)
 
-  passed_one : (lost whole : List Lost) (frames : List FrameOut) (n : ℕ) (old mid : D) → AreLostAt frames lost → is_lost lost n ≡ true
+  passed_one : (lost whole : List LostDisplay) (frames : List FrameOut) (n : ℕ) (old mid : D) → AreLostAt frames lost → is_lost lost n ≡ true
       → lost_at whole n ≡ lost_at lost n → HasHad told count lost frames n old mid → HasHad told count whole (frames ++ frame ∷ []) n old mid
   passed_one lost whole frames n old mid at is same had =
       let found = at_of_lost frames lost n at is in
@@ -164,7 +165,7 @@ module _ {D : Type 0} (told : D → Option (List FrameOut)) (count : D → ℕ) 
         steady = λ free. absurd (no_both _ (not_lost lost n (sym same ∙ not_lost_at whole n free)) is);
       }
 
-  took_one : (lost whole : List Lost) (frames : List FrameOut) (n : ℕ) (old mid new : D) → is_lost lost n ≡ false → lost_at whole n ≡ None
+  took_one : (lost whole : List LostDisplay) (frames : List FrameOut) (n : ℕ) (old mid new : D) → is_lost lost n ≡ false → lost_at whole n ≡ None
       → is_lost whole n ≡ false → Takes told count frame mid new → HasHad told count lost frames n old mid
       → HasHad told count whole (frames ++ frame ∷ []) n old new
   took_one lost whole frames n old mid new is same kept t had =
@@ -178,7 +179,7 @@ module _ {D : Type 0} (told : D → Option (List FrameOut)) (count : D → ℕ) 
         steady = λ _. t.steady ∙ had.steady is;
       }
 
-  failed_one : (lost whole : List Lost) (frames : List FrameOut) (n : ℕ) (old mid new : D) → is_among frames frame.frame ≡ false → is_lost lost n ≡ false
+  failed_one : (lost whole : List LostDisplay) (frames : List FrameOut) (n : ℕ) (old mid new : D) → is_among frames frame.frame ≡ false → is_lost lost n ≡ false
       → lost_at whole n ≡ Some frame.frame → Fails told count frame mid new → HasHad told count lost frames n old mid
       → HasHad told count whole (frames ++ frame ∷ []) n old new
   failed_one lost whole frames n old mid new fresh is same t had =
@@ -194,7 +195,7 @@ module _ {D : Type 0} (told : D → Option (List FrameOut)) (count : D → ℕ) 
         steady = λ free. absurd (some_none (sym same ∙ not_lost_at whole n free));
       }
 
-  have_more : (lost whole more : List Lost) (frames : List FrameOut) (n : ℕ) (olds mids news : List D) → AreLostAt frames lost
+  have_more : (lost whole more : List LostDisplay) (frames : List FrameOut) (n : ℕ) (olds mids news : List D) → AreLostAt frames lost
       → is_among frames frame.frame ≡ false → ((k : ℕ) → n ≤ k → lost_at whole k ≡ lost_at (lost ++ more) k) → Shows told count frame lost n mids news more
       → HaveHad told count lost frames n olds mids → HaveHad told count whole (frames ++ frame ∷ []) n olds news
   have_more lost whole more frames n [] [] [] at fresh same none had = tt
@@ -221,8 +222,8 @@ module _ {D : Type 0} (told : D → Option (List FrameOut)) (count : D → ℕ) 
       )
 
 -- a show loses displays of its own alone
-shows_within : {D : Type 0} (told : D → Option (List FrameOut)) (count : D → ℕ) (frame : FrameOut) (lost : List Lost) (most n : ℕ) (ds ds' : List D)
-    (more : List Lost) → Shows told count frame lost n ds ds' more → 1 ≤ n → n + length ds ≤ suc most → AreWithin most more
+shows_within : {D : Type 0} (told : D → Option (List FrameOut)) (count : D → ℕ) (frame : FrameOut) (lost : List LostDisplay) (most n : ℕ) (ds ds' : List D)
+    (more : List LostDisplay) → Shows told count frame lost n ds ds' more → 1 ≤ n → n + length ds ≤ suc most → AreWithin most more
 shows_within told count frame lost most n ds ds' more none low high = tt
 shows_within told count frame lost most n (d ∷ ds) (_ ∷ ds') more (passed is rest) low high =
     shows_within told count frame lost most (suc n) ds ds' more rest (omega arith) (omega arith)
@@ -232,7 +233,8 @@ shows_within told count frame lost most n (d ∷ ds) (d' ∷ ds') (l ∷ more) (
     (low, omega arith, shows_within told count frame lost most (suc n) ds ds' more rest (omega arith) (omega arith))
 
 -- there are as many displays as before
-pub had_length : {D : Type 0} (told : D → Option (List FrameOut)) (count : D → ℕ) (lost : List Lost) (frames : List FrameOut) (n : ℕ) (olds news : List D)
+pub had_length : {D : Type 0} (told : D → Option (List FrameOut)) (count : D → ℕ) (lost : List LostDisplay) (frames : List FrameOut) (n : ℕ)
+    (olds news : List D)
     → HaveHad told count lost frames n olds news → length news ≡ length olds
 had_length told count lost frames n [] [] had = refl
 had_length told count lost frames n [] (d' ∷ ds') had = absurd had
@@ -247,19 +249,19 @@ have_none told count n (d ∷ ds) = (
 )
 
 -- Before any frame was shown.
-pub driven_none : {D : Type 0} (told : D → Option (List FrameOut)) (count : D → ℕ) (lost : List Lost) (ds : List D) → lost ≡ []
+pub driven_none : {D : Type 0} (told : D → Option (List FrameOut)) (count : D → ℕ) (lost : List LostDisplay) (ds : List D) → lost ≡ []
     → AreDriven told count lost [] ds ds
 driven_none {D} told count lost ds is =
-    let P : List Lost → Type 0 = λ ls. AreDriven told count ls [] ds ds in
+    let P : List LostDisplay → Type 0 = λ ls. AreDriven told count ls [] ds ds in
     subst P (sym is) (record { have_had = have_none told count 1 ds; lost_at_frames = tt; lost_displays = tt })
 
 -- One frame more, of a new number.
 pub driven_more : {D : Type 0} (told : D → Option (List FrameOut)) (count : D → ℕ) (frame : FrameOut) (frames frames' : List FrameOut)
-    (lost lost' more : List Lost) (olds mids news : List D) → is_among frames frame.frame ≡ false → frames' ≡ frames ++ frame ∷ [] → lost' ≡ lost ++ more
+    (lost lost' more : List LostDisplay) (olds mids news : List D) → is_among frames frame.frame ≡ false → frames' ≡ frames ++ frame ∷ [] → lost' ≡ lost ++ more
     → AreDriven told count lost frames olds mids → Shows told count frame lost 1 mids news more → AreDriven told count lost' frames' olds news
 driven_more told count frame frames frames' lost lost' more olds mids news fresh is is' driven shows =
     let P : List FrameOut → Type 0 = λ fs. AreDriven told count lost' fs olds news in
-    let Q : List Lost → Type 0 = λ ls. AreDriven told count ls (frames ++ frame ∷ []) olds news in
+    let Q : List LostDisplay → Type 0 = λ ls. AreDriven told count ls (frames ++ frame ∷ []) olds news in
     subst P (sym is) (subst Q (sym is') (record {
       have_had = have_more told count frame lost (lost ++ more) more frames 1 olds mids news driven.lost_at_frames fresh (λ k h. refl) shows driven.have_had;
       lost_at_frames = at_append (frames ++ frame ∷ []) lost more (at_more frames (frame ∷ []) lost driven.lost_at_frames)
@@ -270,7 +272,8 @@ driven_more told count frame frames frames' lost lost' more olds mids news fresh
     }))
 
 -- the same frames
-pub driven_same : {D : Type 0} (told : D → Option (List FrameOut)) (count : D → ℕ) (frames frames' : List FrameOut) (lost : List Lost) (olds news : List D)
+pub driven_same : {D : Type 0} (told : D → Option (List FrameOut)) (count : D → ℕ) (frames frames' : List FrameOut) (lost : List LostDisplay)
+    (olds news : List D)
     → frames ≡ frames' → AreDriven told count lost frames olds news → AreDriven told count lost frames' olds news
 driven_same told count frames frames' lost olds news e driven = let P : List FrameOut → Type 0 =
     λ fs. AreDriven told count lost fs olds news in subst P e driven

@@ -9,8 +9,8 @@ use Rattle.flat_base.specs.declared.ids.SessionNo.{SessionNo}
 use Rattle.flat_scene.specs.declared.calls.ViewportProps.{ViewportProps}
 use Rattle.flat_scene.specs.declared.journal.Entry.{Entry}
 use Rattle.flat_scene.specs.declared.journal.Event.{Event}
-use Rattle.flat_scene.specs.declared.journal.Kind.{Kind}
-use Rattle.flat_scene.specs.declared.journal.Kind.TheVariants.{View, Viewport}
+use Rattle.flat_scene.specs.declared.journal.EntryKind.{EntryKind}
+use Rattle.flat_scene.specs.declared.journal.EntryKind.TheVariants.{View, Viewport}
 use Rattle.flat_scene.specs.declared.journal.Reply.{Reply}
 use Rattle.flat_scene.specs.declared.journal.Reply.TheVariants.{Done}
 use Rattle.flat_scene.specs.declared.setup.PairDecl.{PairDecl}
@@ -31,7 +31,7 @@ use Rattle.flat_facts.proofs.lemmas.Tests.{same-pair}
 use Rattle.flat_rules.proofs.lemmas.OwnedTree.{pair_no}
 
 -- whether an entry uses a viewport end, or is refused it
-abbrev pub is_viewport : Kind → Bool
+abbrev pub is_viewport : EntryKind → Bool
 is_viewport (Viewport p props) = true
 is_viewport _ = false
 
@@ -47,7 +47,7 @@ module _ (setup : Setup) (before : List Entry) (e : Entry) (legal : Legal setup 
   view-silent : (s : SessionNo) → is_closed s before ≡ false → (q : PairNo) → e.kind ≡ View q → IsSilent setup s before e
   view-silent s opened q is p owned = by_pair (q.0 == p.0) refl (is_done e.reply) refl
     where
-      K : Kind → Type 0
+      K : EntryKind → Type 0
       K kind = (is_finish kind ≡ false) × (uses_viewport p kind ≡ false) × (uses_view p kind ≡ (q.0 == p.0))
 
       kind_is : K e.kind
@@ -67,7 +67,7 @@ module _ (setup : Setup) (before : List Entry) (e : Entry) (legal : Legal setup 
       by_pair true here false done = still (rw (kind_is.2, here, done) refl)
       by_pair true here true done =
           let pair : q ≡ p = same-pair q p here in
-          let R : Kind → Type 0 = λ kind. e.reply ≡ reply_to setup before e.actor e.calls kind in
+          let R : EntryKind → Type 0 = λ kind. e.reply ≡ reply_to setup before e.actor e.calls kind in
           let replied : e.reply ≡ cond (length (view_uses q before) == 0) Done refused_token = subst R is legal.1.reply in
           let unused : used_in before q ≡ false = fresh-view (length (view_uses q before)) e.reply (length (view_uses q before) == 0) refl replied done in
           let U : PairNo → Type 0 = λ r. used_in before r ≡ false in
@@ -76,7 +76,7 @@ module _ (setup : Setup) (before : List Entry) (e : Entry) (legal : Legal setup 
             told-unheld setup p (status_of p) before e (rw (unwatched setup p before (status_of p) is_status legal.0 none) refl),
           )
 
-  silent-by : (s : SessionNo) → is_closed s before ≡ false → (kind : Kind) → e.kind ≡ kind → is_finish kind ≡ false → is_viewport kind ≡ false
+  silent-by : (s : SessionNo) → is_closed s before ≡ false → (kind : EntryKind) → e.kind ≡ kind → is_finish kind ≡ false → is_viewport kind ≡ false
       → IsSilent setup s before e
   silent-by s opened (View q) is no_finish no_viewport = view-silent s opened q is
   silent-by s opened (Viewport q props) is no_finish no_viewport = let wrong : true ≡ false = no_viewport in cc
@@ -194,7 +194,7 @@ module _ (setup : Setup) (before : List Entry) (e : Entry) (legal : Legal setup 
       )
 
   -- the kind's tests
-  abbrev IsJoin : PairNo → Kind → Type 0
+  abbrev IsJoin : PairNo → EntryKind → Type 0
   IsJoin q kind = (is_finish kind ≡ false) × (is_begin kind ≡ false) × ((p : PairNo) → (uses_view p kind ≡ false) × (uses_viewport p kind ≡ (q.0 == p.0)))
 
   joined-kind : (q : PairNo) (props : ViewportProps) → e.kind ≡ Viewport q props → IsJoin q e.kind

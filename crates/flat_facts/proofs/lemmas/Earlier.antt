@@ -6,8 +6,8 @@ use Rattle.std.proofs.lemmas.List.{append-nil, append_assoc}
 use Rattle.flat_base.specs.declared.ids.SessionNo.{SessionNo}
 use Rattle.flat_scene.specs.declared.calls.Call.{Call}
 use Rattle.flat_scene.specs.declared.journal.Entry.{Entry}
-use Rattle.flat_scene.specs.declared.journal.Kind.{Kind}
-use Rattle.flat_scene.specs.declared.journal.Kind.TheVariants.{Begin}
+use Rattle.flat_scene.specs.declared.journal.EntryKind.{EntryKind}
+use Rattle.flat_scene.specs.declared.journal.EntryKind.TheVariants.{Begin}
 use Rattle.flat_scene.specs.declared.setup.Setup.{Setup}
 use Rattle.flat_scene.specs.Draft.{Draft, empty_draft}
 use Rattle.flat_scene.specs.Frames.{taken}
@@ -120,7 +120,7 @@ taken-begin setup s (h ▹ e) = by_kind (taken-begin setup s h) (is_begin e.kind
     by_kind before true is = refl
     by_kind before false is = taken-quiet setup h e s is ∙ before
 
-no-begin-at-finish : (kind : Kind) → is_finish kind ≡ true → is_begin kind ≡ false
+no-begin-at-finish : (kind : EntryKind) → is_finish kind ≡ true → is_begin kind ≡ false
 no-begin-at-finish (Begin time) is = cc
 no-begin-at-finish kind is = refl
 
@@ -136,7 +136,7 @@ taken-finished setup s (h ▹ e) rests = by_kind (λ r. taken-finished setup s h
     by_kind before false quiet true ends r = taken-quiet setup h e s quiet ∙ taken-begin setup s h
     by_kind before false quiet false goes r = taken-quiet setup h e s quiet ∙ before (rw (quiet, goes) at r)
 
-frame-rests : (h : List Entry) (kind : Kind) → keeps_time h kind ≡ true → is_begin kind ≡ true → is_frame_open h ≡ false
+frame-rests : (h : List Entry) (kind : EntryKind) → keeps_time h kind ≡ true → is_begin kind ≡ true → is_frame_open h ≡ false
 frame-rests h (Begin time) keeps is = not-true (is_frame_open h) (and-left (not (is_frame_open h)) (nat_le (begin_time h) time) keeps)
 frame-rests h _ keeps is = cc
 

@@ -10,7 +10,7 @@ use Rattle.flat_scene.specs.declared.calls.Call.{Call}
 use Rattle.flat_scene.specs.declared.calls.Call.TheVariants.{CreateView, ReleaseView, CreateViewport, ReleaseViewport, Clear}
 use Rattle.flat_scene.specs.declared.setup.Setup.{Setup}
 use Rattle.flat_base.proofs.lemmas.Tests.{and-left, and-right}
-use Rattle.flat_facts.specs.declared.live.Live.{Live}
+use Rattle.flat_facts.specs.declared.live_viewport.LiveViewport.{LiveViewport}
 use Rattle.flat_facts.specs.Clears.{is_cleared, clears_pair}
 use Rattle.flat_rules.specs.Legal.{owns_view, owns_viewport, owns_in_call, is_link, all_but_last, number_if}
 use Rattle.flat_facts.specs.Lives.{lives_then, lives_after, clears_live, count_of}
@@ -60,25 +60,25 @@ module _ (setup : Setup) (s : SessionNo) (p : PairNo) where
       let rest = foreign-view foreign (view_then view call) calls one.1 (and-right (owns_in_call setup s call) (list_all (owns_in_call setup s) calls) owned) in
       record { ends = rw one.0 (omega (arith, rest.ends)); after = rest.after }
 
-  abbrev is_it : Live → Bool
+  abbrev is_it : LiveViewport → Bool
   is_it live = live.pair.0 == p.0
 
   -- Live viewports of a session none of which is of the pair, and how often calls clear one.
-  pub record IsForeignLive (lives : List Live) (calls : List Call) : Type 0 where
+  pub record IsForeignLive (lives : List LiveViewport) (calls : List Call) : Type 0 where
     pub clears : count_of (clears_live p) lives calls ≡ 0
     pub after : list_any is_it (lives_after lives calls) ≡ false
 
-  live-one : owns_viewport setup s p ≡ false → (lives : List Live) (call : Call) → list_any is_it lives ≡ false → owns_in_call setup s call ≡ true
+  live-one : owns_viewport setup s p ≡ false → (lives : List LiveViewport) (call : Call) → list_any is_it lives ≡ false → owns_in_call setup s call ≡ true
       → (clears_live p lives call ≡ false) × (list_any is_it (lives_then lives call) ≡ false)
   live-one foreign lives (CreateViewport c q w h inset) none owned =
-      let one : Live = record { name = c; pair = q } in
+      let one : LiveViewport = record { name = c; pair = q } in
       let last : list_any is_it (one ∷ []) ≡ false = rw (owned-differs (owns_viewport setup s) q p owned foreign (q.0 == p.0) refl) refl in
       (refl, any-append is_it lives (one ∷ []) none last)
   live-one foreign lives (ReleaseViewport c) none owned = (refl, any-kept is_it (λ live. not (live.name.0 == c.0)) lives none)
   live-one foreign lives Clear none owned = (none, refl)
   live-one foreign lives _ none owned = (refl, none)
 
-  pub foreign-live : owns_viewport setup s p ≡ false → (lives : List Live) (calls : List Call) → list_any is_it lives ≡ false
+  pub foreign-live : owns_viewport setup s p ≡ false → (lives : List LiveViewport) (calls : List Call) → list_any is_it lives ≡ false
       → list_all (owns_in_call setup s) calls ≡ true → IsForeignLive lives calls
   foreign-live foreign lives [] none owned = record { clears = refl; after = none }
   foreign-live foreign lives (call ∷ calls) none owned =
@@ -114,7 +114,7 @@ nothing-lives p (ReleaseViewport c ∷ calls) tame = omega (arith, nothing-lives
 nothing-lives p (Clear ∷ calls) tame = omega (arith, nothing-lives p calls (tame-rest Clear calls tame))
 nothing-lives p (call ∷ calls) tame = omega (arith, nothing-lives p calls (tame-rest call calls tame))
 
-clears-last : (p : PairNo) (lives : List Live) → clears_pair p lives [] ≡ false
+clears-last : (p : PairNo) (lives : List LiveViewport) → clears_pair p lives [] ≡ false
 clears-last p [] = refl
 clears-last p (one ∷ lives) = let none = clears-last p lives in by_pair (one.pair.0 == p.0) none
   where
@@ -122,7 +122,7 @@ clears-last p (one ∷ lives) = let none = clears-last p lives in by_pair (one.p
     by_pair true none = none
     by_pair false none = none
 
-clears-all : (p : PairNo) (lives : List Live) (calls : List Call) → clears_pair p lives (Clear ∷ calls) ≡ list_any (λ live. live.pair.0 == p.0) lives
+clears-all : (p : PairNo) (lives : List LiveViewport) (calls : List Call) → clears_pair p lives (Clear ∷ calls) ≡ list_any (λ live. live.pair.0 == p.0) lives
 clears-all p [] calls = refl
 clears-all p (one ∷ lives) calls = by_pair (one.pair.0 == p.0) (clears-all p lives calls)
   where
@@ -131,12 +131,12 @@ clears-all p (one ∷ lives) calls = by_pair (one.pair.0 == p.0) (clears-all p l
     by_pair true rest = refl
     by_pair false rest = rest
 
-clears-released : (p : PairNo) (c : ContentId) (lives : List Live) (calls : List Call)
+clears-released : (p : PairNo) (c : ContentId) (lives : List LiveViewport) (calls : List Call)
     → clears_pair p lives (ReleaseViewport c ∷ calls) ≡ clears_pair p (filter (λ live. not (live.name.0 == c.0)) lives) calls
 clears-released p c [] calls = refl
 clears-released p c (one ∷ lives) calls = by_name (one.name.0 == c.0) (clears-released p c lives calls)
   where
-    left : List Live
+    left : List LiveViewport
     left = filter (λ live. not (live.name.0 == c.0)) lives
 
     never : (i b : Bool) → ((i && false) || b) ≡ b
@@ -157,7 +157,7 @@ none-of : (b : Bool) (n : ℕ) → b ≡ nat_lt 0 n → b ≡ nat_lt 0 (0 + n)
 none-of b n is = let same : n ≡ 0 + n = omega arith in is ∙ ap (nat_lt 0) same
 
 -- they clear the viewport of a pair where one of them does so
-pub clears-count : (p : PairNo) (lives : List Live) (calls : List Call) → AreTame calls
+pub clears-count : (p : PairNo) (lives : List LiveViewport) (calls : List Call) → AreTame calls
     → clears_pair p lives calls ≡ nat_lt 0 (count_of (clears_live p) lives calls)
 clears-count p lives [] tame = clears-last p lives
 clears-count p lives (CreateViewport c q w h inset ∷ calls) tame =

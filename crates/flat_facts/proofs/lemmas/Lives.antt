@@ -9,7 +9,7 @@ use Rattle.flat_base.specs.declared.ids.PairNo.{PairNo}
 use Rattle.flat_scene.specs.Draft.{Draft, Made, an_image, a_fill, a_viewport, Name, named, without_name, of_serial, changed_at, empty_draft}
 use Rattle.flat_scene.specs.Effect.{on_image, on_viewport, on_fill, is_serial}
 use Rattle.flat_base.proofs.lemmas.Tests.{and-left, and-right}
-use Rattle.flat_facts.specs.declared.live.Live.{Live}
+use Rattle.flat_facts.specs.declared.live_viewport.LiveViewport.{LiveViewport}
 use Rattle.flat_facts.specs.Lives.{pair_named}
 use Rattle.std.proofs.lemmas.Bool.{not-true}
 
@@ -24,7 +24,7 @@ abbrev pub pair_at : List Made → ℕ → Option PairNo
 pair_at contents serial = option_and_then pair_made (of_serial contents serial)
 
 -- a name of a viewport as a live one, and its serial
-abbrev pub live_at : Name → Option PairNo → List Live
+abbrev pub live_at : Name → Option PairNo → List LiveViewport
 live_at name (Some p) = (record { name = record { 0 = name.id }; pair = p }) ∷ []
 live_at name None = []
 
@@ -33,7 +33,7 @@ serial_at name (Some p) = name.serial ∷ []
 serial_at name None = []
 
 -- those of all names, where the serials are of these pairs
-abbrev pub lives_by : (ℕ → Option PairNo) → List Name → List Live
+abbrev pub lives_by : (ℕ → Option PairNo) → List Name → List LiveViewport
 lives_by pairs [] = []
 lives_by pairs (name ∷ names) = live_at name (pairs name.serial) ++ lives_by pairs names
 
@@ -53,7 +53,7 @@ abbrev pub are_within : ℕ → List Name → Bool
 are_within n = list_all (λ name. nat_le name.serial n)
 
 -- the live viewports of a draft
-abbrev pub lives_of : Draft → List Live
+abbrev pub lives_of : Draft → List LiveViewport
 lives_of d = lives_by (pair_at d.contents) d.content_names
 
 -- What holds of the names of a draft.
@@ -195,16 +195,16 @@ pair-named f id (x ∷ xs) apart =
 
 -- the live ones but for that of an id
 pub lives-without : (f : ℕ → Option PairNo) (id : ℕ) (names : List Name)
-    → lives_by f (without_name id names) ≡ filter (λ (live : Live). not (live.name.0 == id)) (lives_by f names)
+    → lives_by f (without_name id names) ≡ filter (λ (live : LiveViewport). not (live.name.0 == id)) (lives_by f names)
 lives-without f id [] = refl
 lives-without f id (x ∷ xs) = by_id (lives-without f id xs) (x.id == id) refl (f x.serial) refl
   where
-    others : List Live
-    others = filter (λ (live : Live). not (live.name.0 == id)) (lives_by f xs)
+    others : List LiveViewport
+    others = filter (λ (live : LiveViewport). not (live.name.0 == id)) (lives_by f xs)
 
     by_id : lives_by f (without_name id xs) ≡ others → (b : Bool) → (x.id == id) ≡ b → (o : Option PairNo) → f x.serial ≡ o
         → lives_by f (cond (not b) (x ∷ without_name id xs) (without_name id xs))
-        ≡ filter (λ (live : Live). not (live.name.0 == id)) (live_at x o ++ lives_by f xs)
+        ≡ filter (λ (live : LiveViewport). not (live.name.0 == id)) (live_at x o ++ lives_by f xs)
     by_id rest true is None at = rest
     by_id rest true is (Some p) at = rw is rest
     by_id rest false is None at = rw at rest
@@ -223,7 +223,7 @@ lives-unnamed f id (x ∷ xs) apart none =
         → option_and_then f (cond b (Some x.serial) (named xs id)) ≡ None
         → lives_by f (cond (not b) (x ∷ without_name id xs) (without_name id xs)) ≡ lives_by f (x ∷ xs)
     by_id rest others true is h = rw (h, unnamed-kept id xs (same-id x id xs is others)) refl
-    by_id rest others false is h = ap (λ (l : List Live). live_at x (f x.serial) ++ l) (rest h)
+    by_id rest others false is h = ap (λ (l : List LiveViewport). live_at x (f x.serial) ++ l) (rest h)
 
 pub serials-unnamed : (f : ℕ → Option PairNo) (id : ℕ) (names : List Name) → are_apart names ≡ true → option_and_then f (named names id) ≡ None
     → serials_by f (without_name id names) ≡ serials_by f names

@@ -7,7 +7,7 @@ use Rattle.flat_base.specs.declared.ids.ContentId.{ContentId}
 use Rattle.flat_base.specs.declared.ids.PairNo.{PairNo}
 use Rattle.flat_scene.specs.declared.calls.Call.{Call}
 use Rattle.flat_scene.specs.declared.calls.Call.TheVariants.{ReleaseView, ReleaseViewport, Clear}
-use Rattle.flat_facts.specs.declared.live.Live.{Live}
+use Rattle.flat_facts.specs.declared.live_viewport.LiveViewport.{LiveViewport}
 use Rattle.flat_facts.specs.Clears.{clears_pair, is_cleared}
 use Rattle.flat_facts.specs.Views.{ends_it, ends_of, is_loss, view_then}
 
@@ -32,7 +32,7 @@ uncleared name (ReleaseViewport c ∷ calls) none = rw (uncleared name calls non
 uncleared name (Clear ∷ calls) none = let wrong : true ≡ false = none in cc
 uncleared name (call ∷ calls) none = uncleared name calls (or_parts (is_loss call) (list_any is_loss calls) none).1
 
-pub no-clears : (p : PairNo) (live : List Live) (calls : List Call) → list_any is_loss calls ≡ false → clears_pair p live calls ≡ false
+pub no-clears : (p : PairNo) (live : List LiveViewport) (calls : List Call) → list_any is_loss calls ≡ false → clears_pair p live calls ≡ false
 no-clears p [] calls none = refl
 no-clears p (one ∷ live) calls none = rw (uncleared one.name calls none, no-clears p live calls none) (by_test (one.pair.0 == p.0))
   where

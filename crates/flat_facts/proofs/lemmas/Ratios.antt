@@ -6,8 +6,8 @@ use Rattle.flat_base.specs.declared.ids.Actor.TheVariants.{Display, Session, Pro
 use Rattle.flat_base.specs.declared.limits.TheConstants.{RATIO_MIN, RATIO_MAX, SIDE_MAX, SESSIONS_MAX, PROBES_MAX, PAIRS_MAX, BUFFER_COLLECTIONS_MAX}
 use Rattle.flat_base.specs.declared.limits.TheConstants.{FENCES_MAX}
 use Rattle.flat_scene.specs.declared.journal.Entry.{Entry}
-use Rattle.flat_scene.specs.declared.journal.Kind.{Kind}
-use Rattle.flat_scene.specs.declared.journal.Kind.TheVariants.{Dpr}
+use Rattle.flat_scene.specs.declared.journal.EntryKind.{EntryKind}
+use Rattle.flat_scene.specs.declared.journal.EntryKind.TheVariants.{Dpr}
 use Rattle.flat_scene.specs.declared.setup.Setup.{Setup}
 use Rattle.flat_scene.specs.Frames.{ratio, ratio_set}
 use Rattle.flat_scene.specs.History.{◌▹◌}
@@ -48,7 +48,8 @@ has-display setup limits =
     record { ratio = all.0; width = side-most setup.width all.1; height = side-most setup.height all.2 }
 
 -- what an entry sets is a ratio, or it leaves the one before; a session sets none
-set-ratio : (setup : Setup) (who : Actor) (kind : Kind) (before : ℕ) → may_act setup kind who ≡ true → may_name setup who kind ≡ true → is_ratio before ≡ true
+set-ratio : (setup : Setup) (who : Actor) (kind : EntryKind) (before : ℕ) → may_act setup kind who ≡ true → may_name setup who kind ≡ true
+    → is_ratio before ≡ true
     → is_ratio (unwrap_or (ratio_set kind) before) ≡ true
 set-ratio setup Display (Dpr q) before acts named was = named
 set-ratio setup (Session s) (Dpr q) before acts named was = absurd (let wrong : false ≡ true = acts in cc)

@@ -15,8 +15,8 @@ use Rattle.flat_base.specs.declared.limits.TheConstants.{OPACITY_MAX, TREE_NODES
 use Rattle.flat_scene.specs.declared.calls.Call.{Call}
 use Rattle.flat_scene.specs.declared.calls.PresentArgs.{PresentArgs}
 use Rattle.flat_scene.specs.declared.journal.Entry.{Entry}
-use Rattle.flat_scene.specs.declared.journal.Kind.{Kind}
-use Rattle.flat_scene.specs.declared.journal.Kind.TheVariants.{Present}
+use Rattle.flat_scene.specs.declared.journal.EntryKind.{EntryKind}
+use Rattle.flat_scene.specs.declared.journal.EntryKind.TheVariants.{Present}
 use Rattle.flat_scene.specs.declared.journal.Reply.{Reply}
 use Rattle.flat_scene.specs.declared.journal.Reply.TheVariants.{Presented}
 use Rattle.flat_scene.specs.declared.setup.PairDecl.{PairDecl}
@@ -81,7 +81,7 @@ module _ (setup : Setup) (s : SessionNo) where
       may : MayEnter setup before (Session s) e.calls (Present args)
       may =
           let M : Actor → Type 0 = λ a. MayEnter setup before a e.calls e.kind in
-          let K : Kind → Type 0 = λ kind. MayEnter setup before (Session s) e.calls kind in
+          let K : EntryKind → Type 0 = λ kind. MayEnter setup before (Session s) e.calls kind in
           subst K kind (subst M who legal.1.may)
 
       opened : is_closed s before ≡ false
@@ -116,7 +116,8 @@ module _ (setup : Setup) (s : SessionNo) where
             },
           )
 
-  published-sound : (before : List Entry) (e : Entry) → Legal setup (before ▹ e) → is_session s e.actor ≡ true → (kind : Kind) (reply : Reply) → e.kind ≡ kind
+  published-sound : (before : List Entry) (e : Entry) → Legal setup (before ▹ e) → is_session s e.actor ≡ true → (kind : EntryKind) (reply : Reply)
+      → e.kind ≡ kind
       → e.reply ≡ reply
       → AllByRecursion (IsSound setup s) (published kind reply (calls s before ++ e.calls))
   published-sound before e legal mine (Present args) (Presented n k) kind reply =

@@ -6,8 +6,8 @@ use Rattle.std.proofs.lemmas.List.{append-nil}
 use Rattle.flat_base.specs.declared.ids.SessionNo.{SessionNo}
 use Rattle.flat_scene.specs.declared.calls.Call.{Call}
 use Rattle.flat_scene.specs.declared.journal.Entry.{Entry}
-use Rattle.flat_scene.specs.declared.journal.Kind.{Kind}
-use Rattle.flat_scene.specs.declared.journal.Kind.TheVariants.{Present}
+use Rattle.flat_scene.specs.declared.journal.EntryKind.{EntryKind}
+use Rattle.flat_scene.specs.declared.journal.EntryKind.TheVariants.{Present}
 use Rattle.flat_scene.specs.declared.journal.Reply.{Reply}
 use Rattle.flat_scene.specs.declared.journal.Reply.TheVariants.{Presented}
 use Rattle.flat_scene.specs.declared.setup.Setup.{Setup}
@@ -38,7 +38,7 @@ other-stamp test lasting s h e stamp other old =
       opened = λ o. old.opened (closed-before (is_session s e.actor) e (own s h) o) ∙ sym (stamp-other test lasting s h e other);
     }
 
-pub not-presented : (kind : Kind) (reply : Reply) (made : List Call) → closes reply ≡ true → published kind reply made ≡ []
+pub not-presented : (kind : EntryKind) (reply : Reply) (made : List Call) → closes reply ≡ true → published kind reply made ≡ []
 not-presented (Present args) (Presented n k) made is = cc
 not-presented kind reply made is = refl
 

@@ -8,8 +8,8 @@ use Rattle.flat_base.specs.declared.ids.Actor.TheVariants.{Display, Session, Pro
 use Rattle.flat_base.specs.declared.ids.PairNo.{PairNo}
 use Rattle.flat_base.specs.declared.ids.SessionNo.{SessionNo}
 use Rattle.flat_scene.specs.declared.journal.Entry.{Entry}
-use Rattle.flat_scene.specs.declared.journal.Kind.{Kind}
-use Rattle.flat_scene.specs.declared.journal.Kind.TheVariants.{Viewport, Finish}
+use Rattle.flat_scene.specs.declared.journal.EntryKind.{EntryKind}
+use Rattle.flat_scene.specs.declared.journal.EntryKind.TheVariants.{Viewport, Finish}
 use Rattle.flat_scene.specs.declared.journal.Reply.{Reply}
 use Rattle.flat_scene.specs.declared.journal.Reply.TheVariants.{Done}
 use Rattle.flat_scene.specs.declared.setup.Setup.{Setup}
@@ -17,7 +17,7 @@ use Rattle.flat_scene.specs.Draft.{empty_draft}
 use Rattle.flat_scene.specs.Frames.{taken}
 use Rattle.flat_scene.specs.History.{◌▹◌, own, calls, closes, is_finish, is_closed, is_session}
 use Rattle.flat_scene.specs.Setups.{is_declared}
-use Rattle.flat_facts.specs.declared.live.Live.{Live}
+use Rattle.flat_facts.specs.declared.live_viewport.LiveViewport.{LiveViewport}
 use Rattle.flat_rules.specs.Ends.{to_begin, to_finished, times, releases_viewport, viewport_uses, uses_viewport, is_done}
 use Rattle.flat_rules.specs.Legal.{Legal, reply_to, refused_token, has_token, is_token_back, owns_viewport, is_frame_open, keeps_time, may_act}
 use Rattle.flat_facts.specs.Lives.{held_of, lives_after, made_of_pair}
@@ -32,7 +32,7 @@ use Rattle.flat_base.proofs.lemmas.Tests.{and-left, and-right}
 use Rattle.flat_rules.proofs.lemmas.ListLemmas.{none-put}
 
 -- the live viewports of a session
-abbrev pub live_in : SessionNo → List Entry → List Live
+abbrev pub live_in : SessionNo → List Entry → List LiveViewport
 live_in s h = lives_after [] (calls s h)
 
 -- a token that is neither used nor comes back stays where it is
@@ -118,7 +118,7 @@ module _ (setup : Setup) (s : SessionNo) (p : PairNo) where
     uses-is false e xs = omega arith
 
     -- what a use asks for
-    used-held : (kind : Kind) (reply : Reply) → reply ≡ reply_to setup h e.actor e.calls kind → (uses_viewport p kind && is_done reply) ≡ true
+    used-held : (kind : EntryKind) (reply : Reply) → reply ≡ reply_to setup h e.actor e.calls kind → (uses_viewport p kind && is_done reply) ≡ true
         → has_token setup p h ≡ true
     used-held (Viewport q props) reply replied used =
         let here : (q.0 == p.0) ≡ true = and-left (q.0 == p.0) (is_done reply) used in
@@ -163,17 +163,17 @@ module _ (setup : Setup) (s : SessionNo) (p : PairNo) where
             }
 
     -- the end of a frame
-    at-display : (kind : Kind) (actor : Actor) → may_act setup kind actor ≡ true → is_finish kind ≡ true → is_session s actor ≡ false
+    at-display : (kind : EntryKind) (actor : Actor) → may_act setup kind actor ≡ true → is_finish kind ≡ true → is_session s actor ≡ false
     at-display Finish Display may is = refl
     at-display Finish (Session t) may is = cc
     at-display Finish (Probe n) may is = cc
     at-display _ actor may is = cc
 
-    no-use-at-finish : (kind : Kind) → is_finish kind ≡ true → uses_viewport p kind ≡ false
+    no-use-at-finish : (kind : EntryKind) → is_finish kind ≡ true → uses_viewport p kind ≡ false
     no-use-at-finish (Viewport q props) is = cc
     no-use-at-finish _ is = refl
 
-    finish-open : (kind : Kind) → keeps_time h kind ≡ true → is_finish kind ≡ true → is_frame_open h ≡ true
+    finish-open : (kind : EntryKind) → keeps_time h kind ≡ true → is_finish kind ≡ true → is_frame_open h ≡ true
     finish-open Finish keeps is = keeps
     finish-open _ keeps is = cc
 

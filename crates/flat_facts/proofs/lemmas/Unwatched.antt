@@ -13,8 +13,8 @@ use Rattle.flat_scene.specs.declared.calls.Call.{Call}
 use Rattle.flat_scene.specs.declared.calls.Watch.{Watch}
 use Rattle.flat_scene.specs.declared.calls.Watch.TheVariants as watch
 use Rattle.flat_scene.specs.declared.journal.Entry.{Entry}
-use Rattle.flat_scene.specs.declared.journal.Kind.{Kind}
-use Rattle.flat_scene.specs.declared.journal.Kind.TheVariants.{Get}
+use Rattle.flat_scene.specs.declared.journal.EntryKind.{EntryKind}
+use Rattle.flat_scene.specs.declared.journal.EntryKind.TheVariants.{Get}
 use Rattle.flat_scene.specs.declared.setup.Setup.{Setup}
 use Rattle.flat_scene.specs.Draft.{Draft, Made, an_image, a_fill, a_viewport, made_of}
 use Rattle.flat_scene.specs.Effect.{draft_of}
@@ -94,7 +94,8 @@ module _ (setup : Setup) (q : PairNo) where
           in-draft before w is d (λ here. sym unused ∙ watched-used setup before carries t get legal may d
           (ok-is setup (draft_of setup (calls t before ++ carries)) d e) q here) get
 
-  unasked : (before : List Entry) (w : Watcher) → IsOfView w → (e : Entry) → Legal setup before → (kind : Kind) → MayEnter setup before e.actor e.calls kind
+  unasked : (before : List Entry) (w : Watcher) → IsOfView w → (e : Entry) → Legal setup before → (kind : EntryKind)
+      → MayEnter setup before e.actor e.calls kind
       → used_in before q ≡ false → asked_in setup w before e kind ≡ None
   unasked before w is e legal (Get get) may unused = rw (by-actor before w is e.actor e.calls get legal may unused) refl
   unasked before w is e legal _ may unused = refl

@@ -11,8 +11,8 @@ use Rattle.flat_scene.specs.declared.calls.Call.{Call}
 use Rattle.flat_scene.specs.declared.calls.Call.TheVariants.{CreateView, CreateViewport}
 use Rattle.flat_scene.specs.declared.calls.ViewportProps.{ViewportProps}
 use Rattle.flat_scene.specs.declared.journal.Entry.{Entry}
-use Rattle.flat_scene.specs.declared.journal.Kind.{Kind}
-use Rattle.flat_scene.specs.declared.journal.Kind.TheVariants.{View, Viewport, Close}
+use Rattle.flat_scene.specs.declared.journal.EntryKind.{EntryKind}
+use Rattle.flat_scene.specs.declared.journal.EntryKind.TheVariants.{View, Viewport, Close}
 use Rattle.flat_scene.specs.declared.journal.Reply.{Reply}
 use Rattle.flat_scene.specs.declared.journal.Reply.TheVariants.{Done}
 use Rattle.flat_scene.specs.declared.setup.Setup.{Setup}
@@ -72,7 +72,7 @@ module _ (setup : Setup) (s : SessionNo) (p : PairNo) (owned : owns_viewport set
   one-owner (Some (Session v)) t u a b = grind (arith, nat_tests)
 
   -- another's entry is no use
-  other-use : (h : List Entry) (who : Actor) (carries : List Call) (kind : Kind) → MayEnter setup h who carries kind → is_session s who ≡ false
+  other-use : (h : List Entry) (who : Actor) (carries : List Call) (kind : EntryKind) → MayEnter setup h who carries kind → is_session s who ≡ false
       → uses_viewport p kind ≡ false
   other-use h Display carries (Viewport q props) may other = let wrong : false ≡ true = may.acts in cc
   other-use h (Probe n) carries (Viewport q props) may other = let wrong : false ≡ true = may.acts in cc
@@ -89,7 +89,7 @@ module _ (setup : Setup) (s : SessionNo) (p : PairNo) (owned : owns_viewport set
   other-use h who carries _ may other = refl
 
   -- what it makes by its own entries is what it uses
-  own-use : (h : List Entry) (who : Actor) (carries : List Call) (kind : Kind) (reply : Reply) → MayEnter setup h (Session s) carries kind
+  own-use : (h : List Entry) (who : Actor) (carries : List Call) (kind : EntryKind) (reply : Reply) → MayEnter setup h (Session s) carries kind
       → reply ≡ reply_to setup h (Session s) carries kind → closes reply ≡ false
       → made_of_pair p carries ≡ number_if (uses_viewport p kind && is_done reply)
   own-use h who carries (Close None) reply may replied stays = let wrong : true ≡ false = sym (ap closes replied) ∙ stays in cc

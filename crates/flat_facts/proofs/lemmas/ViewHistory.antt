@@ -14,8 +14,8 @@ use Rattle.flat_base.specs.declared.ids.SessionNo.{SessionNo}
 use Rattle.flat_scene.specs.declared.calls.Call.{Call}
 use Rattle.flat_scene.specs.declared.calls.Call.TheVariants.{CreateView}
 use Rattle.flat_scene.specs.declared.journal.Entry.{Entry}
-use Rattle.flat_scene.specs.declared.journal.Kind.{Kind}
-use Rattle.flat_scene.specs.declared.journal.Kind.TheVariants.{View, Viewport, Present, Close, End}
+use Rattle.flat_scene.specs.declared.journal.EntryKind.{EntryKind}
+use Rattle.flat_scene.specs.declared.journal.EntryKind.TheVariants.{View, Viewport, Present, Close, End}
 use Rattle.flat_scene.specs.declared.journal.Reply.{Reply}
 use Rattle.flat_scene.specs.declared.journal.Reply.TheVariants.{Done, Presented}
 use Rattle.flat_scene.specs.declared.setup.Setup.{Setup}
@@ -57,7 +57,8 @@ owned-use setup s t q p true is theirs mine other =
     two-owners None t s theirs mine other = let wrong : false ≡ true = theirs in cc
     two-owners (Some u) t s theirs mine other = grind (arith, nat_tests)
 
-no-use : (setup : Setup) (h : List Entry) (s : SessionNo) (p : PairNo) (who : Actor) (carries : List Call) (kind : Kind) → MayEnter setup h who carries kind
+no-use : (setup : Setup) (h : List Entry) (s : SessionNo) (p : PairNo) (who : Actor) (carries : List Call) (kind : EntryKind)
+    → MayEnter setup h who carries kind
     → is_session s who ≡ false → owns_view setup s p ≡ true → uses_view p kind ≡ false
 no-use setup h s p Display carries (View q) may other mine = let wrong : false ≡ true = may.acts in cc
 no-use setup h s p (Probe n) carries (View q) may other mine = let wrong : false ≡ true = may.acts in cc
@@ -88,7 +89,7 @@ one-made ps present n is =
     ap (of_serial (ps ++ present ∷ [])) (add-one (length ps)) ∙ serial-get (ps ++ present ∷ []) (length ps) ∙ slice-last ps present in
     ap (made_at (ps ++ present ∷ [])) is ∙ ap (λ (o : Option Published). unwrap_or (option_map (λ p. p.made) o) []) serial
 
-pub published-made : (kind : Kind) (reply : Reply) (ps : List Published) (all : List Call) → MadeOf ps (published kind reply all) all
+pub published-made : (kind : EntryKind) (reply : Reply) (ps : List Published) (all : List Call) → MadeOf ps (published kind reply all) all
 published-made (Present args) (Presented number credits) ps all n past few =
     let one : length (ps ++ (let p : Published = record { args = args; made = all } in p) ∷ []) ≡ length ps + 1 =
     length-append ps ((let p : Published = record { args = args; made = all } in p) ∷ []) in
@@ -156,7 +157,7 @@ view-reply setup s h who line carries q reply n true mine may none uses replied 
     (or-open (is_closed s h) (is_some (result_ok (draft_of setup (calls s h ++ carries)))) opened may.drafted)
     (and-left (owns_view setup s q) (list_all (owns_in_call setup s) carries) may.owned) unused old)
 
-viewing-own : (setup : Setup) (s : SessionNo) (h : List Entry) (who : Actor) (line : ℕ) (carries : List Call) (kind : Kind) (reply : Reply)
+viewing-own : (setup : Setup) (s : SessionNo) (h : List Entry) (who : Actor) (line : ℕ) (carries : List Call) (kind : EntryKind) (reply : Reply)
     → is_session s who ≡ true → MayEnter setup h (Session s) carries kind
     → reply ≡ reply_to setup h (Session s) carries kind → closes reply ≡ false → is_closed s h ≡ false → ViewingOf setup s h
     → ViewingOf setup s (h ▹ entry_of who line carries kind reply)

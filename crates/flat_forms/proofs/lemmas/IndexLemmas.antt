@@ -9,8 +9,8 @@ use Rattle.std.specs.List.{position_or_len}
 use Rattle.std.proofs.lemmas.List.Folds.{position_or_len_push}
 use Rattle.flat_places.specs.declared.kinds.FaultKind.TheVariants.{BadHead}
 use Rattle.flat_places.specs.declared.script.Script.{Script}
-use Rattle.flat_places.specs.declared.names.Meaning.{Meaning}
-use Rattle.flat_places.specs.declared.names.Meaning.TheVariants.{Session, Probe, Buffers, Pair, Fence}
+use Rattle.flat_places.specs.declared.names.NameMeaning.{NameMeaning}
+use Rattle.flat_places.specs.declared.names.NameMeaning.TheVariants.{Session, Probe, Buffers, Pair, Fence}
 use Rattle.flat_scene.specs.declared.setup.PairDecl.{PairDecl}
 use Rattle.flat_scene.specs.declared.setup.BufferDecl.{BufferDecl}
 use Rattle.flat_scene.specs.declared.setup.FenceDecl.{FenceDecl}
@@ -122,11 +122,12 @@ no_place s w fresh =
     let five = or_parts (is_some (place_of s.fences w)) _ four.1 in
     record { sessions = none _ one.0; probes = none _ two.0; buffers = none _ three.0; pairs = none _ four.0; fences = none _ five.0 }
 
-pub finds_sessions : (s : Script) (name w : Word) (o o' : Option Meaning) → IsFresh s name → o' ≡ cond (bytes_eq w name) (Some (Session (length s.sessions))) o
+pub finds_sessions : (s : Script) (name w : Word) (o o' : Option NameMeaning) → IsFresh s name
+    → o' ≡ cond (bytes_eq w name) (Some (Session (length s.sessions))) o
     → Means o s w → Means o' (with_session s name) w
 finds_sessions s name w o o' fresh is m =
     let none = no_place s name fresh.fresh in
-    let seen = choose {A = Option Meaning} {B = Option ℕ} in
+    let seen = choose {A = Option NameMeaning} {B = Option ℕ} in
     let m' = Some (Session (length s.sessions)) in
     record {
       sessions = added s.sessions name w (session_place o) (session_place o') none.sessions m.sessions
@@ -138,11 +139,11 @@ finds_sessions s name w o o' fresh is m =
       fences = same s.fences name w (fence_place o) (fence_place o') none.fences m.fences (ap fence_place is ∙ seen fence_place (bytes_eq w name) m' o);
     }
 
-pub finds_probes : (s : Script) (name w : Word) (o o' : Option Meaning) → IsFresh s name → o' ≡ cond (bytes_eq w name) (Some (Probe (length s.probes))) o
+pub finds_probes : (s : Script) (name w : Word) (o o' : Option NameMeaning) → IsFresh s name → o' ≡ cond (bytes_eq w name) (Some (Probe (length s.probes))) o
     → Means o s w → Means o' (with_probe s name) w
 finds_probes s name w o o' fresh is m =
     let none = no_place s name fresh.fresh in
-    let seen = choose {A = Option Meaning} {B = Option ℕ} in
+    let seen = choose {A = Option NameMeaning} {B = Option ℕ} in
     let m' = Some (Probe (length s.probes)) in
     record {
       sessions = same s.sessions name w (session_place o) (session_place o') none.sessions m.sessions
@@ -154,11 +155,11 @@ finds_probes s name w o o' fresh is m =
       fences = same s.fences name w (fence_place o) (fence_place o') none.fences m.fences (ap fence_place is ∙ seen fence_place (bytes_eq w name) m' o);
     }
 
-pub finds_buffers : (s : Script) (name w : Word) (d : BufferDecl) (o o' : Option Meaning) → IsFresh s name
+pub finds_buffers : (s : Script) (name w : Word) (d : BufferDecl) (o o' : Option NameMeaning) → IsFresh s name
     → o' ≡ cond (bytes_eq w name) (Some (Buffers (length s.buffers))) o → Means o s w → Means o' (with_buffers s name d) w
 finds_buffers s name w d o o' fresh is m =
     let none = no_place s name fresh.fresh in
-    let seen = choose {A = Option Meaning} {B = Option ℕ} in
+    let seen = choose {A = Option NameMeaning} {B = Option ℕ} in
     let m' = Some (Buffers (length s.buffers)) in
     record {
       sessions = same s.sessions name w (session_place o) (session_place o') none.sessions m.sessions
@@ -170,11 +171,11 @@ finds_buffers s name w d o o' fresh is m =
       fences = same s.fences name w (fence_place o) (fence_place o') none.fences m.fences (ap fence_place is ∙ seen fence_place (bytes_eq w name) m' o);
     }
 
-pub finds_pairs : (s : Script) (name w : Word) (d : PairDecl) (o o' : Option Meaning) → IsFresh s name
+pub finds_pairs : (s : Script) (name w : Word) (d : PairDecl) (o o' : Option NameMeaning) → IsFresh s name
     → o' ≡ cond (bytes_eq w name) (Some (Pair (length s.pairs))) o → Means o s w → Means o' (with_pair s name d) w
 finds_pairs s name w d o o' fresh is m =
     let none = no_place s name fresh.fresh in
-    let seen = choose {A = Option Meaning} {B = Option ℕ} in
+    let seen = choose {A = Option NameMeaning} {B = Option ℕ} in
     let m' = Some (Pair (length s.pairs)) in
     record {
       sessions = same s.sessions name w (session_place o) (session_place o') none.sessions m.sessions
@@ -186,11 +187,11 @@ finds_pairs s name w d o o' fresh is m =
       fences = same s.fences name w (fence_place o) (fence_place o') none.fences m.fences (ap fence_place is ∙ seen fence_place (bytes_eq w name) m' o);
     }
 
-pub finds_fences : (s : Script) (name w : Word) (d : FenceDecl) (o o' : Option Meaning) → IsFresh s name
+pub finds_fences : (s : Script) (name w : Word) (d : FenceDecl) (o o' : Option NameMeaning) → IsFresh s name
     → o' ≡ cond (bytes_eq w name) (Some (Fence (length s.fences))) o → Means o s w → Means o' (with_fence s name d) w
 finds_fences s name w d o o' fresh is m =
     let none = no_place s name fresh.fresh in
-    let seen = choose {A = Option Meaning} {B = Option ℕ} in
+    let seen = choose {A = Option NameMeaning} {B = Option ℕ} in
     let m' = Some (Fence (length s.fences)) in
     record {
       sessions = same s.sessions name w (session_place o) (session_place o') none.sessions m.sessions

@@ -8,7 +8,7 @@ use Rattle.flat_base.specs.declared.ids.FenceNo.{FenceNo}
 use Rattle.flat_text.specs.Pieces.{is_space}
 use Rattle.flat_text.specs.Left.{pieces_left}
 use Rattle.flat_places.specs.declared.kinds.FaultKind.TheVariants.{WrongCount}
-use Rattle.flat_places.specs.declared.places.Places.{Places}
+use Rattle.flat_places.specs.declared.word_cursor.WordCursor.{WordCursor}
 use Rattle.flat_places.specs.Forms.{Word, Reading, Form, both, mapped, place, each, one_or_more, passes}
 use Rattle.flat_places.specs.Reads.{Reads, reading_of, sofar, lower, giving, left}
 use Rattle.std.specs.Str.{bytes_eq}
@@ -50,7 +50,7 @@ goes p (w ∷ ws) some = by_test (p w) refl
     by_test false at = record { w = w; ws = ws; is = refl; none = at }
 
 -- some fences of a list were read, and the others are to come
-pub record ListGoes (test : Word → Reading FenceNo) (follows : Bool) (old new : Places) (found : List FenceNo) : Type 0 where
+pub record ListGoes (test : Word → Reading FenceNo) (follows : Bool) (old new : WordCursor) (found : List FenceNo) : Type 0 where
   pub read : lower (sofar new) (mapped (λ rest. found ++ rest) (each test (before_first (ends_list follows) (left new))))
       ≡ lower (sofar old) (each test (before_first (ends_list follows) (left old)))
   pub more : list_any (ends_list follows) (left new) ≡ list_any (ends_list follows) (left old)
@@ -70,7 +70,7 @@ pub shorter_step : {A : Type 0} (p : Word → Bool) (test : Word → Reading A) 
 shorter_step p test xs ys g is = rw (is, g.is) (omega arith)
 
 -- one fence more
-pub list_goes : (test : Word → Reading FenceNo) (follows : Bool) (old mid new : Places) (found next : List FenceNo) (v : FenceNo)
+pub list_goes : (test : Word → Reading FenceNo) (follows : Bool) (old mid new : WordCursor) (found next : List FenceNo) (v : FenceNo)
     → ListGoes test follows old mid found → Goes (ends_list follows) (left mid) → Reads (place test) mid new v → next ≡ found ++ v ∷ []
     → ListGoes test follows old new next
 list_goes test follows old mid new found next v so_far g read is =
@@ -93,7 +93,7 @@ none_before [] none = refl
 none_before (x ∷ xs) none = absurd (let wrong : false ≡ true = sym none ∙ is_some_word x xs in cc)
 
 -- the list's end
-pub list_ends : (test : Word → Reading FenceNo) (follows : Bool) (old new : Places) (found : List FenceNo)
+pub list_ends : (test : Word → Reading FenceNo) (follows : Bool) (old new : WordCursor) (found : List FenceNo)
     → ListGoes test follows old new found → nat_lt 0 (length (before_first (ends_list follows) (left new))) ≡ false
     → ReadsList (each test) follows old new found
 list_ends test follows old new found so_far none =
@@ -114,7 +114,7 @@ one_at_least test (Err k) [] = refl
 one_at_least test (Ok u) (x ∷ xs) = ap (λ b. lower (lower {A = Unit {0}} (Ok u) (passes WrongCount b)) (each test (x ∷ xs))) (sym (is_some_word x xs))
 one_at_least test (Err k) (x ∷ xs) = ap (λ b. lower (lower {A = Unit {0}} (Err k) (passes WrongCount b)) (each test (x ∷ xs))) (sym (is_some_word x xs))
 
-pub some_list : (test : Word → Reading FenceNo) (follows : Bool) (old mid new : Places) (found : List FenceNo)
+pub some_list : (test : Word → Reading FenceNo) (follows : Bool) (old mid new : WordCursor) (found : List FenceNo)
     → mid.words ≡ old.words → sofar mid ≡ lower (sofar old) (passes WrongCount (nat_lt 0 (length (before_first (ends_list follows) (left old)))))
     → ReadsList (each test) follows mid new found
     → ReadsList (one_or_more test) follows old new found
@@ -135,7 +135,7 @@ all_before : (xs : List Word) → before_first (ends_list false) xs ≡ xs
 all_before [] = refl
 all_before (x ∷ xs) = goes_before (ends_list false) x xs refl ∙ ap (λ ys. x ∷ ys) (all_before xs)
 
-pub last_list : (reading : List Word → Reading (List FenceNo)) (old new : Places) (found : List FenceNo) → ReadsList reading false old new found
+pub last_list : (reading : List Word → Reading (List FenceNo)) (old new : WordCursor) (found : List FenceNo) → ReadsList reading false old new found
     → Reads (λ words. (reading words, [])) old new found
 last_list reading old new found list = record {
   words = sym (all_before (left new)) ∙ list.stops;
@@ -144,7 +144,7 @@ last_list reading old new found list = record {
 
 -- what may stand behind a list's end
 
-pub ends_line : (reading : List Word → Reading (List FenceNo)) (old new : Places) → left old ≡ [] → left new ≡ [] → new.fault ≡ old.fault
+pub ends_line : (reading : List Word → Reading (List FenceNo)) (old new : WordCursor) → left old ≡ [] → left new ≡ [] → new.fault ≡ old.fault
     → Reads (behind_end reading) old new []
 ends_line reading old new none gone same = record {
   words = gone;
@@ -155,7 +155,7 @@ must_end : (p : Word → Bool) (w : Word) (ws : List Word) (b : Bool) → p w �
 must_end p w ws true at none = at
 must_end p w ws false at none = absurd (let wrong : w ∷ before_first p ws ≡ [] = sym (goes_before p w ws at) ∙ none in cc)
 
-pub goes_on_behind : (reading : List Word → Reading (List FenceNo)) (old mid new : Places) (w : Word) (found : List FenceNo)
+pub goes_on_behind : (reading : List Word → Reading (List FenceNo)) (old mid new : WordCursor) (w : Word) (found : List FenceNo)
     → before_first (ends_list true) (left old) ≡ [] → left old ≡ w ∷ left mid → mid.fault ≡ old.fault → Reads (λ words. (reading words, [])) mid new found
     → Reads (behind_end reading) old new found
 goes_on_behind reading old mid new w found stops at same read =
@@ -212,7 +212,8 @@ lists_ok test w ws lists is = by_keyword (bytes_eq w (codes "acquire")) (bytes_e
     by_keyword false true at other = inr ((bytes_eq-Decides w (codes "release")).0 other, sym (by_release test w ws at other) ∙ is)
     by_keyword false false at other = absurd (let wrong : Err WrongCount ≡ Ok lists = sym (by_neither test w ws at other) ∙ is in cc)
 
-pub acquire_read : (test : Word → Reading FenceNo) (old mid past new : Places) (w : Word) (a r : List FenceNo) → left old ≡ w ∷ left mid → mid.fault ≡ old.fault
+pub acquire_read : (test : Word → Reading FenceNo) (old mid past new : WordCursor) (w : Word) (a r : List FenceNo) → left old ≡ w ∷ left mid
+    → mid.fault ≡ old.fault
     → bytes_eq w (codes "acquire") ≡ true
     → ReadsList (one_or_more test) true mid past a → Reads (behind_end (one_or_more test)) past new r → Reads (all_lists test) old new (a, r)
 acquire_read test old mid past new w a r at same is list read =

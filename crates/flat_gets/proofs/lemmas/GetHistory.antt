@@ -14,7 +14,7 @@ use Rattle.flat_scene.specs.declared.calls.Watch.{Watch}
 use Rattle.flat_scene.specs.declared.calls.Watch.TheVariants as watch
 use Rattle.flat_scene.specs.declared.journal.Entry.{Entry}
 use Rattle.flat_scene.specs.declared.journal.Event.{Event}
-use Rattle.flat_scene.specs.declared.journal.Told.{Told}
+use Rattle.flat_scene.specs.declared.journal.WatcherValue.{WatcherValue}
 use Rattle.flat_scene.specs.declared.setup.Setup.{Setup}
 use Rattle.flat_scene.specs.Draft.{Draft, Made, an_image, a_fill, a_viewport, made_of}
 use Rattle.flat_scene.specs.Effect.{draft_of}
@@ -72,7 +72,7 @@ shaped false ends false all finish begin opened no_begin = append-nil (all ++ co
 
 -- ---- the answer to a held get is the event
 
-event-answers : (w : Watcher) (now : Watcher → Option Told) (last : Option Told) (waits : Option Watch)
+event-answers : (w : Watcher) (now : Watcher → Option WatcherValue) (last : Option WatcherValue) (waits : Option Watch)
     → event_of (pair_watched w) waits (answer (now w) (record { last = last; waits = waits })) ≡ answers_to now (held_with w last waits)
 event-answers w now last None = refl
 event-answers w now last (Some get) = sym (append-nil (event_of (pair_watched w) (Some get) (news (now w) last)))
@@ -89,7 +89,7 @@ module _ (setup : Setup) where
       ++ flat_map (λ p. flat_map (λ n. told_event setup p (child_of p n) h e) (up_to (length (viewport_uses p h)))) (viewports_of setup s))
       ≡ answers_to (told setup (h ▹ e)) (helds_of setup h s)
   told-part s h e =
-      let now : Watcher → Option Told = told setup (h ▹ e) in
+      let now : Watcher → Option WatcherValue = told setup (h ▹ e) in
       let f : Watcher → List Event = λ w. answers_to now (held_of setup h w) in
       let t : Watcher → List Event = λ w. told_event setup (pair_watched w) w h e in
       let views : List PairNo = views_of setup s in

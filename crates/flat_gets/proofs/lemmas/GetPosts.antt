@@ -12,9 +12,9 @@ use Rattle.flat_base.specs.declared.ids.SessionNo.{SessionNo}
 use Rattle.flat_scene.specs.declared.calls.ViewportProps.{ViewportProps}
 use Rattle.flat_scene.specs.declared.journal.Entry.{Entry}
 use Rattle.flat_scene.specs.declared.journal.Event.{Event}
-use Rattle.flat_scene.specs.declared.journal.Kind.{Kind}
-use Rattle.flat_scene.specs.declared.journal.Kind.TheVariants.{View, Viewport}
-use Rattle.flat_scene.specs.declared.journal.Post.{Post}
+use Rattle.flat_scene.specs.declared.journal.EntryKind.{EntryKind}
+use Rattle.flat_scene.specs.declared.journal.EntryKind.TheVariants.{View, Viewport}
+use Rattle.flat_scene.specs.declared.journal.PostedEvent.{PostedEvent}
 use Rattle.flat_scene.specs.declared.setup.PairDecl.{PairDecl}
 use Rattle.flat_scene.specs.declared.setup.Setup.{Setup}
 use Rattle.flat_scene.specs.Frames.{sessions_to, taken}
@@ -75,7 +75,7 @@ shut-events false true all events is (inr wrong) = cc
 -- ---- a viewport's entry
 
 module _ (setup : Setup) (h : List Entry) (e : Entry) (legal : Legal setup (h ▹ e)) (q : PairNo) (props : ViewportProps) (is : e.kind ≡ Viewport q props) where
-  abbrev IsPlainKind : Kind → Type 0
+  abbrev IsPlainKind : EntryKind → Type 0
   IsPlainKind kind = (is_finish kind ≡ false) × ((is_begin kind ≡ false) × (is_get kind ≡ false))
 
   kind-is : IsPlainKind e.kind
@@ -84,7 +84,7 @@ module _ (setup : Setup) (h : List Entry) (e : Entry) (legal : Legal setup (h �
   posts-none : ((m : ℕ) → 0 < m → m ≤ setup.sessions → events_to setup h e (record { 0 = m }) ≡ []) → posts setup (h ▹ e) ≡ posts setup h
   posts-none none =
       posts-all setup h e
-      ∙ ap (λ (l : List Post). posts setup h ++ l) (flat-nobody (λ s. map (post_of (length h) s) (events_to setup h e s)) setup.sessions
+      ∙ ap (λ (l : List PostedEvent). posts setup h ++ l) (flat-nobody (λ s. map (post_of (length h) s) (events_to setup h e s)) setup.sessions
       (λ m some within. ap (map (post_of (length h) (record { 0 = m }))) (none m some within)))
       ∙ append-nil (posts setup h)
 
@@ -101,13 +101,13 @@ module _ (setup : Setup) (h : List Entry) (e : Entry) (legal : Legal setup (h �
   pub joined-posts : (t : SessionNo) → is_declared setup t ≡ true → owns_view setup t q ≡ true → is_closed t (h ▹ e) ≡ false
       → posts setup (h ▹ e) ≡ posts setup h ++ map (post_of (length h) t) (told_event setup q (layout_of q) h e ++ told_event setup q (status_of q) h e)
   joined-posts t declared owned opened =
-      let f : SessionNo → List Post = λ s. map (post_of (length h) s) (events_to setup h e s) in
+      let f : SessionNo → List PostedEvent = λ s. map (post_of (length h) s) (events_to setup h e s) in
       let some : 0 < t.0 = grind (arith, nat_tests) in
       let within : t.0 ≤ setup.sessions = grind (arith, nat_tests) in
       let all : List Event = told_event setup q (layout_of q) h e ++ told_event setup q (status_of q) h e in
       let own : events_to setup h e t ≡ all = events-joined setup h e legal t q props is
       ∙ ap (λ (b : Bool). cond b [] (cond (owns_view setup t q) all [])) opened ∙ ap (λ (b : Bool). cond b all []) owned in
-      posts-all setup h e ∙ ap (λ (l : List Post). posts setup h ++ l)
+      posts-all setup h e ∙ ap (λ (l : List PostedEvent). posts setup h ++ l)
       (flat-only f t.0 setup.sessions some within (λ m other. ap (map (post_of (length h) (record { 0 = m })))
       (events-unowned (record { 0 = m }) (not-owner m other))))
       ∙ ap (λ (l : List Event). posts setup h ++ map (post_of (length h) t) l) own
@@ -167,7 +167,7 @@ view-unused setup [] legal p none = refl
 view-unused setup (h ▹ e) legal p none = ap (λ (b : Bool). cond (b && is_done e.reply) (e ∷ view_uses p h) (view_uses p h))
     (by_actor e.actor e.kind legal.1.may) ∙ view-unused setup h legal.0 p none
   where
-    by_actor : (who : Actor) (kind : Kind) → MayEnter setup h who e.calls kind → uses_view p kind ≡ false
+    by_actor : (who : Actor) (kind : EntryKind) → MayEnter setup h who e.calls kind → uses_view p kind ≡ false
     by_actor Display (View q) may = let wrong : false ≡ true = may.acts in cc
     by_actor (Probe n) (View q) may = let wrong : false ≡ true = may.acts in cc
     by_actor (Session t) (View q) may = by_pair (q.0 == p.0) refl

@@ -12,8 +12,8 @@ use Rattle.flat_base.specs.declared.ids.SessionNo.{SessionNo}
 use Rattle.flat_scene.specs.declared.calls.Call.{Call}
 use Rattle.flat_scene.specs.declared.journal.Entry.{Entry}
 use Rattle.flat_scene.specs.declared.journal.Event.{Event}
-use Rattle.flat_scene.specs.declared.journal.Kind.{Kind}
-use Rattle.flat_scene.specs.declared.journal.Post.{Post}
+use Rattle.flat_scene.specs.declared.journal.EntryKind.{EntryKind}
+use Rattle.flat_scene.specs.declared.journal.PostedEvent.{PostedEvent}
 use Rattle.flat_scene.specs.declared.journal.Reply.{Reply}
 use Rattle.flat_scene.specs.declared.setup.Setup.{Setup}
 use Rattle.flat_scene.specs.History.{◌▹◌, is_finish, is_closed}
@@ -24,7 +24,7 @@ use Rattle.flat_facts.proofs.lemmas.Between.{is_viewport}
 use Rattle.flat_states.proofs.lemmas.Steps.{legal-entered}
 use Rattle.flat_rules.specs.Ends.{viewport_owner, viewports_of, views_of}
 use Rattle.flat_rules.specs.Watch.{Watcher, asked, layout_of, listener, told, watching}
-use Rattle.flat_watch.specs.Cells.{new_cell}
+use Rattle.flat_watch.specs.HangingGets.{new_hanging_get}
 use Rattle.flat_states.proofs.lemmas.BeginLoop.{not-below, same-side, this-side}
 use Rattle.flat_states.proofs.lemmas.Counts.{at-session, same-number}
 use Rattle.flat_states.proofs.lemmas.DoneSteps.{UpTo, up-end, up-here, up-next, up-start}
@@ -49,7 +49,7 @@ use Rattle.flat_states.proofs.lemmas.Changes.{changed-one}
 use Rattle.flat_gets.proofs.WatchedAnswers.{answers-rest, answers-shut, gets-few, not-told}
 use Rattle.flat_gets.proofs.WatchedPairs.{at-rested, at-unasked}
 -- the lemmas of a get
-pub use Rattle.flat_gets.proofs.GotCells.{asked-known, asked-replied}
+pub use Rattle.flat_gets.proofs.GotHangingGets.{asked-known, asked-replied}
 pub use Rattle.flat_gets.proofs.WatchedGets.{watched-asked}
 
 -- ---- before any entry
@@ -107,7 +107,7 @@ watched-between setup h e legal no_finish no_viewport no_get watchers old = reco
   few = omega (arith, old.few);
 }
 
-pub watched-after : (m : Machine) (who : Actor) (line : ℕ) (calls : List Call) (kind : Kind) (reply : Reply) → MayCall m who calls kind
+pub watched-after : (m : Machine) (who : Actor) (line : ℕ) (calls : List Call) (kind : EntryKind) (reply : Reply) → MayCall m who calls kind
     → reply ≡ reply_to m.setup m.history who calls kind
     → is_finish kind ≡ false → is_viewport kind ≡ false → is_get kind ≡ false → Legal m.setup m.history → (watchers : Watchers)
     → AreWatched m.setup m.history watchers
@@ -129,9 +129,9 @@ few-to setup n k h watchers are short = omega (arith, are.few, gets-few h, short
 -- any pair's, where nothing waits
 nobody : Watchers → PairWatchers
 nobody watchers = record {
-  layout = new_cell;
-  status = new_cell;
-  child = new_cell;
+  layout = new_hanging_get;
+  status = new_hanging_get;
+  child = new_hanging_get;
   former = record { ptr = watchers.pairs.ptr; len = 0; cap = 0; alloc = watchers.pairs.alloc; items = []; ok = (refl, omega arith); small = omega arith };
 }
 
@@ -227,7 +227,8 @@ module _ (setup : Setup) (h : List Entry) (line : ℕ) (legal : Legal setup (fin
       by_place i d below (inr other) = rw (← same-side (s.0 - 1) i other.1) (are.answered i d below)
 
   -- and where it is open, and was told: what is kept then, and the posts
-  pub watched-told : (s : SessionNo) → 0 < s.0 → s.0 ≤ setup.sessions → is_closed s h ≡ false → (old new : Watchers) (before after : List Post) (count : ℕ)
+  pub watched-told : (s : SessionNo) → 0 < s.0 → s.0 ≤ setup.sessions → is_closed s h ≡ false
+      → (old new : Watchers) (before after : List PostedEvent) (count : ℕ)
       → IsSettled (told setup K) (length h) s old new before after count → due_told new + count ≡ due_told old → WatchedUpTo setup (s.0 - 1) K h old
       → WatchedUpTo setup s.0 K h new × (after ≡ before ++ map (post_of (length h) s) (answers_to (told setup K) (helds_of setup h s)))
   watched-told s some few opened old new before after count settles fewer are =

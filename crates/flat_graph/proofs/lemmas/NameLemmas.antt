@@ -5,7 +5,7 @@ use Rattle.std.specs.Prelude.{◌==◌, nat_lt, is_some}
 use Rattle.std.specs.List.{slice_get, slice_index_or, insert, remove}
 use Rattle.std.specs.List.Sorted.{IsPartitionedBy, IsPartitionPoint}
 use Rattle.std.proofs.lemmas.Bool.Decides.{nat_tests}
-use Rattle.flat_graph.specs.declared.names.Named.{Named}
+use Rattle.flat_graph.specs.declared.names.NamedNode.{NamedNode}
 use Rattle.flat_graph.specs.Names.{key_if, key_named, names_but, names_with, IsBelowAll, IsRising, IsPlace}
 
 -- ---- a name more
@@ -18,15 +18,15 @@ both-first false true n m other x y rest e f apart = refl
 both-first false false n m other x y rest e f apart = refl
 
 -- an id that isn't named is not that of the first name
-first-other : (b : Bool) (id : ℕ) (m : Named) (ms : List Named) → b ≡ (m.id == id) → cond b (Some m.key) (key_named ms id) ≡ None
+first-other : (b : Bool) (id : ℕ) (m : NamedNode) (ms : List NamedNode) → b ≡ (m.id == id) → cond b (Some m.key) (key_named ms id) ≡ None
     → (m.id ≢ id) × (key_named ms id ≡ None)
 first-other true id m ms e none = absurd (cc)
 first-other false id m ms e none = (grind (arith, nat_tests), none)
 
-not-first : (id : ℕ) (m : Named) (ms : List Named) → key_named (m ∷ ms) id ≡ None → (m.id ≢ id) × (key_named ms id ≡ None)
+not-first : (id : ℕ) (m : NamedNode) (ms : List NamedNode) → key_named (m ∷ ms) id ≡ None → (m.id ≢ id) × (key_named ms id ≡ None)
 not-first id m ms none = first-other (m.id == id) id m ms refl none
 
-pub named-with : (n : Named) (names : List Named) (other : ℕ) → key_named names n.id ≡ None
+pub named-with : (n : NamedNode) (names : List NamedNode) (other : ℕ) → key_named names n.id ≡ None
     → key_named (names_with n names) other ≡ cond (n.id == other) (Some n.key) (key_named names other)
 named-with n [] other none = refl
 named-with n (m ∷ ms) other none = by_order (nat_lt n.id m.id) (not-first n.id m ms none) (named-with n ms other)
@@ -39,7 +39,7 @@ named-with n (m ∷ ms) other none = by_order (nat_lt n.id m.id) (not-first n.id
         rw (more apart.1)
         (both-first (n.id == other) (m.id == other) n.id m.id other (Some n.key) (Some m.key) (key_named ms other) refl refl (λ same. apart.0 (sym same)))
 
-pub length-with : (n : Named) (names : List Named) → length (names_with n names) ≡ length names + 1
+pub length-with : (n : NamedNode) (names : List NamedNode) → length (names_with n names) ≡ length names + 1
 length-with n [] = refl
 length-with n (m ∷ ms) = by_order (nat_lt n.id m.id) (length-with n ms)
   where
@@ -47,11 +47,11 @@ length-with n (m ∷ ms) = by_order (nat_lt n.id m.id) (length-with n ms)
     by_order true more = omega arith
     by_order false more = omega (arith, more)
 
-below-lower : (a b : ℕ) (names : List Named) → a < b → IsBelowAll b names → IsBelowAll a names
+below-lower : (a b : ℕ) (names : List NamedNode) → a < b → IsBelowAll b names → IsBelowAll a names
 below-lower a b [] less below = tt
 below-lower a b (m ∷ ms) less below = (omega (arith, less, below.0), below-lower a b ms less below.1)
 
-below-with : (b : ℕ) (n : Named) (names : List Named) → b < n.id → IsBelowAll b names → IsBelowAll b (names_with n names)
+below-with : (b : ℕ) (n : NamedNode) (names : List NamedNode) → b < n.id → IsBelowAll b names → IsBelowAll b (names_with n names)
 below-with b n [] less below = (less, tt)
 below-with b n (m ∷ ms) less below = by_order (nat_lt n.id m.id) (below-with b n ms less below.1)
   where
@@ -59,7 +59,7 @@ below-with b n (m ∷ ms) less below = by_order (nat_lt n.id m.id) (below-with b
     by_order true more = (less, below)
     by_order false more = (below.0, more)
 
-pub rising-with : (n : Named) (names : List Named) → key_named names n.id ≡ None → IsRising names → IsRising (names_with n names)
+pub rising-with : (n : NamedNode) (names : List NamedNode) → key_named names n.id ≡ None → IsRising names → IsRising (names_with n names)
 rising-with n [] none rising = (tt, tt)
 rising-with n (m ∷ ms) none rising = by_order (nat_lt n.id m.id) refl (not-first n.id m ms none) (rising-with n ms)
   where
@@ -75,7 +75,7 @@ rising-with n (m ∷ ms) none rising = by_order (nat_lt n.id m.id) refl (not-fir
 
 -- ---- a name less
 
-both-but : (b c : Bool) (id other : ℕ) (m : Named) (ms : List Named) → b ≡ (m.id == id) → c ≡ (m.id == other)
+both-but : (b c : Bool) (id other : ℕ) (m : NamedNode) (ms : List NamedNode) → b ≡ (m.id == id) → c ≡ (m.id == other)
     → key_named (names_but id ms) other ≡ cond (id == other) None (key_named ms other)
     → key_named (cond (not b) (m ∷ names_but id ms) (names_but id ms)) other ≡ cond (id == other) None (cond c (Some m.key) (key_named ms other))
 both-but true true id other m ms e f more =
@@ -88,7 +88,7 @@ both-but false true id other m ms e f more =
     rw (← f, is) refl
 both-but false false id other m ms e f more = rw (← f) more
 
-pub named-but : (id : ℕ) (names : List Named) (other : ℕ) → key_named (names_but id names) other ≡ cond (id == other) None (key_named names other)
+pub named-but : (id : ℕ) (names : List NamedNode) (other : ℕ) → key_named (names_but id names) other ≡ cond (id == other) None (key_named names other)
 named-but id [] other = by_same (id == other)
   where
     by_same : (b : Bool) → ◌≡◌ {A = Option ℕ} None (cond b None None)
@@ -96,7 +96,7 @@ named-but id [] other = by_same (id == other)
     by_same false = refl
 named-but id (m ∷ ms) other = both-but (m.id == id) (m.id == other) id other m ms refl refl (named-but id ms other)
 
-below-but : (b id : ℕ) (names : List Named) → IsBelowAll b names → IsBelowAll b (names_but id names)
+below-but : (b id : ℕ) (names : List NamedNode) → IsBelowAll b names → IsBelowAll b (names_but id names)
 below-but b id [] below = tt
 below-but b id (m ∷ ms) below = by_test (m.id == id) (below-but b id ms below.1)
   where
@@ -104,7 +104,7 @@ below-but b id (m ∷ ms) below = by_test (m.id == id) (below-but b id ms below.
     by_test true more = more
     by_test false more = (below.0, more)
 
-pub rising-but : (id : ℕ) (names : List Named) → IsRising names → IsRising (names_but id names)
+pub rising-but : (id : ℕ) (names : List NamedNode) → IsRising names → IsRising (names_but id names)
 rising-but id [] rising = tt
 rising-but id (m ∷ ms) rising = by_test (m.id == id) (rising-but id ms rising.1)
   where
@@ -113,7 +113,7 @@ rising-but id (m ∷ ms) rising = by_test (m.id == id) (rising-but id ms rising.
     by_test false more = (below-but m.id id ms rising.0, more)
 
 -- names that are all above an id: it is none of them
-above-but : (b id : ℕ) (names : List Named) → id ≤ b → IsBelowAll b names → names_but id names ≡ names
+above-but : (b id : ℕ) (names : List NamedNode) → id ≤ b → IsBelowAll b names → names_but id names ≡ names
 above-but b id [] low below = refl
 above-but b id (m ∷ ms) low below = by_test (m.id == id) refl (above-but b id ms low below.1)
   where
@@ -122,9 +122,9 @@ above-but b id (m ∷ ms) low below = by_test (m.id == id) refl (above-but b id 
         let above : b < m.id = below.0 in
         let same : m.id ≡ id = grind (arith, nat_tests) in
         absurd (omega arith)
-    by_test false e more = ap (λ (rest : List Named). m ∷ rest) more
+    by_test false e more = ap (λ (rest : List NamedNode). m ∷ rest) more
 
-above-none : (b id : ℕ) (names : List Named) → id ≤ b → IsBelowAll b names → key_named names id ≡ None
+above-none : (b id : ℕ) (names : List NamedNode) → id ≤ b → IsBelowAll b names → key_named names id ≡ None
 above-none b id [] low below = refl
 above-none b id (m ∷ ms) low below = by_test (m.id == id) refl (above-none b id ms low below.1)
   where
@@ -135,7 +135,7 @@ above-none b id (m ∷ ms) low below = by_test (m.id == id) refl (above-none b i
         absurd (omega arith)
     by_test false e more = more
 
-pub length-but : (id : ℕ) (names : List Named) → IsRising names → length (names_but id names) + cond (is_some (key_named names id)) 1 0 ≡ length names
+pub length-but : (id : ℕ) (names : List NamedNode) → IsRising names → length (names_but id names) + cond (is_some (key_named names id)) 1 0 ≡ length names
 length-but id [] rising = refl
 length-but id (m ∷ ms) rising = by_test (m.id == id) refl (length-but id ms rising.1)
   where
@@ -148,7 +148,8 @@ length-but id (m ∷ ms) rising = by_test (m.id == id) refl (length-but id ms ri
 
 -- ---- places
 
-pub named-place : (id : ℕ) (names : List Named) (place : ℕ) → IsRising names → IsPlace id names place → key_named names id ≡ key_if id (slice_get names place)
+pub named-place : (id : ℕ) (names : List NamedNode) (place : ℕ) → IsRising names → IsPlace id names place
+    → key_named names id ≡ key_if id (slice_get names place)
 named-place id [] place rising here = refl
 named-place id (m ∷ ms) zero rising here = by_test (m.id == id) refl
   where
@@ -165,7 +166,7 @@ named-place id (m ∷ ms) (suc place) rising here = by_test (m.id == id) refl (n
         absurd (omega arith)
     by_test false e more = more
 
-pub place-there : (id : ℕ) (names : List Named) (place : ℕ) → IsRising names → IsPlace id names place → IsSome (key_named names id) → place < length names
+pub place-there : (id : ℕ) (names : List NamedNode) (place : ℕ) → IsRising names → IsPlace id names place → IsSome (key_named names id) → place < length names
 place-there id [] place rising here some = absurd (cc)
 place-there id (m ∷ ms) zero rising here some = omega arith
 place-there id (m ∷ ms) (suc place) rising here some =
@@ -178,12 +179,12 @@ place-there id (m ∷ ms) (suc place) rising here some =
         absurd (omega arith)
     by_test false e some' = some'
 
-pub place-within : (id : ℕ) (names : List Named) (place : ℕ) → IsPlace id names place → place ≤ length names
+pub place-within : (id : ℕ) (names : List NamedNode) (place : ℕ) → IsPlace id names place → place ≤ length names
 place-within id [] place here = omega (arith, here)
 place-within id (m ∷ ms) zero here = omega arith
 place-within id (m ∷ ms) (suc place) here = let next : place ≤ length ms = place-within id ms place here.1 in omega (arith, next)
 
-pub insert-with : (n : Named) (names : List Named) (place : ℕ) → IsPlace n.id names place → key_named names n.id ≡ None
+pub insert-with : (n : NamedNode) (names : List NamedNode) (place : ℕ) → IsPlace n.id names place → key_named names n.id ≡ None
     → insert names place n ≡ names_with n names
 insert-with n [] zero here none = refl
 insert-with n [] (suc place) here none = absurd (omega (arith, here))
@@ -203,9 +204,9 @@ insert-with n (m ∷ ms) (suc place) here none = by_order (nat_lt n.id m.id) ref
         let less : m.id < n.id = here.0 in
         let high : n.id < m.id = grind (arith, nat_tests) in
         absurd (omega arith)
-    by_order false e more = ap (λ (rest : List Named). m ∷ rest) more
+    by_order false e more = ap (λ (rest : List NamedNode). m ∷ rest) more
 
-pub remove-but : (id : ℕ) (names : List Named) (place : ℕ) → IsRising names → IsPlace id names place → IsSome (key_named names id)
+pub remove-but : (id : ℕ) (names : List NamedNode) (place : ℕ) → IsRising names → IsPlace id names place → IsSome (key_named names id)
     → remove names place ≡ names_but id names
 remove-but id [] place rising here some = absurd (cc)
 remove-but id (m ∷ ms) zero rising here some = by_test (m.id == id) refl some
@@ -226,31 +227,31 @@ remove-but id (m ∷ ms) (suc place) rising here some = by_test (m.id == id) ref
         let less : m.id < id = here.0 in
         let same : m.id ≡ id = grind (arith, nat_tests) in
         absurd (omega arith)
-    by_test false e some' more = ap (λ (rest : List Named). m ∷ rest) (more some')
+    by_test false e some' more = ap (λ (rest : List NamedNode). m ∷ rest) (more some')
 
 -- ---- the search for a place
 
-below-at : (b : ℕ) (names : List Named) (k : ℕ) (d : Named) → IsBelowAll b names → k < length names → b < (slice_index_or names k d).id
+below-at : (b : ℕ) (names : List NamedNode) (k : ℕ) (d : NamedNode) → IsBelowAll b names → k < length names → b < (slice_index_or names k d).id
 below-at b [] k d below within = absurd (omega arith)
 below-at b (m ∷ ms) zero d below within = below.0
 below-at b (m ∷ ms) (suc k) d below within = below-at b ms k d below.1 (omega arith)
 
-pub rising-parts : (id : ℕ) (names : List Named) → IsRising names → IsPartitionedBy (λ name. nat_lt name.id id) names
+pub rising-parts : (id : ℕ) (names : List NamedNode) → IsRising names → IsPartitionedBy (λ name. nat_lt name.id id) names
 rising-parts id [] rising = λ i j d less within low. absurd (omega arith)
 rising-parts id (m ∷ ms) rising = by_places (rising-parts id ms rising.1)
   where
-    first : (k : ℕ) (d : Named) → k < length ms → nat_lt (slice_index_or ms k d).id id ≡ true → nat_lt m.id id ≡ true
+    first : (k : ℕ) (d : NamedNode) → k < length ms → nat_lt (slice_index_or ms k d).id id ≡ true → nat_lt m.id id ≡ true
     first k d within low = let less : m.id < (slice_index_or ms k d).id = below-at m.id ms k d rising.0 within in grind (arith, nat_tests)
 
-    by_places : IsPartitionedBy (λ (name : Named). nat_lt name.id id) ms → (i j : ℕ) (d : Named) → i ≤ j → j < length (m ∷ ms)
+    by_places : IsPartitionedBy (λ (name : NamedNode). nat_lt name.id id) ms → (i j : ℕ) (d : NamedNode) → i ≤ j → j < length (m ∷ ms)
         → nat_lt (slice_index_or (m ∷ ms) j d).id id ≡ true → nat_lt (slice_index_or (m ∷ ms) i d).id id ≡ true
     by_places later zero zero d less within low = low
     by_places later zero (suc j) d less within low = first j d (omega arith) low
     by_places later (suc i) zero d less within low = absurd (omega arith)
     by_places later (suc i) (suc j) d less within low = later i j d (omega arith) (omega arith) low
 
-pub place-from : (id : ℕ) (names : List Named) (place : ℕ) → place ≤ length names
-    → IsPartitionPoint (λ (name : Named). nat_lt name.id id ≡ true) (λ name. nat_lt name.id id ≡ false) names place → IsPlace id names place
+pub place-from : (id : ℕ) (names : List NamedNode) (place : ℕ) → place ≤ length names
+    → IsPartitionPoint (λ (name : NamedNode). nat_lt name.id id ≡ true) (λ name. nat_lt name.id id ≡ false) names place → IsPlace id names place
 place-from id [] place within parts = omega arith
 place-from id (m ∷ ms) zero within parts = let high : nat_lt m.id id ≡ false = parts.1 0 m (omega arith) (omega arith) in grind (arith, nat_tests)
 place-from id (m ∷ ms) (suc place) within parts =

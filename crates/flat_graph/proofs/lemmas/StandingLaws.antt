@@ -17,7 +17,7 @@ use Rattle.flat_scene.specs.declared.calls.Call.TheVariants.{CreateFilledRect, S
 use Rattle.flat_scene.specs.declared.calls.Call.TheVariants.{Clear}
 use Rattle.flat_scene.specs.declared.calls.ViewportProps.{ViewportProps}
 use Rattle.flat_scene.specs.declared.setup.Setup.{Setup}
-use Rattle.flat_scene.specs.declared.trees.Held.{Held}
+use Rattle.flat_scene.specs.declared.trees.HeldContent.{HeldContent}
 use Rattle.flat_scene.specs.Draft.{Draft, named, Transform, Image, Solid, Made, an_image, a_fill, a_viewport, Name, of_serial, changed_at, content_of}
 use Rattle.flat_scene.specs.Draft.{transform_of}
 use Rattle.flat_scene.specs.Effect as effect
@@ -84,7 +84,7 @@ module _ (setup : Setup) (graph : GraphState) (draft : Draft) (s : StandsFor gra
           children None kept' child has = s.sound.children_kept key node there child has
           children (Some c) kept' child has = kept-push graph.nodes node.children c (s.sound.children_kept key node there) (kept' c refl) child has
 
-          content : (y : Option ℕ) (held : Held) → (with_child y node).content ≡ Some held → node.content ≡ Some held
+          content : (y : Option ℕ) (held : HeldContent) → (with_child y node).content ≡ Some held → node.content ≡ Some held
           content None held e = e
           content (Some c) held e = e
 
@@ -112,7 +112,7 @@ module _ (setup : Setup) (graph : GraphState) (draft : Draft) (s : StandsFor gra
           children None child has = s.sound.children_kept key node there child has
           children (Some c) child has = s.sound.children_kept key node there child (contains-filter (λ other. not (other == c)) node.children child has)
 
-          content : (y : Option ℕ) (held : Held) → (without_child y node).content ≡ Some held → node.content ≡ Some held
+          content : (y : Option ℕ) (held : HeldContent) → (without_child y node).content ≡ Some held → node.content ≡ Some held
           content None held e = e
           content (Some c) held e = e
 
@@ -127,7 +127,7 @@ module _ (setup : Setup) (graph : GraphState) (draft : Draft) (s : StandsFor gra
         same = ap (λ (children : List ℕ). effect.with_children children (as_transform graph node)) (serials-named graph draft s ks);
       })
 
-  giving : (t : TransformId) (c : ContentId) (held : Option Held) → IsContent setup graph draft c held
+  giving : (t : TransformId) (c : ContentId) (held : Option HeldContent) → IsContent setup graph draft c held
       → StandsFor (change_named graph t.0 (λ node. record node { content = held })) (effect draft (SetContent t c))
   giving t c held given =
       stands-change graph draft t (λ node. record node { content = held }) _ s
@@ -194,7 +194,7 @@ graph_calls_stand setup graph draft s = record {
 
 -- what is held stays held, of the same sort
 abbrev KeepsHeld : List Made → List Made → Type 0
-KeepsHeld contents contents' = (held : Held) → IsHeld contents held → IsHeld contents' held
+KeepsHeld contents contents' = (held : HeldContent) → IsHeld contents held → IsHeld contents' held
 
 -- a draft with the same transforms, in which what is held stays
 stands-other : (graph : GraphState) (draft draft' : Draft) → StandsFor graph draft → draft'.transforms ≡ draft.transforms
@@ -212,7 +212,7 @@ stands-other graph draft draft' s transforms names root keeps = record {
   contents = λ key node held e h. keeps held (s.contents key node held e h);
 }
 
-by-made : (contents contents' : List Made) (held : Held)
+by-made : (contents contents' : List Made) (held : HeldContent)
     → ((made : Made) → of_serial contents held.serial ≡ Some made
     → (made' : Made) × (of_serial contents' held.serial ≡ Some made') × (is_viewport (Some made') ≡ is_viewport (Some made)))
     → IsHeld contents held → IsHeld contents' held

@@ -11,25 +11,27 @@ use Rattle.flat_ink.specs.Inks.{tone, mix_of, mixed, shade_at, IsShade, IsInk}
 use Rattle.flat_ink.specs.Pixels.{buffer_column, buffer_row}
 use Rattle.flat_ink.specs.Textures.{IsTextureOf}
 use Rattle.flat_ink.specs.declared.area.Area.{Area}
-use Rattle.flat_ink.specs.declared.ink.Ink.{Ink}
-use Rattle.flat_ink.specs.declared.ink.Mix.{Mix}
-use Rattle.flat_ink.specs.declared.ink.Shade.{Shade}
-use Rattle.flat_ink.specs.declared.ink.Shade.TheVariants.{Even}
+use Rattle.flat_ink.specs.declared.channel_ink.ChannelInk.{ChannelInk}
+use Rattle.flat_ink.specs.declared.channel_ink.BlendRule.{BlendRule}
+use Rattle.flat_ink.specs.declared.channel_ink.ChannelValues.{ChannelValues}
+use Rattle.flat_ink.specs.declared.channel_ink.ChannelValues.TheVariants.{Even}
 use Rattle.flat_ink.specs.declared.texture.Texture.{Texture}
 use Rattle.flat_ink.proofs.lemmas.Covered.{fill-ink, texture-ink}
 
 -- a channel of a fill
-pub even-ink : (c : ℕ) (item : DrawItem) (rgba : List ℕ) (mix : Mix) (ink : Ink) (cut : Area) → item.paint ≡ Fill rgba
+pub even-ink : (c : ℕ) (item : DrawItem) (rgba : List ℕ) (mix : BlendRule) (ink : ChannelInk) (cut : Area) → item.paint ≡ Fill rgba
     → mix ≡ mix_of item.blend item.opacity (slice_index rgba 3)
     → ink ≡ record { shade = Even (tone item.blend item.opacity (slice_index rgba c)); mix = mix } → IsInk c item cut ink
 even-ink c item rgba mix ink cut fill mixes e =
-    subst (λ (i : Ink). IsInk c item cut i) (sym e) (record {
+    subst (λ (i : ChannelInk). IsInk c item cut i) (sym e) (record {
       shade = tt;
-      paints = λ px py old has. ap (λ (m : Mix). mixed m (tone item.blend item.opacity (slice_index rgba c)) old) mixes ∙ fill-ink c item rgba px py old fill;
+      paints = λ px py old has. ap (λ (m : BlendRule). mixed m (tone item.blend item.opacity (slice_index rgba c)) old) mixes ∙ fill-ink c item rgba px py old
+          fill;
     })
 
 -- a channel of an image
-pub shade-ink : (c : ℕ) (item : DrawItem) (t : Texture) (cut : Area) (shade : Shade) (mix : Mix) (s : ℕ → ℕ → ℕ) → IsTextureOf item t → IsShade shade
+pub shade-ink : (c : ℕ) (item : DrawItem) (t : Texture) (cut : Area) (shade : ChannelValues) (mix : BlendRule) (s : ℕ → ℕ → ℕ) → IsTextureOf item t
+    → IsShade shade
     → mix ≡ mix_of item.blend item.opacity 255
     → ((px py : ℕ) → has_pixel cut px py ≡ true → shade_at shade (px - cut.x0) (py - cut.y0) ≡ tone t.blend t.opacity (s px py))
     → ((px py : ℕ) → s px py
@@ -39,7 +41,7 @@ pub shade-ink : (c : ℕ) (item : DrawItem) (t : Texture) (cut : Area) (shade : 
 shade-ink c item t cut shade mix s is whole mixes values texels = record {
   shade = whole;
   paints = λ px py old has.
-      ap (λ (m : Mix). mixed m (shade_at shade (px - cut.x0) (py - cut.y0)) old) mixes
+      ap (λ (m : BlendRule). mixed m (shade_at shade (px - cut.x0) (py - cut.y0)) old) mixes
       ∙ texture-ink c item t px py old (shade_at shade (px - cut.x0) (py - cut.y0)) (s px py) is (values px py has) (texels px py);
 }
 

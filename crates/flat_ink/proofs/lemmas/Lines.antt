@@ -1,11 +1,9 @@
 -- A line of pixels that is changed one by one.
-use Rattle.std.proofs.Common.{ℕ, ◌+◌, ◌*◌, ◌-◌, ◌<◌, ◌≤◌, ◌≡◌, ◌≢◌, refl, ap, ◌∙◌, sym, List, ◌++◌, drop, length, length-append, get_or, set, get_or-set_same}
+use Rattle.std.proofs.Common.{ℕ, ◌+◌, ◌<◌, ◌≤◌, ◌≡◌, ◌≢◌, refl, ap, ◌∙◌, sym, List, length, get_or, set, get_or-set_same}
 use Rattle.std.proofs.Common.{get_or-set_other, arith}
 use Rattle.std.proofs.Common.{below_more}
 use Rattle.std.proofs.lemmas.Bool.{cases_lt}
-use Rattle.std.proofs.lemmas.List.{length-drop, get_or_append_left}
-use borrow.Rule.Slice.PartMut.{put_mid}
-use Rattle.flat_ink.proofs.lemmas.Ranges.{either, put-before, put-inside}
+use Rattle.flat_ink.proofs.lemmas.Ranges.{either}
 
 -- the first i pixels of a line are changed by f, and the others are as they were
 pub record IsChangedTo (f : ℕ → ℕ → ℕ) (old line : List ℕ) (i : ℕ) : Type 0 where
@@ -44,23 +42,3 @@ laid-more f line from i y lt is h = λ k low high. lay-one f line i y k lt is (�
 -- and they stay where one more pixel has its value
 pub laid-still : (f : ℕ → ℕ) (line : List ℕ) (i y from upto : ℕ) → i < length line → y ≡ f i → IsLaid f line from upto → IsLaid f (set line i y) from upto
 laid-still f line i y from upto lt is h = λ k low high. lay-one f line i y k lt is (λ ne. h k low high)
-
--- a line whose first and last pixels, which are all, are copied one after the other
-pub ends-copied : (count : ℕ) (line values front back : List ℕ) → count ≤ length line → length line ≤ 2 * count → length front ≡ count → length back ≡ count
-    → ((i : ℕ) → i < count → get_or front i 0 ≡ get_or values i 0)
-    → ((i : ℕ) → i < count → get_or back i 0 ≡ get_or values (length line - count + i) 0)
-    → (i : ℕ) → i < length line
-    → get_or (put_mid (length line - count) (length (front ++ drop count line) - (length line - count)) (front ++ drop count line) back) i 0 ≡ get_or values i 0
-ends-copied count line values front back some all front_len back_len in_front in_back i small =
-    let rest : ℕ = length line - count in
-    let mid : List ℕ = front ++ drop count line in
-    let len : length mid ≡ length line = length-append front (drop count line) ∙ simp length-drop (omega (arith, front_len)) in
-    either _ _ (cases_lt i rest)
-    (λ before. put-before rest (length mid - rest) mid back i (omega (arith, len)) before
-    ∙ get_or_append_left front (drop count line) 0 i (omega (arith, front_len))
-    ∙ in_front i (omega arith))
-    (λ above.
-    let place : rest + (i - rest) ≡ i = omega arith in
-    put-inside rest (length mid - rest) mid back i (omega (arith, len)) (omega (arith, len, back_len)) above (omega (arith, len))
-    ∙ in_back (i - rest) (omega arith)
-    ∙ ap (λ (n : ℕ). get_or values n 0) place)

@@ -15,19 +15,19 @@ use Rattle.flat_base.specs.declared.ids.SessionNo.{SessionNo}
 use Rattle.flat_scene.specs.declared.calls.Call.{Call}
 use Rattle.flat_scene.specs.declared.journal.Entry.{Entry}
 use Rattle.flat_scene.specs.declared.calls.Call.TheVariants.{CreateView, CreateViewport}
-use Rattle.flat_scene.specs.declared.journal.Kind.{Kind}
-use Rattle.flat_scene.specs.declared.journal.Kind.TheVariants.{View, Viewport, Close}
+use Rattle.flat_scene.specs.declared.journal.EntryKind.{EntryKind}
+use Rattle.flat_scene.specs.declared.journal.EntryKind.TheVariants.{View, Viewport, Close}
 use Rattle.flat_scene.specs.declared.journal.Reply.{Reply}
 use Rattle.flat_scene.specs.declared.journal.Reply.TheVariants.{Closed}
 use Rattle.flat_scene.specs.declared.setup.Setup.{Setup}
 use Rattle.flat_scene.specs.History.{◌▹◌, closes, is_begin, is_closed, is_finish, is_session, presents}
 use Rattle.flat_scene.specs.Setups.{is_declared}
-use Rattle.flat_facts.specs.declared.live.Live.{Live}
+use Rattle.flat_facts.specs.declared.live_viewport.LiveViewport.{LiveViewport}
 use Rattle.flat_links.specs.declared.tokens.OutToken.{OutToken}
-use Rattle.flat_states.specs.declared.clock.Clock.{Clock}
-use Rattle.flat_states.specs.declared.state.Account.{Account}
+use Rattle.flat_states.specs.declared.frame_clock.FrameClock.{FrameClock}
+use Rattle.flat_states.specs.declared.state.SessionCounts.{SessionCounts}
 use Rattle.flat_states.specs.declared.state.SessionState.{SessionState}
-use Rattle.flat_links.specs.declared.ties.Ties.{Ties}
+use Rattle.flat_links.specs.declared.link_table.LinkTable.{LinkTable}
 use Rattle.flat_links.specs.declared.viewports.Viewports.{Viewports}
 use Rattle.flat_links.specs.AllEnds.{AreEnds, due_back, HasNone, IsNoted, IsOwn, EndsEntered}
 use Rattle.flat_states.specs.Machines.{Machine, MayCall, Stands}
@@ -36,7 +36,7 @@ use Rattle.flat_rules.specs.Numbers.{number}
 use Rattle.flat_rules.specs.Ends.{uses_viewport, is_done, viewports_of}
 use Rattle.flat_states.specs.Kept.{IsKept}
 use Rattle.flat_rules.specs.Legal.{Legal, all_but_last, is_link, links_alone, makes_view, own_call, reply_to}
-use Rattle.flat_links.specs.Following.{AreTied, UsesNone}
+use Rattle.flat_links.specs.SessionLinks.{AreLinked, UsesNone}
 use Rattle.flat_facts.specs.Lives.{is_new_viewport}
 use Rattle.flat_states.specs.Seen.{seen_of}
 use Rattle.flat_facts.specs.Views.{last_view}
@@ -46,7 +46,7 @@ use Rattle.flat_states.proofs.lemmas.Counts.{at-session, declared-some, kept-ses
 use Rattle.flat_rules.proofs.lemmas.ListLemmas.{flat_map-none}
 use Rattle.flat_states.proofs.lemmas.Ones.{declared-of}
 use Rattle.flat_states.proofs.lemmas.Steps.{legal-entered}
-use Rattle.flat_links.proofs.lemmas.TiesSteps.{tied-idle}
+use Rattle.flat_links.proofs.lemmas.LinksSteps.{tied-idle}
 use Rattle.flat_facts.proofs.lemmas.ViewCalls.{split-last}
 use Rattle.flat_links.proofs.ViewportSteps.{viewports-other, viewports-own}
 use Rattle.std.proofs.lemmas.Bool.{not-true, or_parts}
@@ -56,7 +56,7 @@ use Rattle.flat_states.proofs.lemmas.Lists.{number-declared}
 
 -- ---- a session that is closed
 
-pub viewports-closed : (setup : Setup) (h : List Entry) (s : SessionNo) (live : List Live) (out : List OutToken) → is_closed s h ≡ true
+pub viewports-closed : (setup : Setup) (h : List Entry) (s : SessionNo) (live : List LiveViewport) (out : List OutToken) → is_closed s h ≡ true
     → AreViewports setup h s live out
 viewports-closed setup h s live out closed = record {
   lives = λ opened. let wrong : true ≡ false = sym closed ∙ opened in absurd (cc);
@@ -140,7 +140,7 @@ back-noted ends place before after below is calls n noted =
 -- ---- the calls of entries that use no viewport end
 
 -- whether an entry of a kind may carry a call that makes a viewport
-abbrev pub may_make : Kind → Bool
+abbrev pub may_make : EntryKind → Bool
 may_make (Viewport p props) = true
 may_make (Close reason) = true
 may_make _ = false
@@ -169,23 +169,23 @@ last-view p xs (Some call) at is none =
     ap (list_any is_new_viewport) split ∙ list_any-append is_new_viewport (all_but_last xs) (call ∷ []) ∙ rw (links-made (all_but_last xs) none, here) refl
 
 -- none of them makes one
-pub none-new : (kind : Kind) (xs : List Call) → may_make kind ≡ false → links_alone kind xs ≡ true → own_call kind (slice_get xs (length xs - 1)) ≡ true
+pub none-new : (kind : EntryKind) (xs : List Call) → may_make kind ≡ false → links_alone kind xs ≡ true → own_call kind (slice_get xs (length xs - 1)) ≡ true
     → list_any is_new_viewport xs ≡ false
 none-new (View p) xs quiet alone own = last-view p xs (slice_get xs (length xs - 1)) refl own (not-true _ alone)
 none-new (Viewport p props) xs quiet alone own = cc
 none-new (Close reason) xs quiet alone own = cc
 none-new kind xs quiet alone own = links-made xs (not-true _ alone)
 
-no-use : (kind : Kind) (reply : Reply) (p : PairNo) → may_make kind ≡ false → (uses_viewport p kind && is_done reply) ≡ false
+no-use : (kind : EntryKind) (reply : Reply) (p : PairNo) → may_make kind ≡ false → (uses_viewport p kind && is_done reply) ≡ false
 no-use (Viewport q props) reply p quiet = cc
 no-use kind reply p quiet = refl
 
 -- an entry that closes its session uses no end
-no-use-closing : (kind : Kind) (reply : Reply) (p : PairNo) → closes reply ≡ true → (uses_viewport p kind && is_done reply) ≡ false
+no-use-closing : (kind : EntryKind) (reply : Reply) (p : PairNo) → closes reply ≡ true → (uses_viewport p kind && is_done reply) ≡ false
 no-use-closing kind (Closed error reason) p is = and-false (uses_viewport p kind)
 no-use-closing kind _ p is = cc
 
-none-used : (kind : Kind) (reply : Reply) (p : PairNo) → (closes reply ≡ false → may_make kind ≡ false) → (uses_viewport p kind && is_done reply) ≡ false
+none-used : (kind : EntryKind) (reply : Reply) (p : PairNo) → (closes reply ≡ false → may_make kind ≡ false) → (uses_viewport p kind && is_done reply) ≡ false
 none-used kind reply p quiet = by_reply (closes reply) refl
   where
     by_reply : (b : Bool) → closes reply ≡ b → (uses_viewport p kind && is_done reply) ≡ false
@@ -203,15 +203,15 @@ abbrev pub IsStanding : Actor → List SessionState → List Entry → Type 0
 IsStanding (Session s) states history = (state : SessionState) → state ≡ slice_index_or states (s.0 - 1) state → IsStood s history state
 IsStanding who states history = Unit {0}
 
-pub standing : (m : Machine) (who : Actor) (calls : List Call) (kind : Kind) → MayCall m who calls kind
-    → (clock : Clock) (fences views : List Bool) (sessions : List SessionState) → Stands m.setup m.history clock fences views sessions
+pub standing : (m : Machine) (who : Actor) (calls : List Call) (kind : EntryKind) → MayCall m who calls kind
+    → (clock : FrameClock) (fences views : List Bool) (sessions : List SessionState) → Stands m.setup m.history clock fences views sessions
     → IsStanding who sessions m.history
 standing m Display calls kind call clock fences views sessions old = tt
 standing m (Probe p) calls kind call clock fences views sessions old = tt
 standing m (Session s) calls kind call clock fences views sessions old = λ state is.
     let kept : IsKept m.setup (seen_of m.setup m.history s) state =
     kept-session m.setup m.history clock fences views sessions s state old (declared-of m.setup kind s call.may.acts) is in
-    record { closed = kept.closed; counted = ap (λ (a : Account). a.presents) kept.account; viewed = ap (λ (a : Account). a.view) kept.account }
+    record { closed = kept.closed; counted = ap (λ (a : SessionCounts). a.presents) kept.account; viewed = ap (λ (a : SessionCounts). a.view) kept.account }
 
 -- also where something else of that session was changed
 pub standing-set : (s : SessionNo) (states : List SessionState) (history : List Entry) (state new : SessionState) → s.0 - 1 < length states
@@ -228,15 +228,15 @@ standing-set s states history state new below is closed counts views stands = λ
     }
 
 -- all sessions' viewports after an entry that uses no viewport end, or closes its session
-pub ends-after : (m : Machine) (who : Actor) (line : ℕ) (calls : List Call) (kind : Kind) (reply : Reply) → MayCall m who calls kind
+pub ends-after : (m : Machine) (who : Actor) (line : ℕ) (calls : List Call) (kind : EntryKind) (reply : Reply) → MayCall m who calls kind
     → reply ≡ reply_to m.setup m.history who calls kind
     → is_begin kind ≡ false → is_finish kind ≡ false → (closes reply ≡ false → may_make kind ≡ false) → Legal m.setup m.history
-    → (states : List SessionState) (ends after : List Viewports) (tied now : Ties) → IsStanding who states m.history
+    → (states : List SessionState) (ends after : List Viewports) (tied now : LinkTable) → IsStanding who states m.history
     → EndsEntered (entry_of who line calls kind reply) states ends after tied now → AreEnds m.setup m.history ends
-    → AreTied m.setup m.history tied.followings.items tied.pairs.items
+    → AreLinked m.setup m.history tied.linked_sessions.items tied.pairs.items
     → AreEnds m.setup (m.history ▹ entry_of who line calls kind reply) after × (sum_by due_back after ≡ sum_by due_back ends)
-    × AreTied m.setup (m.history ▹ entry_of who line calls kind reply) now.followings.items now.pairs.items
-ends-after m Display line calls kind reply call replied no_begin no_finish quiet was states ends after tied now stands n are ties =
+    × AreLinked m.setup (m.history ▹ entry_of who line calls kind reply) now.linked_sessions.items now.pairs.items
+ends-after m Display line calls kind reply call replied no_begin no_finish quiet was states ends after tied now stands n are links =
     let e : Entry = entry_of Display line calls kind reply in
     let legal : Legal m.setup (m.history ▹ e) = (was, legal-entered m Display line calls kind reply call replied) in
     rw (n.0, n.1) (
@@ -248,9 +248,9 @@ ends-after m Display line calls kind reply call replied no_begin no_finish quiet
         no_finish = no_finish;
         no_use = λ p. none-used kind reply p quiet;
         shut = λ s mine. cc;
-      }) tied.followings.items tied.pairs.items ties,
+      }) tied.linked_sessions.items tied.pairs.items links,
     )
-ends-after m (Probe p) line calls kind reply call replied no_begin no_finish quiet was states ends after tied now stands n are ties =
+ends-after m (Probe p) line calls kind reply call replied no_begin no_finish quiet was states ends after tied now stands n are links =
     let e : Entry = entry_of (Probe p) line calls kind reply in
     let legal : Legal m.setup (m.history ▹ e) = (was, legal-entered m (Probe p) line calls kind reply call replied) in
     rw (n.0, n.1) (
@@ -262,9 +262,9 @@ ends-after m (Probe p) line calls kind reply call replied no_begin no_finish qui
         no_finish = no_finish;
         no_use = λ p. none-used kind reply p quiet;
         shut = λ s mine. cc;
-      }) tied.followings.items tied.pairs.items ties,
+      }) tied.linked_sessions.items tied.pairs.items links,
     )
-ends-after m (Session s) line calls kind reply call replied no_begin no_finish quiet was states ends after tied now stands n are ties =
+ends-after m (Session s) line calls kind reply call replied no_begin no_finish quiet was states ends after tied now stands n are links =
     let h : List Entry = m.history in
     let e : Entry = entry_of (Session s) line calls kind reply in
     let declared : IsTrue (is_declared m.setup s) = declared-of m.setup kind s call.may.acts in
@@ -288,7 +288,7 @@ ends-after m (Session s) line calls kind reply call replied no_begin no_finish q
     } in
     let uses : UsesNone e = λ p. none-used kind reply p quiet in
     let both = by_reply legal declared below stood.counted uses (closes reply) refl in
-    rw n.new_is (both.0, both.1, n.ties m.setup h e made uses ties)
+    rw n.new_is (both.0, both.1, n.links m.setup h e made uses links)
   where
     e : Entry
     e = entry_of (Session s) line calls kind reply

@@ -8,15 +8,15 @@ use Rattle.flat_base.specs.declared.ids.PairNo.{PairNo}
 use Rattle.flat_base.specs.declared.ids.SessionNo.{SessionNo}
 use Rattle.flat_scene.specs.declared.calls.Call.{Call}
 use Rattle.flat_scene.specs.declared.journal.Entry.{Entry}
-use Rattle.flat_scene.specs.declared.journal.Kind.{Kind}
-use Rattle.flat_scene.specs.declared.journal.Kind.TheVariants.{End}
+use Rattle.flat_scene.specs.declared.journal.EntryKind.{EntryKind}
+use Rattle.flat_scene.specs.declared.journal.EntryKind.TheVariants.{End}
 use Rattle.flat_scene.specs.declared.journal.Reply.{Reply}
 use Rattle.flat_scene.specs.declared.setup.Setup.{Setup}
 use Rattle.flat_scene.specs.History.{◌▹◌, own, calls, closes, is_begin, is_closed, is_end, is_finish, is_session, presents, published, Published}
 use Rattle.flat_scene.proofs.lemmas.Steps.{presents-own}
 use Rattle.flat_links.specs.declared.pairs.PairState.{PairState}
 use Rattle.flat_rules.specs.Ends.{clears_viewport, ends_view, happens, is_done, uses_viewport, viewport_owner, viewport_uses}
-use Rattle.flat_links.specs.Following.{IsPairKept, IsSerialKept, props_pending}
+use Rattle.flat_links.specs.SessionLinks.{IsPairKept, IsSerialKept, props_pending}
 use Rattle.flat_rules.specs.Legal.{Legal, goes_on}
 use Rattle.flat_rules.specs.Serials.{IsUseSerial}
 use Rattle.flat_rules.specs.Stamps.{IsStamp, is_seen}
@@ -39,7 +39,7 @@ an-end true false true h shut = let wrong : false ≡ true = h in cc
 an-end true false false h shut = let wrong : false ≡ true = shut in cc
 an-end false b c h shut = let wrong : false ≡ true = h in cc
 
-end-quiet : (kind : Kind) (reply : Reply) (made : List Call) → is_end kind ≡ true → published kind reply made ≡ []
+end-quiet : (kind : EntryKind) (reply : Reply) (made : List Call) → is_end kind ≡ true → published kind reply made ≡ []
 end-quiet (End refused) reply made is = refl
 end-quiet _ reply made is = cc
 

@@ -10,18 +10,18 @@ use Rattle.flat_base.specs.declared.ids.PairNo.{PairNo}
 use Rattle.flat_base.specs.declared.ids.SessionNo.{SessionNo}
 use Rattle.flat_scene.specs.declared.calls.Call.{Call}
 use Rattle.flat_scene.specs.declared.journal.Entry.{Entry}
-use Rattle.flat_scene.specs.declared.journal.Kind.{Kind}
-use Rattle.flat_scene.specs.declared.journal.Kind.TheVariants.{View, Viewport, Close}
+use Rattle.flat_scene.specs.declared.journal.EntryKind.{EntryKind}
+use Rattle.flat_scene.specs.declared.journal.EntryKind.TheVariants.{View, Viewport, Close}
 use Rattle.flat_scene.specs.declared.setup.Setup.{Setup}
 use Rattle.flat_scene.specs.History.{◌▹◌, calls, closes, is_begin, is_closed, is_finish, is_session, presents}
 use Rattle.flat_base.proofs.lemmas.Tests.{and-left, and-right}
-use Rattle.flat_facts.specs.declared.live.Live.{Live}
+use Rattle.flat_facts.specs.declared.live_viewport.LiveViewport.{LiveViewport}
 use Rattle.flat_links.specs.declared.pairs.PairState.{PairState}
-use Rattle.flat_states.specs.declared.state.Account.{Account}
+use Rattle.flat_states.specs.declared.state.SessionCounts.{SessionCounts}
 use Rattle.flat_facts.specs.Clears.{clears_pair}
 use Rattle.flat_links.specs.Clears.{cleared_if}
 use Rattle.flat_rules.specs.Ends.{clears_viewport, ends_view, happens, is_done, uses_viewport, view_owner, viewport_owner, viewport_uses}
-use Rattle.flat_links.specs.Following.{IsOwnEntry, IsPairKept, IsSerialKept, props_pending}
+use Rattle.flat_links.specs.SessionLinks.{IsOwnEntry, IsPairKept, IsSerialKept, props_pending}
 use Rattle.flat_facts.specs.Pairs.{pair}
 use Rattle.flat_rules.specs.Legal.{Legal, all_but_last, is_link, links_alone, may_act, owns_in_call, owns_view, owns_viewport, session_may}
 use Rattle.flat_facts.specs.Lives.{clears_live, count_of}
@@ -65,7 +65,7 @@ any-first (x ∷ xs) none = by_length (length xs == 0) (any-first xs (or_parts (
     by_length true rest this = refl
     by_length false rest this = rw this rest
 
-tame-kind : (kind : Kind) (carries : List Call) → links_alone kind carries ≡ true → AreTame carries
+tame-kind : (kind : EntryKind) (carries : List Call) → links_alone kind carries ≡ true → AreTame carries
 tame-kind (View p) carries alone = not-true (list_any is_link (all_but_last carries)) alone
 tame-kind (Viewport p props) carries alone = not-true (list_any is_link (all_but_last carries)) alone
 tame-kind (Close reason) carries alone = not-true (list_any is_link (all_but_last carries)) alone
@@ -84,7 +84,7 @@ owner-owns setup v p owner = let same : (v.0 == v.0) ≡ true = grind (arith, na
 
 -- ---- stamps
 
-module _ (setup : Setup) (s : SessionNo) (h : List Entry) (e : Entry) (carries : List Call) (account : Account) (live : List Live)
+module _ (setup : Setup) (s : SessionNo) (h : List Entry) (e : Entry) (carries : List Call) (account : SessionCounts) (live : List LiveViewport)
     (entry : IsOwnEntry setup h e s carries account live) (p : PairNo) where
   all-owned : list_all (owns_in_call setup s) (calls s h) && list_all (owns_in_call setup s) e.calls ≡ true
   all-owned = sym (list_all-append (owns_in_call setup s) (calls s h) e.calls) ∙ all-calls-owned setup h e entry.legal s entry.mine
@@ -114,7 +114,8 @@ module _ (setup : Setup) (s : SessionNo) (h : List Entry) (e : Entry) (carries :
   clears-elsewhere v owner other =
       let foreign : owns_viewport setup s p ≡ false = rw owner (another s v e.actor entry.mine other) in
       let before = foreign-live setup s p foreign [] (calls s h) refl owned-before in
-      let elsewhere : list_any (λ (l : Live). l.pair.0 == p.0) live ≡ false = ap (list_any (λ (l : Live). l.pair.0 == p.0)) entry.living ∙ before.after in
+      let elsewhere : list_any (λ (l : LiveViewport). l.pair.0 == p.0) live ≡ false = ap (list_any (λ (l : LiveViewport). l.pair.0 == p.0)) entry.living ∙
+      before.after in
       counts ∙ ap (nat_lt 0) ((foreign-live setup s p foreign live e.calls elsewhere owned-now).clears)
 
   pub ended-own : (view : Option PairNo) → view ≡ view_after None (calls s h) → (w : SessionNo) → view_owner setup p ≡ Some w → (stamp : Option ℕ)
@@ -184,7 +185,7 @@ pub pending-step : (setup : Setup) (p : PairNo) (n : ℕ) (v : SessionNo) (h : L
 pending-step setup p n v h e no_begin no_finish = rw (no_begin, no_finish) refl
 
 -- its own entry that doesn't use the pair's viewport end
-pub pair-own : (setup : Setup) (s : SessionNo) (h : List Entry) (e : Entry) (carries : List Call) (account : Account) (live : List Live)
+pub pair-own : (setup : Setup) (s : SessionNo) (h : List Entry) (e : Entry) (carries : List Call) (account : SessionCounts) (live : List LiveViewport)
     → IsOwnEntry setup h e s carries account live
     → (view : Option PairNo) → view ≡ view_after None (calls s h) → (i : ℕ) → (uses_viewport (pair i) e.kind && is_done e.reply) ≡ false → (state : PairState)
     → IsPairKept setup h (pair i) state

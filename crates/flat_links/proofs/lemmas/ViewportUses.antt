@@ -14,7 +14,7 @@ use Rattle.flat_scene.specs.declared.setup.Setup.{Setup}
 use Rattle.flat_scene.specs.Frames.{taken}
 use Rattle.flat_scene.specs.History.{◌▹◌, own, calls, is_closed, is_finish, is_session, presents}
 use Rattle.flat_scene.specs.Setups.{is_declared}
-use Rattle.flat_facts.specs.declared.live.Live.{Live}
+use Rattle.flat_facts.specs.declared.live_viewport.LiveViewport.{LiveViewport}
 use Rattle.flat_links.specs.declared.tokens.OutToken.{OutToken}
 use Rattle.flat_rules.specs.Ends.{to_begin, to_finished, releases_viewport, viewport_uses, viewports_of, pairs_where, uses_viewport, is_done}
 use Rattle.flat_rules.specs.Legal.{Legal, has_token, owns_viewport, is_frame_open, makes_viewport}
@@ -145,19 +145,19 @@ module _ (setup : Setup) (s : SessionNo) (declared : is_declared setup s ≡ tru
       → owns_viewport setup s p ≡ true → (uses_viewport p e.kind && is_done e.reply) ≡ true
       → ((q : PairNo) → q.0 ≢ p.0 → uses_viewport q e.kind ≡ false) → has_token setup p h ≡ true → (props : ViewportProps)
       → makes_viewport p props (slice_get e.calls (length e.calls - 1)) ≡ true
-      → (live : List Live) (out : List OutToken) → AreViewports setup h s live out
+      → (live : List LiveViewport) (out : List OutToken) → AreViewports setup h s live out
       → AreViewports setup (h ▹ e) s (lives_after live e.calls)
       (with_out (record { pair = p; released = None }) (map (marked live e.calls (length (presents s h))) out))
   viewports-used h e legal mine no_finish p owned used others held props last live out old = record {
     lives = λ o.
         let before : is_closed s h ≡ false = closed-before (is_session s e.actor) e (own s h) o in
-        ap (λ (l : List Live). lives_after l e.calls) (old.lives before) ∙ sym (lives-own setup s declared h e legal mine o);
+        ap (λ (l : List LiveViewport). lives_after l e.calls) (old.lives before) ∙ sym (lives-own setup s declared h e legal mine o);
     outs = λ o.
         let before : is_closed s h ≡ false = closed-before (is_session s e.actor) e (own s h) o in
-        let lives : List Live = lives_after [] (calls s h) in
+        let lives : List LiveViewport = lives_after [] (calls s h) in
         let mark : OutToken → OutToken = marked lives e.calls (length (presents s h)) in
         ap (λ (l : List OutToken). with_out (record { pair = p; released = None }) (map (marked live e.calls (length (presents s h))) l)) (old.outs before)
-        ∙ ap (λ (l : List Live). with_out (record { pair = p; released = None }) (map (marked l e.calls (length (presents s h))) (outs_of setup h s)))
+        ∙ ap (λ (l : List LiveViewport). with_out (record { pair = p; released = None }) (map (marked l e.calls (length (presents s h))) (outs_of setup h s)))
         (old.lives before)
         ∙ ap (with_out (record { pair = p; released = None })) (flat-mapped mark (out_of setup h s) (viewports_of setup s))
         ∙ insert-all o before mark (λ x. refl) (λ q other owns. own-out setup s declared h e legal mine o q owns no_finish (rw (others q other) refl));
@@ -297,7 +297,7 @@ module _ (setup : Setup) (s : SessionNo) (declared : is_declared setup s ≡ tru
           by_seen false is = rw is refl
 
   pub viewports-finish : (h : List Entry) (e : Entry) → Legal setup (h ▹ e) → is_finish e.kind ≡ true → is_session s e.actor ≡ false
-      → ((p : PairNo) → uses_viewport p e.kind ≡ false) → (live : List Live) (out : List OutToken) → AreViewports setup h s live out
+      → ((p : PairNo) → uses_viewport p e.kind ≡ false) → (live : List LiveViewport) (out : List OutToken) → AreViewports setup h s live out
       → AreViewports setup (h ▹ e) s live (still_out (taken setup h s) out)
   viewports-finish h e legal ends other no_use live out old = record {
     lives = λ o. old.lives (closed-before (is_session s e.actor) e (own s h) o) ∙ rw other refl;
@@ -309,7 +309,7 @@ module _ (setup : Setup) (s : SessionNo) (declared : is_declared setup s ≡ tru
   }
 
   -- what the end of a frame posts of tokens
-  pub tokens-finish : (h : List Entry) → Legal setup h → is_closed s h ≡ false → is_frame_open h ≡ true → (live : List Live) (out : List OutToken)
+  pub tokens-finish : (h : List Entry) → Legal setup h → is_closed s h ≡ false → is_frame_open h ≡ true → (live : List LiveViewport) (out : List OutToken)
       → AreViewports setup h s live out → tokens_back setup h s ≡ back_events (taken setup h s) out
   tokens-finish h legal opened going live out old =
       let f : PairNo → List OutToken = out_of setup h s in

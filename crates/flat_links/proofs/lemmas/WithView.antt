@@ -12,7 +12,7 @@ use Rattle.flat_scene.specs.Frames.{taken}
 use Rattle.flat_scene.specs.History.{is_closed}
 use Rattle.flat_scene.specs.Setups.{is_declared}
 use Rattle.flat_topology.specs.Members.{is_member}
-use Rattle.flat_states.specs.declared.clock.Clock.{Clock}
+use Rattle.flat_states.specs.declared.frame_clock.FrameClock.{FrameClock}
 use Rattle.flat_states.specs.declared.state.SessionState.{SessionState}
 use Rattle.flat_states.specs.Machines.{Stands, HasRoom}
 use Rattle.flat_rules.specs.Ends.{ends_view, has_view, loses}
@@ -28,9 +28,9 @@ use Rattle.flat_facts.proofs.lemmas.StampSteps.{stamp-ended}
 use Rattle.flat_facts.proofs.lemmas.ViewHistory.{viewing-of}
 use Rattle.flat_rules.specs.Legal.{Legal, owns_view}
 use Rattle.flat_rules.specs.Stamps.{is_seen}
-use Rattle.flat_links.specs.declared.following.Following.{Following}
+use Rattle.flat_links.specs.declared.session_links.SessionLinks.{SessionLinks}
 use Rattle.flat_links.specs.declared.pairs.PairState.{PairState}
-use Rattle.flat_links.specs.Following.{AreTied}
+use Rattle.flat_links.specs.SessionLinks.{AreLinked}
 use Rattle.flat_links.specs.Views.{end_stamp, has_view_in, is_unseen}
 use Rattle.flat_links.proofs.EndedViews.{end-of}
 use Rattle.flat_states.proofs.lemmas.Counts.{declared-some, kept-session, seen-count, taken-kept}
@@ -61,7 +61,8 @@ flag-next f xs bs i x e fits within is each k d below = at-last f xs bs i k x d 
 -- ---- the flags of all sessions
 
 -- the presents that frames took haven't seen the end of the last view exactly where it isn't lost
-unseen-is : (setup : Setup) (h : List Entry) (s : SessionNo) {followings : List Following} (pairs : List PairState) → AreTied setup h followings pairs
+unseen-is : (setup : Setup) (h : List Entry) (s : SessionNo) {linked_sessions : List SessionLinks} (pairs : List PairState)
+    → AreLinked setup h linked_sessions pairs
     → is_closed s h ≡ false
     → (last : Option PairNo) → ((q : PairNo) → last ≡ Some q → owns_view setup s q ≡ true) → is_unseen pairs (taken setup h s) last ≡ is_standing setup h last
 unseen-is setup h s pairs tied opened None owns = refl
@@ -73,8 +74,9 @@ unseen-is setup h s pairs tied opened (Some q) owns =
     ∙ stamp-ended setup (ends_view q) s h h (end_stamp pairs q) (itself h) end.stamp
     ∙ ap (λ b. b || is_seen (end_stamp pairs q) (taken setup h s)) opened))
 
-view-kept : (setup : Setup) (h : List Entry) (s : SessionNo) (state : SessionState) {followings : List Following} (pairs : List PairState) → Legal setup h
-    → AreTied setup h followings pairs → IsKept setup (seen_of setup h s) state
+view-kept : (setup : Setup) (h : List Entry) (s : SessionNo) (state : SessionState) {linked_sessions : List SessionLinks} (pairs : List PairState)
+    → Legal setup h
+    → AreLinked setup h linked_sessions pairs → IsKept setup (seen_of setup h s) state
     → has_view_in pairs state ≡ has_view setup h s
 view-kept setup h s state pairs legal tied kept =
     rw (kept.closed, taken-kept setup (seen_of setup h s) state kept (seen-count setup h s), kept.account) (by_closed (is_closed s h) refl)
@@ -89,9 +91,10 @@ pub member-at : (set : SessionSet) (n : ℕ) → 0 < n → is_member set n ≡ s
 member-at set zero some = absurd (omega (arith, some))
 member-at set (suc n) some = let less : suc n - 1 ≡ n = omega arith in ap (λ (k : ℕ). slice_index_or set.has k false) (sym less)
 
-at-session : (setup : Setup) (h : List Entry) (clock : Clock) (fences views : List Bool) (sessions : List SessionState) (s : SessionNo) (state : SessionState)
-    {followings : List Following} (pairs : List PairState) → Stands setup h clock fences views sessions
-    → AreTied setup h followings pairs → IsTrue (is_declared setup s) → state ≡ slice_index_or sessions (s.0 - 1) state
+at-session : (setup : Setup) (h : List Entry) (clock : FrameClock) (fences views : List Bool) (sessions : List SessionState) (s : SessionNo)
+    (state : SessionState)
+    {linked_sessions : List SessionLinks} (pairs : List PairState) → Stands setup h clock fences views sessions
+    → AreLinked setup h linked_sessions pairs → IsTrue (is_declared setup s) → state ≡ slice_index_or sessions (s.0 - 1) state
     → has_view_in pairs state ≡ has_view setup h s
 at-session setup h clock fences views sessions s state pairs stands tied declared is =
     view-kept setup h s state pairs stands.legal tied (kept-session setup h clock fences views sessions s state stands declared is)
@@ -100,8 +103,9 @@ some-state : {A : Type 0} (xs : List A) (i : ℕ) → i < length xs → (x : A) 
 some-state [] i below = absurd (omega (arith, below))
 some-state (y ∷ xs) i below = (slice_index_or (y ∷ xs) i y, get_or_default (y ∷ xs) i y (slice_index_or (y ∷ xs) i y) below)
 
-pub members : (setup : Setup) (h : List Entry) (clock : Clock) (fences views : List Bool) (sessions : List SessionState) {followings : List Following}
-    (pairs : List PairState) (set : SessionSet) → Stands setup h clock fences views sessions → AreTied setup h followings pairs
+pub members : (setup : Setup) (h : List Entry) (clock : FrameClock) (fences views : List Bool) (sessions : List SessionState)
+    {linked_sessions : List SessionLinks}
+    (pairs : List PairState) (set : SessionSet) → Stands setup h clock fences views sessions → AreLinked setup h linked_sessions pairs
     → ((i : ℕ) (d : SessionState) → i < length sessions → slice_index_or set.has i false ≡ has_view_in pairs (slice_index_or sessions i d))
     → (s : SessionNo) → is_declared setup s ≡ true → is_member set s.0 ≡ has_view setup h s
 members setup h clock fences views sessions pairs set stands tied each s declared =
@@ -112,16 +116,17 @@ members setup h clock fences views sessions pairs set stands tied each s declare
     member-at set s.0 here.0 ∙ each (s.0 - 1) one.0 below ∙ ap (has_view_in pairs) (sym one.1)
     ∙ at-session setup h clock fences views sessions s one.0 pairs stands tied declared one.1
 
-pub few-states : (setup : Setup) (h : List Entry) (clock : Clock) (fences views : List Bool) (sessions : List SessionState) (shares : List ℕ) (log : Logged)
+pub few-states : (setup : Setup) (h : List Entry) (clock : FrameClock) (fences views : List Bool) (sessions : List SessionState) (shares : List ℕ)
+    (log : Logged)
     (owed : ℕ) {dues : ℕ} → Stands setup h clock fences views sessions
     → HasRoom setup shares log owed dues → length sessions ≤ 16
 few-states setup h clock fences views sessions shares log owed {dues} stands room = omega (arith, stands.count, (few-declared setup room.limits).0)
 
-pub few-going : (setup : Setup) (h : List Entry) (clock : Clock) (fences views : List Bool) (sessions : List SessionState)
+pub few-going : (setup : Setup) (h : List Entry) (clock : FrameClock) (fences views : List Bool) (sessions : List SessionState)
     → Stands setup h clock fences views sessions → All (λ state. length state.going.items ≤ 5) sessions
 few-going setup h clock fences views sessions stands i d below = (stands.each i d below).goes
 
-pub none_others : (setup : Setup) (h : List Entry) (clock : Clock) (fences views : List Bool) (sessions : List SessionState) (set : SessionSet)
+pub none_others : (setup : Setup) (h : List Entry) (clock : FrameClock) (fences views : List Bool) (sessions : List SessionState) (set : SessionSet)
     → Stands setup h clock fences views sessions
     → ((i : ℕ) → length sessions ≤ i → slice_index_or set.has i false ≡ false) → (s : ℕ) → setup.sessions < s → is_member set s ≡ false
 none_others setup h clock fences views sessions set stands none zero above = absurd (omega arith)

@@ -9,7 +9,7 @@ use Rattle.flat_text.specs.Pieces.{is_space}
 use Rattle.flat_text.specs.Left.{pieces_left}
 use Rattle.flat_places.specs.declared.kinds.FaultKind.{FaultKind}
 use Rattle.flat_places.specs.declared.kinds.FaultKind.TheVariants.{WrongCount}
-use Rattle.flat_places.specs.declared.places.Places.{Places}
+use Rattle.flat_places.specs.declared.word_cursor.WordCursor.{WordCursor}
 use Rattle.flat_places.specs.Kinds.{number, lower_kind}
 use Rattle.flat_places.specs.Forms.{place, each, optional, one_or_more, Word, Reading, Form, both, mapped, nothing, whole, give, passes, unless_kind, ◌<$>◌}
 use Rattle.flat_places.specs.Forms.{◌<*>◌}
@@ -64,11 +64,11 @@ goes_on : {A : Type 0} (v : A) (s : Reading (Unit {0})) (k : FaultKind) (n : Rea
 goes_on v (Ok u) k n e low = rw e (ap (mapped (λ _. v)) low)
 goes_on v (Err j) k n e low = rw e (ap (mapped (λ _. v)) low)
 
-pub goes_on_at : {A : Type 0} (v : A) (p : Places) (text : Bor (List ℕ)) (k : FaultKind) → p.words ≡ Some text
+pub goes_on_at : {A : Type 0} (v : A) (p : WordCursor) (text : Bor (List ℕ)) (k : FaultKind) → p.words ≡ Some text
     → lower {A = Unit {0}} (sofar p) (Err WrongCount) ≡ Err k → finished v p ≡ Err k
 goes_on_at v p text k is low = goes_on v (sofar p) k (nothing (left p)) (ap (λ w. nothing (pieces_left is_space w)) is ∙ nothing_split is_space text.now) low
 
-pub ends_at : {A : Type 0} (v : A) (p : Places) → left p ≡ [] → giving v (sofar p) ≡ finished v p
+pub ends_at : {A : Type 0} (v : A) (p : WordCursor) → left p ≡ [] → giving v (sofar p) ≡ finished v p
 ends_at v p none = rw none (ends v (sofar p))
 
 lower_both : {A B C : Type 0} (h : A → B → C) (s : Reading (Unit {0})) (f : Reading A) (x : Reading B) → lower s (both h f x) ≡ both h (lower s f) x
@@ -107,14 +107,14 @@ after h s t u f x g v first second =
 then_words : {A B : Type 0} (f : Form (A → B)) (x : Form A) (p q r : List Word) → q ≡ (f p).1 → r ≡ (x q).1 → r ≡ ((f <*> x) p).1
 then_words f x p q r first second = second ∙ ap (λ w. (x w).1) first
 
-pub then : {A B : Type 0} {f : Form (A → B)} {x : Form A} {p q r : Places} {g : A → B} {v : A} → Reads f p q g → Reads x q r v → Reads (f <*> x) p r (g v)
+pub then : {A B : Type 0} {f : Form (A → B)} {x : Form A} {p q r : WordCursor} {g : A → B} {v : A} → Reads f p q g → Reads x q r v → Reads (f <*> x) p r (g v)
 then {f = f} {x = x} {p = p} {q = q} {r = r} {g = g} {v = v} first second = record {
   words = then_words f x (left p) (left q) (left r) first.words second.words;
   outcome = after (λ h w. h w) (sofar p) (sofar q) (sofar r) (f (left p)).0 (x (f (left p)).1).0 g v first.outcome
       (ap (λ w. lower (sofar q) (x w).0) (sym first.words) ∙ second.outcome);
 }
 
-pub begin : {A B : Type 0} (h : A → B) {x : Form A} {p q : Places} {v : A} → Reads x p q v → Reads (h <$> x) p q (h v)
+pub begin : {A B : Type 0} (h : A → B) {x : Form A} {p q : WordCursor} {v : A} → Reads x p q v → Reads (h <$> x) p q (h v)
 begin h {x = x} {p = p} {q = q} {v = v} first = record {
   words = first.words;
   outcome = lower_mapped h (sofar p) (x (left p)).0 ∙ ap (mapped h) first.outcome ∙ mapped_giving h v (sofar q);
@@ -130,18 +130,19 @@ lower_ok : {A : Type 0} (r : Reading A) → lower (Ok (tt {0})) r ≡ r
 lower_ok (Ok a) = refl
 lower_ok (Err k) = refl
 
-pub all : {A : Type 0} {form : Form A} {p q : Places} {v : A} → sofar p ≡ Ok (tt {0}) → Reads form p q v → finished v q ≡ whole form (left p)
+pub all : {A : Type 0} {form : Form A} {p q : WordCursor} {v : A} → sofar p ≡ Ok (tt {0}) → Reads form p q v → finished v q ≡ whole form (left p)
 all {form = form} {p = p} {q = q} {v = v} fresh read =
     let first : (form (left p)).0 ≡ giving v (sofar q) = sym (lower_ok _) ∙ ap (λ s. lower s (form (left p)).0) (sym fresh) ∙ read.outcome in
     whole_both v (sofar q) (form (left p)).0 (nothing (left q)) first ∙ ap (λ w. both (λ a _. a) (form (left p)).0 (nothing w)) read.words
 
-pub read_whole : {A : Type 0} (form : Form A) {p q : Places} {v : A} {words : List Word} {r : Reading A} → left p ≡ words → sofar p ≡ Ok (tt {0})
+pub read_whole : {A : Type 0} (form : Form A) {p q : WordCursor} {v : A} {words : List Word} {r : Reading A} → left p ≡ words → sofar p ≡ Ok (tt {0})
     → Reads form p q v → r ≡ finished v q → r ≡ whole form words
 read_whole form words fresh read is = is ∙ all fresh read ∙ ap (whole form) words
 
 -- the same behind kinds that were found before
 
-pub read_after : {A : Type 0} (form : Form A) {p q : Places} {v : A} {words : List Word} {r : Reading A} → left p ≡ words → Reads form p q v → r ≡ finished v q
+pub read_after : {A : Type 0} (form : Form A) {p q : WordCursor} {v : A} {words : List Word} {r : Reading A} → left p ≡ words → Reads form p q v
+    → r ≡ finished v q
     → r ≡ lower (sofar p) (whole form words)
 read_after form {p = p} {q = q} {v = v} {words = words} {r = r} at read is =
     let first : r ≡ both (λ w _. w) (giving v (sofar q)) (nothing (left q)) = is in
@@ -152,7 +153,7 @@ read_after form {p = p} {q = q} {v = v} {words = words} {r = r} at read is =
     sym (lower_both (λ w _. w) (sofar p) (form (left p)).0 (nothing (left q))) in
     first ∙ second ∙ third ∙ ap (λ w. lower (sofar p) (both (λ a _. a) (form (left p)).0 (nothing w))) read.words ∙ ap (λ w. lower (sofar p) (whole form w)) at
 
-pub read_unless : {A : Type 0} (form : Form A) (k : FaultKind) (test : Bool) (o : Places) {p q : Places} {v : A} {words : List Word} {r : Reading A}
+pub read_unless : {A : Type 0} (form : Form A) (k : FaultKind) (test : Bool) (o : WordCursor) {p q : WordCursor} {v : A} {words : List Word} {r : Reading A}
     → left o ≡ words → sofar o ≡ Ok (tt {0}) → p.words ≡ o.words → sofar p ≡ lower (sofar o) (passes k test) → Reads form p q v → r ≡ finished v q
     → r ≡ unless_kind k test (whole form words)
 read_unless form k test o {p = p} {words = words} at fresh same low read is =
@@ -160,7 +161,7 @@ read_unless form k test o {p = p} {words = words} at fresh same low read is =
     let kinds : sofar p ≡ passes k test = low ∙ ap (λ s. lower s (passes k test)) fresh ∙ lower_ok (passes k test) in
     read_after form here read is ∙ ap (λ s. lower s (whole form words)) kinds
 
-pub read_unless_2 : {A : Type 0} (form : Form A) (j k : FaultKind) (first second : Bool) (n o : Places) {p q : Places} {v : A} {words : List Word}
+pub read_unless_2 : {A : Type 0} (form : Form A) (j k : FaultKind) (first second : Bool) (n o : WordCursor) {p q : WordCursor} {v : A} {words : List Word}
     {r : Reading A}
     → left n ≡ words → sofar n ≡ Ok (tt {0}) → o.words ≡ n.words → sofar o ≡ lower (sofar n) (passes j first) → p.words ≡ o.words
     → sofar p ≡ lower (sofar o) (passes k second)
@@ -178,7 +179,7 @@ both_mapped h v (Ok u) (Err k) = refl
 both_mapped h v (Err j) (Ok w) = refl
 both_mapped h v (Err j) (Err k) = refl
 
-pub mapped_finished : {A B : Type 0} (h : A → B) (v : A) (q : Places) (r : Reading A) → r ≡ finished v q → mapped h r ≡ finished (h v) q
+pub mapped_finished : {A B : Type 0} (h : A → B) (v : A) (q : WordCursor) (r : Reading A) → r ≡ finished v q → mapped h r ≡ finished (h v) q
 mapped_finished h v q r is = ap (mapped h) is ∙ both_mapped h v (sofar q) (nothing (left q))
 
 pub lower_given : {A : Type 0} (v : A) (s : Reading (Unit {0})) → lower s (Ok v) ≡ giving v s
@@ -186,7 +187,7 @@ lower_given v (Ok u) = refl
 lower_given v (Err k) = refl
 
 -- a form without places
-pub given : {A : Type 0} (v : A) (p : Places) → Reads (give v) p p v
+pub given : {A : Type 0} (v : A) (p : WordCursor) → Reads (give v) p p v
 given v p = record { words = refl; outcome = lower_given v (sofar p) }
 
 -- a list of places, to the end of the line
@@ -266,7 +267,7 @@ none_left None h = refl
 none_left (Some text) h = absurd (cc)
 
 -- all groups to the end of the line
-pub all_read : {A : Type 0} (rest : List Word → Reading (List A)) (p q : Places) (v : List A) → rest [] ≡ Ok [] → is_some q.words ≡ false
+pub all_read : {A : Type 0} (rest : List Word → Reading (List A)) (p q : WordCursor) (v : List A) → rest [] ≡ Ok [] → is_some q.words ≡ false
     → lower (sofar q) (mapped (λ r. v ++ r) (rest (left q))) ≡ lower (sofar p) (rest (left p)) → Reads (λ ws. (rest ws, [])) p q v
 all_read rest p q v ends none read =
     let gone = none_left q.words none in
@@ -282,20 +283,20 @@ optional_some : {A : Type 0} (form : Form A) (xs : List Word) → 0 < length xs 
 optional_some form [] some = absurd (omega arith)
 optional_some form (w ∷ ws) some = refl
 
-same_form : {A : Type 0} (f g : Form A) {p q : Places} {v : A} → f (left p) ≡ g (left p) → Reads g p q v → Reads f p q v
+same_form : {A : Type 0} (f g : Form A) {p q : WordCursor} {v : A} → f (left p) ≡ g (left p) → Reads g p q v → Reads f p q v
 same_form f g {p = p} {q = q} {v = v} same read = record {
   words = read.words ∙ ap (λ r. r.1) (sym same);
   outcome = ap (λ r. lower (sofar p) r.0) same ∙ read.outcome;
 }
 
-pub read_optional : {A : Type 0} (form : Form A) {p q : Places} {v : A} → 0 < length (left p) → Reads form p q v → Reads (optional form) p q (Some v)
+pub read_optional : {A : Type 0} (form : Form A) {p q : WordCursor} {v : A} → 0 < length (left p) → Reads form p q v → Reads (optional form) p q (Some v)
 read_optional form {p = p} some read = same_form (optional form) (Some <$> form) (optional_some form (left p) some) (begin Some read)
 
 one_or_more_some : {A : Type 0} (test : Word → Reading A) (xs : List Word) → 0 < length xs → one_or_more test xs ≡ each test xs
 one_or_more_some test [] some = absurd (omega arith)
 one_or_more_some test (w ∷ ws) some = refl
 
-pub read_one_or_more : {A : Type 0} (test : Word → Reading A) {p q : Places} {v : List A} → 0 < length (left p) → Reads (λ ws. (each test ws, [])) p q v
+pub read_one_or_more : {A : Type 0} (test : Word → Reading A) {p q : WordCursor} {v : List A} → 0 < length (left p) → Reads (λ ws. (each test ws, [])) p q v
     → Reads (λ ws. (one_or_more test ws, [])) p q v
 read_one_or_more test {p = p} some read = same_form (λ ws. (one_or_more test ws, [])) (λ ws. (each test ws, []))
     (ap (λ r. (r, [])) (one_or_more_some test (left p) some)) read

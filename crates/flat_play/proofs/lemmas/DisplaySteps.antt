@@ -6,17 +6,17 @@ use Rattle.flat_base.specs.declared.ids.Actor.TheVariants.{Display}
 use Rattle.flat_base.specs.declared.ids.FenceNo.{FenceNo}
 use Rattle.flat_scene.specs.declared.frames.Hit as point
 use Rattle.flat_scene.specs.declared.journal.Entry.{Entry}
-use Rattle.flat_scene.specs.declared.journal.Kind.{Kind}
-use Rattle.flat_scene.specs.declared.journal.Kind.TheVariants.{Begin, Dpr, Finish, End, Hit, Signal, Wait}
+use Rattle.flat_scene.specs.declared.journal.EntryKind.{EntryKind}
+use Rattle.flat_scene.specs.declared.journal.EntryKind.TheVariants.{Begin, Dpr, Finish, End, Hit, Signal, Wait}
 use Rattle.flat_scene.specs.declared.journal.Reply.{Reply}
 use Rattle.flat_scene.specs.declared.journal.Reply.TheVariants.{Done}
-use Rattle.flat_scene.specs.declared.script.Cond.{Cond}
-use Rattle.flat_scene.specs.declared.script.Cond.TheVariants as asks
-use Rattle.flat_scene.specs.declared.script.Body.{Body}
-use Rattle.flat_scene.specs.declared.script.Body.TheVariants as body
+use Rattle.flat_scene.specs.declared.script.WaitCondition.{WaitCondition}
+use Rattle.flat_scene.specs.declared.script.WaitCondition.TheVariants as asks
+use Rattle.flat_scene.specs.declared.script.LineBody.{LineBody}
+use Rattle.flat_scene.specs.declared.script.LineBody.TheVariants as body
 use Rattle.flat_scene.specs.declared.script.DisplayLine.{DisplayLine}
 use Rattle.flat_scene.specs.declared.script.DisplayLine.TheVariants as display
-use Rattle.flat_scene.specs.declared.script.Line.{Line}
+use Rattle.flat_scene.specs.declared.script.SessionLine.{SessionLine}
 use Rattle.flat_scene.specs.declared.script.ProbeLine.{ProbeLine}
 use Rattle.flat_scene.specs.declared.script.ScriptLine.{ScriptLine}
 use Rattle.flat_scene.specs.declared.setup.Setup.{Setup}
@@ -44,19 +44,19 @@ use Rattle.flat_play.proofs.lemmas.Unread.{unread_after, Numbered}
 
 -- ---- kinds that are quiet
 
-pub quiet_begin : (kind : Kind) → is_quiet kind ≡ true → is_begin kind ≡ false
+pub quiet_begin : (kind : EntryKind) → is_quiet kind ≡ true → is_begin kind ≡ false
 quiet_begin (Begin time) quiet = absurd (cc)
 quiet_begin _ quiet = refl
 
-pub quiet_finish : (kind : Kind) → is_quiet kind ≡ true → is_finish kind ≡ false
+pub quiet_finish : (kind : EntryKind) → is_quiet kind ≡ true → is_finish kind ≡ false
 quiet_finish Finish quiet = absurd (cc)
 quiet_finish _ quiet = refl
 
-pub quiet_end : (kind : Kind) → is_quiet kind ≡ true → is_end kind ≡ false
+pub quiet_end : (kind : EntryKind) → is_quiet kind ≡ true → is_end kind ≡ false
 quiet_end (End n) quiet = absurd (cc)
 quiet_end _ quiet = refl
 
-pub quiet_answers : (entry : Entry) (n : ℕ) (hits : ℤ → ℤ → List point.Hit) (kind : Kind) → is_quiet kind ≡ true → answer_to entry n hits kind ≡ []
+pub quiet_answers : (entry : Entry) (n : ℕ) (hits : ℤ → ℤ → List point.Hit) (kind : EntryKind) → is_quiet kind ≡ true → answer_to entry n hits kind ≡ []
 quiet_answers entry n hits (Hit x y) quiet = absurd (cc)
 quiet_answers entry n hits _ quiet = refl
 
@@ -68,7 +68,7 @@ pub data QuietStep (old new : List Entry) : Type 0 where
 pub display_numbered : (next : ScriptLine) → Numbered next.number (display_line next.number next.body)
 display_numbered next = by_body next.body
   where
-    by_body : (text : Body) → Numbered next.number (display_line next.number text)
+    by_body : (text : LineBody) → Numbered next.number (display_line next.number text)
     by_body (body.Display text) = (refl, tt)
     by_body _ = tt
 
@@ -84,7 +84,7 @@ module _ (script : Script) (place : ℕ) (x : ScriptLine) (at : At script place 
   }
 
   -- a line of a session
-  pub display_session : (text : Line) → x.body ≡ body.Session text → (old new : List Entry) → QuietStep old new → DisplayStands script place old
+  pub display_session : (text : SessionLine) → x.body ≡ body.Session text → (old new : List Entry) → QuietStep old new → DisplayStands script place old
       → DisplayStands script (place + 1) new
   display_session text is old new step stands = by_step step
     where
@@ -163,7 +163,8 @@ module _ (script : Script) (place : ℕ) (x : ScriptLine) (at : At script place 
       }
 
   -- a line that begins no frame and ends none
-  pub display_beside : (text : DisplayLine) (kind : Kind) (reply : Reply) → x.body ≡ body.Display text → entry_of_display text ≡ kind → is_begin kind ≡ false
+  pub display_beside : (text : DisplayLine) (kind : EntryKind) (reply : Reply) → x.body ≡ body.Display text → entry_of_display text ≡ kind
+      → is_begin kind ≡ false
       → is_finish kind ≡ false
       → ((o : Bool) (t : ℕ) (follows : Bool → ℕ → Bool) → keeps_frames o t (body.Display text) follows ≡ follows o t)
       → (old : List Entry) → DisplayStands script place old → DisplayStands script (place + 1) (old ▹ entry_of Display x.number [] kind reply)
@@ -261,7 +262,8 @@ may_dpr m to share named = record {
   share = share;
 }
 
-waits_for : (m : Machine) (c : Cond) → HasShare m Display → display_may (Wait c) ≡ true → names_declared m.setup (Wait c) ≡ true → MayCall m Display [] (Wait c)
+waits_for : (m : Machine) (c : WaitCondition) → HasShare m Display → display_may (Wait c) ≡ true → names_declared m.setup (Wait c) ≡ true
+    → MayCall m Display [] (Wait c)
 waits_for m c share acts named = record {
   may = record {
     acts = acts;
@@ -278,7 +280,7 @@ waits_for m c share acts named = record {
   share = share;
 }
 
-pub may_wait_for : (m : Machine) (c : Cond) → HasShare m Display → is_played_display m.setup (display.Wait c) ≡ true → MayCall m Display [] (Wait c)
+pub may_wait_for : (m : Machine) (c : WaitCondition) → HasShare m Display → is_played_display m.setup (display.Wait c) ≡ true → MayCall m Display [] (Wait c)
 may_wait_for m (asks.Presents s n) share played = waits_for m (asks.Presents s n) share refl played
 may_wait_for m (asks.Fence f) share played = waits_for m (asks.Fence f) share refl played
 may_wait_for m (asks.Frames n) share played = absurd (cc)

@@ -23,7 +23,7 @@ use Rattle.flat_report.specs.Report.{finished, frame_at}
 use Rattle.flat_topology.specs.Shown.{Shown}
 use Rattle.flat_topology.specs.Views.{view_nodes}
 use Rattle.flat_tree.specs.Laws.{ViewsAreATree, ViewsAreFew}
-use Rattle.flat_play.specs.declared.kept.Kept.{Kept}
+use Rattle.flat_play.specs.declared.kept_frames.KeptFrames.{KeptFrames}
 use Rattle.flat_play.specs.Playing.{HasPlayed}
 
 -- ---- all finished frames of a legal history
@@ -67,7 +67,7 @@ few-finished few begun each setup history legal =
 
 -- ---- the frames of a script that was played
 
-module _ (script : Script) (board : Machine) (kept : Kept) (answers : List HitAnswer) (played : HasPlayed script board kept answers)
+module _ (script : Script) (board : Machine) (kept : KeptFrames) (answers : List HitAnswer) (played : HasPlayed script board kept answers)
     (legal : Legal board.setup board.history) where
   legal_here : Legal script.setup board.history
   legal_here = let L : Setup → Type 0 = λ setup. Legal setup board.history in subst L played.setup legal

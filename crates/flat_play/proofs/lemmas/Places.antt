@@ -10,8 +10,8 @@ use Rattle.std.proofs.lemmas.Option.{slice_get_within, slice_get-get_or}
 use Rattle.flat_base.specs.declared.ids.Actor.TheVariants.{Session}
 use Rattle.flat_base.specs.declared.ids.SessionNo.{SessionNo}
 use Rattle.flat_base.specs.declared.limits.TheConstants.{SCRIPT_BYTES_MAX}
-use Rattle.flat_scene.specs.declared.script.Body.TheVariants as body
-use Rattle.flat_scene.specs.declared.script.Line.{Line}
+use Rattle.flat_scene.specs.declared.script.LineBody.TheVariants as body
+use Rattle.flat_scene.specs.declared.script.SessionLine.{SessionLine}
 use Rattle.flat_scene.specs.declared.script.ScriptLine.{ScriptLine}
 use Rattle.flat_scene.specs.Frames.{sessions_to}
 use Rattle.flat_scene.specs.Interleave.{session_lines, session_line}
@@ -83,17 +83,17 @@ module _ (script : Script) (playable : is_playable script ≡ true) where
 -- ---- a session's line
 
 -- What is known of a session's line at its place.
-pub record Here (script : Script) (s : SessionNo) (place number : ℕ) (text : Line) : Type 0 where
+pub record Here (script : Script) (s : SessionNo) (place number : ℕ) (text : SessionLine) : Type 0 where
   pub taken : session_lines s (take (place + 1) script.lines) ≡ session_lines s (take place script.lines) ++ (number, text) ∷ []
   pub last : last_number 0 (take (place + 1) script.lines) ≡ number
   pub above : last_number 0 (take place script.lines) < number
   pub played : is_played_line script.setup s text ≡ true
   pub declared : is_declared script.setup s ≡ true
 
-own_line : (s : SessionNo) (number : ℕ) (text : Line) → session_line (is_session s (Session s)) number (body.Session text) ≡ (number, text) ∷ []
+own_line : (s : SessionNo) (number : ℕ) (text : SessionLine) → session_line (is_session s (Session s)) number (body.Session text) ≡ (number, text) ∷ []
 own_line s number text = rw (eq-eqb s.0 s.0 refl) refl
 
-pub here : (script : Script) (s : SessionNo) (place number : ℕ) (text : Line) → is_playable script ≡ true
+pub here : (script : Script) (s : SessionNo) (place number : ℕ) (text : SessionLine) → is_playable script ≡ true
     → slice_get script.lines place ≡ Some (record { number = number; actor = Session s; body = body.Session text }) → Here script s place number text
 here script s place number text playable at =
     let next : ScriptLine = record { number = number; actor = Session s; body = body.Session text } in

@@ -8,15 +8,15 @@ use Rattle.std.proofs.lemmas.Bool.Decides.{nat_tests}
 use Rattle.flat_base.specs.declared.ids.Actor.TheVariants.{Display, Session, Probe}
 use Rattle.flat_base.specs.declared.ids.SessionNo.{SessionNo}
 use Rattle.flat_scene.specs.declared.journal.Entry.{Entry}
-use Rattle.flat_scene.specs.declared.journal.Kind.{Kind}
-use Rattle.flat_scene.specs.declared.journal.Kind.TheVariants.{Begin, Finish}
+use Rattle.flat_scene.specs.declared.journal.EntryKind.{EntryKind}
+use Rattle.flat_scene.specs.declared.journal.EntryKind.TheVariants.{Begin, Finish}
 use Rattle.flat_scene.specs.declared.journal.Reply.{Reply}
 use Rattle.flat_scene.specs.declared.journal.Reply.TheVariants.{Done}
-use Rattle.flat_scene.specs.declared.script.Body.{Body}
-use Rattle.flat_scene.specs.declared.script.Body.TheVariants as body
+use Rattle.flat_scene.specs.declared.script.LineBody.{LineBody}
+use Rattle.flat_scene.specs.declared.script.LineBody.TheVariants as body
 use Rattle.flat_scene.specs.declared.script.DisplayLine.{DisplayLine}
 use Rattle.flat_scene.specs.declared.script.DisplayLine.TheVariants as display
-use Rattle.flat_scene.specs.declared.script.Line.{Line}
+use Rattle.flat_scene.specs.declared.script.SessionLine.{SessionLine}
 use Rattle.flat_scene.specs.declared.script.ProbeLine.{ProbeLine}
 use Rattle.flat_scene.specs.declared.script.ScriptLine.{ScriptLine}
 use Rattle.flat_scene.specs.declared.setup.Setup.{Setup}
@@ -33,7 +33,7 @@ use Rattle.flat_play.specs.declared.frame.LastFrame.{LastFrame}
 use Rattle.flat_play.specs.declared.play.Play.{Play}
 use Rattle.flat_play.specs.Last.{StaysLast}
 use Rattle.flat_play.specs.Storing.{AnswersLine, FramesStand}
-use Rattle.flat_session.specs.declared.reader.Reader.{Reader}
+use Rattle.flat_session.specs.declared.session_reader.SessionReader.{SessionReader}
 use Rattle.flat_playable.specs.Playable.{is_played}
 use Rattle.flat_play.specs.Playing.{IsSpent, lines_by, shares_of, ReaderStands, ReadersStand, DisplayStands, PlayStands, BeginsFrame}
 use Rattle.flat_play.specs.Playing.{FinishesFrame, EntersBeside, session_text, display_text}
@@ -125,7 +125,7 @@ pub session_finishes : (setup : Setup) (x : ScriptLine) (s : SessionNo) (old new
 session_finishes setup x s old new actor grown = finished-session setup old.history new.history (grown_is x s old new actor grown).calm
 
 -- what an entry of the display leaves of them, where it ends no frame
-pub display_finishes : (setup : Setup) (old new : Machine) (n : ℕ) (kind : Kind) (reply : Reply) → is_finish kind ≡ false
+pub display_finishes : (setup : Setup) (old new : Machine) (n : ℕ) (kind : EntryKind) (reply : Reply) → is_finish kind ≡ false
     → new ≡ entered old Display n [] kind reply → finished setup new.history ≡ finished setup old.history
 display_finishes setup old new n kind reply no_finish board =
     ap (λ (m : Machine). finished setup m.history) board ∙ finished-beside setup old.history (entry_of Display n [] kind reply) no_finish
@@ -142,7 +142,8 @@ module _ (script : Script) (place : ℕ) (x : ScriptLine) (at : At script place 
       has_room script m s.0 within.0 within.1 shares few
 
   -- all readers, where one has played the line
-  readers_more : (s : SessionNo) (old new : List Entry) (readers : List Reader) (reader : Reader) → x.actor ≡ Session s → 0 < s.0 → s.0 ≤ length readers
+  readers_more : (s : SessionNo) (old new : List Entry) (readers : List SessionReader) (reader : SessionReader) → x.actor ≡ Session s → 0 < s.0
+      → s.0 ≤ length readers
       → Step x old new
       → ReadersStand script place old readers → ReaderStands script s (place + 1) new reader
       → ReadersStand script (place + 1) new (set readers (s.0 - 1) reader)
@@ -151,13 +152,13 @@ module _ (script : Script) (place : ℕ) (x : ScriptLine) (at : At script place 
     each = λ k d inside. by_place k d (omega (arith, length-set readers (s.0 - 1) reader)) (k + 1 == s.0) refl;
   }
     where
-      by_place : (k : ℕ) (d : Reader) → k < length readers → (b : Bool) → (k + 1 == s.0) ≡ b
+      by_place : (k : ℕ) (d : SessionReader) → k < length readers → (b : Bool) → (k + 1 == s.0) ≡ b
           → ReaderStands script (record { 0 = k + 1 }) (place + 1) new (get_or (set readers (s.0 - 1) reader) k d)
       by_place k d inside true is =
           let here : k + 1 ≡ s.0 = eqb-true (k + 1) s.0 is in
           let index : k ≡ s.0 - 1 = omega arith in
           let P : ℕ → Type 0 = λ n. ReaderStands script (record { 0 = n }) (place + 1) new reader in
-          let Q : Reader → Type 0 = λ p. ReaderStands script (record { 0 = k + 1 }) (place + 1) new p in
+          let Q : SessionReader → Type 0 = λ p. ReaderStands script (record { 0 = k + 1 }) (place + 1) new p in
           let within : s.0 - 1 < length readers = omega arith in
           let found : get_or (set readers (s.0 - 1) reader) k d ≡ reader =
           ap (λ n. get_or (set readers (s.0 - 1) reader) n d) index ∙ rw get_or-set_same refl in
@@ -171,7 +172,7 @@ module _ (script : Script) (place : ℕ) (x : ScriptLine) (at : At script place 
           rw get_or-set_other (reader_other script place x at (record { 0 = k + 1 }) apart old new (get_or readers k d) step (stand.each k d inside))
 
   -- a line of no session
-  readers_beside : (readers : List Reader) (old new : List Entry) → ((s : SessionNo) → is_session s x.actor ≡ false) → Step x old new
+  readers_beside : (readers : List SessionReader) (old new : List Entry) → ((s : SessionNo) → is_session s x.actor ≡ false) → Step x old new
       → ReadersStand script place old readers → ReadersStand script (place + 1) new readers
   readers_beside readers old new other step stand = record {
     count = stand.count;
@@ -179,10 +180,10 @@ module _ (script : Script) (place : ℕ) (x : ScriptLine) (at : At script place 
         (stand.each k d inside);
   }
 
-  display_readers : (old_readers readers : List Reader) (old new : List Entry) → x.actor ≡ Display → Step x old new → readers ≡ old_readers
+  display_readers : (old_readers readers : List SessionReader) (old new : List Entry) → x.actor ≡ Display → Step x old new → readers ≡ old_readers
       → ReadersStand script place old old_readers → ReadersStand script (place + 1) new readers
   display_readers old_readers readers old new actor step is stand =
-      let P : List Reader → Type 0 = ReadersStand script (place + 1) new in
+      let P : List SessionReader → Type 0 = ReadersStand script (place + 1) new in
       subst P (sym is) (readers_beside old_readers old new (λ s. ap (is_session s) actor) step stand)
 
   -- a line of a probe, which leaves the run as it is
@@ -201,7 +202,7 @@ module _ (script : Script) (place : ℕ) (x : ScriptLine) (at : At script place 
       }
 
   -- a line of a session, which its reader has played
-  pub session_more : (old new : Play) (s : SessionNo) (text : Line) (reader : Reader) → x.actor ≡ Session s → x.body ≡ body.Session text
+  pub session_more : (old new : Play) (s : SessionNo) (text : SessionLine) (reader : SessionReader) → x.actor ≡ Session s → x.body ≡ body.Session text
       → is_declared script.setup s ≡ true → PlayStands script place old
       → new.readers.items ≡ set old.readers.items (s.0 - 1) reader → ReaderStands script s (place + 1) new.board.history reader
       → Grows old.board new.board (Session s) x.number → new.start ≡ old.start → new.store ≡ old.store → PlayStands script (place + 1) new
@@ -209,7 +210,7 @@ module _ (script : Script) (place : ℕ) (x : ScriptLine) (at : At script place 
       let g : Grown x old.board new.board = grown_is x s old.board new.board actor grown in
       let within = below_declared script.setup s declared in
       let inside : s.0 ≤ length old.readers.items = let count = stands.readers.count in let below = within.1 in omega arith in
-      let P : List Reader → Type 0 = ReadersStand script (place + 1) new.board.history in
+      let P : List SessionReader → Type 0 = ReadersStand script (place + 1) new.board.history in
       record {
         setup = g.setup ∙ stands.setup;
         shares = g.shares ∙ stands.shares;
@@ -271,7 +272,7 @@ module _ (script : Script) (place : ℕ) (x : ScriptLine) (at : At script place 
   pub beside_more : (old new : Play) (text : DisplayLine) → x.actor ≡ Display → x.body ≡ body.Display text → is_beside text ≡ true
       → PlayStands script place old → EntersBeside old new x.number text → PlayStands script (place + 1) new
   beside_more old new text actor is beside stands enters =
-      let kind : Kind = entry_of_display text in
+      let kind : EntryKind = entry_of_display text in
       let reply : Reply = reply_to old.board.setup old.board.history Display [] kind in
       let e : Entry = entry_of Display x.number [] kind reply in
       let h : List Entry = old.board.history in
@@ -308,33 +309,33 @@ play_stays script place play last kept stands = record {
 }
 
 -- the reader of a session
-pub own_reader : (script : Script) (place : ℕ) (history : List Entry) (readers : List Reader) (s : SessionNo) → is_declared script.setup s ≡ true
+pub own_reader : (script : Script) (place : ℕ) (history : List Entry) (readers : List SessionReader) (s : SessionNo) → is_declared script.setup s ≡ true
     → ReadersStand script place history readers
-    → (reader : Reader) → reader ≡ get_or readers (s.0 - 1) reader → ReaderStands script s place history reader
+    → (reader : SessionReader) → reader ≡ get_or readers (s.0 - 1) reader → ReaderStands script s place history reader
 own_reader script place history readers s declared stand reader is =
     let within = below_declared script.setup s declared in
     let inside : s.0 - 1 < length readers = let count = stand.count in let a = within.0 in let b = within.1 in omega arith in
     let here : s.0 - 1 + 1 ≡ s.0 = let a = within.0 in omega arith in
     let P : ℕ → Type 0 = λ n. ReaderStands script (record { 0 = n }) place history (get_or readers (s.0 - 1) reader) in
-    let Q : Reader → Type 0 = λ p. ReaderStands script s place history p in
+    let Q : SessionReader → Type 0 = λ p. ReaderStands script s place history p in
     subst Q (sym is) (subst P here (stand.each (s.0 - 1) reader inside))
 
 -- a session plays lines of a session, the display its own, and a probe those of a probe
-pub no_session_text : (setup : Setup) (s : SessionNo) (text : Body) → is_played setup (Session s) text ≡ true → session_text text ≡ None → ⊥
+pub no_session_text : (setup : Setup) (s : SessionNo) (text : LineBody) → is_played setup (Session s) text ≡ true → session_text text ≡ None → ⊥
 no_session_text setup s (body.Session text) played none = cc
 no_session_text setup s _ played none = cc
 
-pub no_display_text : (setup : Setup) (text : Body) → is_played setup Display text ≡ true → display_text text ≡ None → ⊥
+pub no_display_text : (setup : Setup) (text : LineBody) → is_played setup Display text ≡ true → display_text text ≡ None → ⊥
 no_display_text setup (body.Display text) played none = cc
 no_display_text setup _ played none = cc
 
 -- What is known of a line of a probe.
-pub record IsAsked (setup : Setup) (p : ℕ) (text : Body) : Type 0 where
+pub record IsAsked (setup : Setup) (p : ℕ) (text : LineBody) : Type 0 where
   pub asked : ProbeLine
   pub is : text ≡ body.Probe asked
   pub below : p < setup.probes
 
-pub is_asked : (setup : Setup) (p : ℕ) (text : Body) → is_played setup (Probe p) text ≡ true → IsAsked setup p text
+pub is_asked : (setup : Setup) (p : ℕ) (text : LineBody) → is_played setup (Probe p) text ≡ true → IsAsked setup p text
 is_asked setup p (body.Probe asked) played = record {
   asked = asked;
   is = refl;

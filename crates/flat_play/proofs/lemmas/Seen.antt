@@ -8,7 +8,7 @@ use Rattle.std.proofs.lemmas.Option.{slice_get_read}
 use Rattle.std.proofs.lemmas.Bool.Decides.{nat_tests}
 use Rattle.flat_base.specs.declared.ids.FrameNo.{FrameNo}
 use Rattle.flat_scene.specs.declared.frames.FrameOut.{FrameOut}
-use Rattle.flat_scene.specs.declared.frames.Lost.{Lost}
+use Rattle.flat_scene.specs.declared.frames.LostDisplay.{LostDisplay}
 use Rattle.flat_scene.specs.declared.journal.Entry.{Entry}
 use Rattle.flat_scene.specs.declared.setup.Setup.{Setup}
 use Rattle.flat_scene.specs.History.{◌▹◌, is_finish}
@@ -97,8 +97,8 @@ is_last before x all last is at =
     cc
 
 -- what the show of a frame says of the same frame
-pub shows_same : {D : Type 0} (told : D → Option (List FrameOut)) (count : D → ℕ) (one other : FrameOut) (lost : List Lost) (n : ℕ) (ds ds' : List D)
-    (more : List Lost) → one ≡ other → Shows told count one lost n ds ds' more → Shows told count other lost n ds ds' more
+pub shows_same : {D : Type 0} (told : D → Option (List FrameOut)) (count : D → ℕ) (one other : FrameOut) (lost : List LostDisplay) (n : ℕ) (ds ds' : List D)
+    (more : List LostDisplay) → one ≡ other → Shows told count one lost n ds ds' more → Shows told count other lost n ds ds' more
 shows_same told count one other lost n ds ds' more same shows = let P : FrameOut → Type 0 = λ f. Shows told count f lost n ds ds' more in subst P same shows
 
 -- displays of the same kinds are as many
@@ -112,7 +112,7 @@ kept_none told count AreOfSort kind ds none = record { kinds = refl; some = ([],
 
 -- so are those that have had the frames of a run
 pub kept_seen : {D K : Type 0} (told : D → Option (List FrameOut)) (count : D → ℕ) (AreOfSort : List FrameOut → Type 0) (kind : D → K) (shown : List FrameOut)
-    (history : List Entry) (lost : List Lost) (olds news : List D) → map kind news ≡ map kind olds
+    (history : List Entry) (lost : List LostDisplay) (olds news : List D) → map kind news ≡ map kind olds
     → AreOfSort shown → HaveSeen told count shown history lost olds news → AreKept told count AreOfSort olds news kind
 kept_seen told count AreOfSort kind shown history lost olds news kinds are seen = record { kinds = kinds; some = (lost, shown, are, seen.driven) }
 
@@ -130,12 +130,13 @@ kept_as told count AreOfSort AreOfOther kind olds news wider kept =
     record { kinds = kept.kinds; some = (kept.some.0, kept.some.1, wider kept.some.1 kept.some.2, kept.some.3) }
 
 -- by other names, where as many frames are finished
-pub seen_counted : {D : Type 0} (told : D → Option (List FrameOut)) (count : D → ℕ) (all all' : List FrameOut) (old new : List Entry) (lost lost' : List Lost)
+pub seen_counted : {D : Type 0} (told : D → Option (List FrameOut)) (count : D → ℕ) (all all' : List FrameOut) (old new : List Entry)
+    (lost lost' : List LostDisplay)
     (olds olds' news : List D) → all' ≡ all → frames new ≡ frames old → lost' ≡ lost → olds' ≡ olds
     → HaveSeen told count all old lost olds news → HaveSeen told count all' new lost' olds' news
 seen_counted {D} told count all all' old new lost lost' olds olds' news all_is number lost_is olds_is seen =
     let F : List FrameOut → Type 0 = λ fs. HaveSeen told count fs new lost' olds' news in
-    let L : List Lost → Type 0 = λ ls. HaveSeen told count all new ls olds' news in
+    let L : List LostDisplay → Type 0 = λ ls. HaveSeen told count all new ls olds' news in
     let O : List D → Type 0 = λ ds. HaveSeen told count all new lost ds news in
     subst F (sym all_is) (subst L (sym lost_is) (subst O (sym olds_is)
     (record { driven = seen.driven; loss = loss_same old new lost number seen.loss; numbered = seen.numbered })))
@@ -147,10 +148,10 @@ kept_from {D} told count AreOfSort kind olds olds' news same kept = let P : List
 
 module _ {D : Type 0} (told : D → Option (List FrameOut)) (count : D → ℕ) where
   -- before any line
-  pub seen_none : (shown : List FrameOut) (history : List Entry) (lost : List Lost) (ds : List D) → shown ≡ [] → lost ≡ []
+  pub seen_none : (shown : List FrameOut) (history : List Entry) (lost : List LostDisplay) (ds : List D) → shown ≡ [] → lost ≡ []
       → HaveSeen told count shown history lost ds ds
   seen_none shown history lost ds none whole =
-      let L : List Lost → Type 0 = λ ls. HaveSeen told count shown history ls ds ds in
+      let L : List LostDisplay → Type 0 = λ ls. HaveSeen told count shown history ls ds ds in
       subst L (sym whole) (record {
         driven = driven_same told count [] shown [] ds ds (sym none) (driven_none told count [] ds refl);
         loss = refl;
@@ -162,7 +163,7 @@ module _ {D : Type 0} (told : D → Option (List FrameOut)) (count : D → ℕ) 
     counted fs history stands = ap length stands ∙ finished_length setup history
 
     -- after what finishes no frame
-    pub seen_same : (lost : List Lost) (olds news : List D) → shown' ≡ shown → HaveSeen told count shown old lost olds news
+    pub seen_same : (lost : List LostDisplay) (olds news : List D) → shown' ≡ shown → HaveSeen told count shown old lost olds news
         → HaveSeen told count shown' new lost olds news
     seen_same lost olds news same seen =
         let before = counted shown old was in
@@ -175,7 +176,8 @@ module _ {D : Type 0} (told : D → Option (List FrameOut)) (count : D → ℕ) 
         }
 
     -- after a frame that was shown
-    seen_more : (frame : FrameOut) (lost losses : List Lost) (olds mids news : List D) → shown' ≡ shown ++ frame ∷ [] → frame.frame.0 ≡ suc (length shown)
+    seen_more : (frame : FrameOut) (lost losses : List LostDisplay) (olds mids news : List D) → shown' ≡ shown ++ frame ∷ []
+        → frame.frame.0 ≡ suc (length shown)
         → length mids < 4294967296 → Shows told count frame lost 1 mids news losses → HaveSeen told count shown old lost olds mids
         → HaveSeen told count shown' new (lost ++ losses) olds news
     seen_more frame lost losses olds mids news kept number few shows seen =

@@ -25,7 +25,7 @@ use Rattle.flat_core.specs.Starts.{IsStart}
 use Rattle.flat_play.specs.Storing.{FramesStand, StoreStands}
 use Rattle.flat_play.proofs.lemmas.Storing.{frames_none}
 use Rattle.flat_topology.specs.Shown.{Shown}
-use Rattle.flat_session.specs.declared.reader.Reader.{Reader}
+use Rattle.flat_session.specs.declared.session_reader.SessionReader.{SessionReader}
 use Rattle.flat_session.specs.Readings.{NoneIsRead}
 use Rattle.flat_session.specs.Reads.{IsNew}
 use Rattle.flat_places.specs.declared.script.Script.{Script}
@@ -137,21 +137,21 @@ is_numbered setup before within =
     let b : nat_le (before + 1) setup.sessions ≡ true = grind (arith, nat_tests) in
     and-true a b
 
-last_new : (setup : Setup) (readers : List Reader) (reader : Reader) (k : ℕ) (d : Reader)
-    → ((k : ℕ) (d : Reader) → k < length readers → IsNew setup (record { 0 = k + 1 }) (get_or readers k d))
+last_new : (setup : Setup) (readers : List SessionReader) (reader : SessionReader) (k : ℕ) (d : SessionReader)
+    → ((k : ℕ) (d : SessionReader) → k < length readers → IsNew setup (record { 0 = k + 1 }) (get_or readers k d))
     → IsNew setup (record { 0 = length readers + 1 }) reader → k < length readers + 1
     → (b : Bool) → nat_lt k (length readers) ≡ b → IsNew setup (record { 0 = k + 1 }) (get_or (readers ++ reader ∷ []) k d)
 last_new setup readers reader k d each new below true is =
     let less : k < length readers = grind (arith, nat_tests) in
-    let P : Reader → Type 0 = IsNew setup (record { 0 = k + 1 }) in
+    let P : SessionReader → Type 0 = IsNew setup (record { 0 = k + 1 }) in
     subst P (sym (get_or_append_left readers (reader ∷ []) d k less)) (each k d less)
 last_new setup readers reader k d each new below false is =
     let same : k ≡ length readers = grind (arith, nat_tests) in
-    let P : Reader → Type 0 = IsNew setup (record { 0 = length readers + 1 }) in
+    let P : SessionReader → Type 0 = IsNew setup (record { 0 = length readers + 1 }) in
     let N : ℕ → Type 0 = λ n. IsNew setup (record { 0 = n + 1 }) (get_or (readers ++ reader ∷ []) n d) in
     subst N (sym same) (subst P (sym (get_or-append_seam readers reader [] d)) new)
 
-pub new_more : (setup : Setup) (before : ℕ) (readers : List Reader) (reader : Reader) → AreNew setup before readers
+pub new_more : (setup : Setup) (before : ℕ) (readers : List SessionReader) (reader : SessionReader) → AreNew setup before readers
     → IsNew setup (record { 0 = before + 1 }) reader → AreNew setup (before + 1) (readers ++ reader ∷ [])
 new_more setup before readers reader are new =
     let N : ℕ → Type 0 = λ n. IsNew setup (record { 0 = n + 1 }) reader in
@@ -177,7 +177,8 @@ module _ (script : Script) (playable : is_playable script ≡ true) where
   first_spent : IsSpent script 0 []
   first_spent = record { spent = λ seat. omega arith }
 
-first_readers : NoneIsRead → (script : Script) (readers : List Reader) → AreNew script.setup script.setup.sessions readers → ReadersStand script 0 [] readers
+first_readers : NoneIsRead → (script : Script) (readers : List SessionReader) → AreNew script.setup script.setup.sessions readers
+    → ReadersStand script 0 [] readers
 first_readers none script readers new = record {
   count = new.count;
   each = λ k d within. new_stands none script (record { 0 = k + 1 }) (slice_index_or readers k d) (new.each k d within);

@@ -5,14 +5,14 @@ use Rattle.std.specs.List.{list_all}
 use Rattle.std.proofs.lemmas.Grind.{common_steps, flat_map-append}
 use Rattle.flat_base.specs.declared.ids.SessionNo.{SessionNo}
 use Rattle.flat_scene.specs.declared.journal.Entry.{Entry}
-use Rattle.flat_scene.specs.declared.script.Line.{Line}
+use Rattle.flat_scene.specs.declared.script.SessionLine.{SessionLine}
 use Rattle.flat_scene.specs.declared.script.ScriptLine.{ScriptLine}
 use Rattle.flat_scene.specs.History.{◌▹◌, own, is_session, is_end}
 use Rattle.flat_scene.specs.Journals.{seat_number}
 use Rattle.flat_scene.specs.Interleave.{session_lines, session_line, last_line}
 use Rattle.flat_core.specs.Machines.{made}
 use Rattle.flat_places.specs.declared.script.Script.{Script}
-use Rattle.flat_session.specs.declared.reader.Reader.{Reader}
+use Rattle.flat_session.specs.declared.session_reader.SessionReader.{SessionReader}
 use Rattle.flat_session.specs.Readings.{HasRead}
 use Rattle.flat_session.specs.Reads.{Stands}
 use Rattle.flat_playable.specs.Playable.{rise_from, is_played, is_playable}
@@ -113,13 +113,13 @@ module _ (script : Script) (place : ℕ) (x : ScriptLine) (at : At script place 
       (take place script.lines) (x ∷ [])
       ∙ ap (λ b. session_lines s (take place script.lines) ++ (session_line b x.number x.body ++ [])) other)
 
-  pub reader_other : (s : SessionNo) → is_session s x.actor ≡ false → (old new : List Entry) (reader : Reader) → Step x old new
+  pub reader_other : (s : SessionNo) → is_session s x.actor ≡ false → (old new : List Entry) (reader : SessionReader) → Step x old new
       → ReaderStands script s place old reader → ReaderStands script s (place + 1) new reader
   reader_other s other old new reader step stands =
       let mine : own s old ≡ own s new = sym (own_same s other old new step) in
       let S : List Entry → Type 0 = λ es. Stands script.setup es reader in
       let H : List Entry → Type 0 = λ es. HasRead script.setup (session_lines s (take (place + 1) script.lines)) es reader in
-      let L : List (ℕ × Line) → Type 0 = λ lines. HasRead script.setup lines (own s old) reader in
+      let L : List (ℕ × SessionLine) → Type 0 = λ lines. HasRead script.setup lines (own s old) reader in
       record {
         session = stands.session;
         few = let last = at.last in let above = at.above in let few = stands.few in omega arith;

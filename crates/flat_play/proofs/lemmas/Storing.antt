@@ -5,7 +5,7 @@ use Rattle.flat_base.specs.declared.ids.FrameNo.{FrameNo}
 use Rattle.flat_scene.specs.declared.frames.FrameOut.{FrameOut}
 use Rattle.flat_scene.specs.declared.frames.Hit as point
 use Rattle.flat_scene.specs.declared.journal.Entry.{Entry}
-use Rattle.flat_scene.specs.declared.journal.Kind.TheVariants.{Begin, Finish, Hit}
+use Rattle.flat_scene.specs.declared.journal.EntryKind.TheVariants.{Begin, Finish, Hit}
 use Rattle.flat_scene.specs.declared.journal.Reply.{Reply}
 use Rattle.flat_scene.specs.declared.journal.Reply.TheVariants.{Done}
 use Rattle.flat_scene.specs.declared.script.DisplayLine.{DisplayLine}
@@ -32,7 +32,7 @@ use Rattle.flat_report.specs.declared.report.HitAnswer.{HitAnswer}
 use Rattle.flat_report.specs.Handed.{answer_to, answers_of}
 use Rattle.flat_report.specs.Report.{finished, frame_at, hits_at}
 use Rattle.flat_play.specs.declared.frame.LastFrame.{LastFrame}
-use Rattle.flat_play.specs.declared.kept.Kept.{Kept}
+use Rattle.flat_play.specs.declared.kept_frames.KeptFrames.{KeptFrames}
 use Rattle.flat_play.specs.declared.store.FrameStore.{FrameStore}
 use Rattle.flat_play.specs.Keeping.{Keeps}
 use Rattle.flat_play.specs.Last.{EndsFrames, MayFollow, StaysLast}
@@ -40,8 +40,8 @@ use Rattle.flat_play.specs.Storing.{AnswersLine, AnswersPoint, FinishesNext, Fra
 use Rattle.flat_play.proofs.lemmas.FramesShown.{all-finished}
 
 -- the same is kept of the same frames
-pub keeps_same : (script : Script) (old new : Kept) (was now : List FrameOut) → new ≡ old → now ≡ was → Keeps script old was → Keeps script new now
-keeps_same script old new was now kept_is frames_are keeps = let P : List FrameOut → Type 0 = Keeps script old in let Q : Kept → Type 0 =
+pub keeps_same : (script : Script) (old new : KeptFrames) (was now : List FrameOut) → new ≡ old → now ≡ was → Keeps script old was → Keeps script new now
+keeps_same script old new was now kept_is frames_are keeps = let P : List FrameOut → Type 0 = Keeps script old in let Q : KeptFrames → Type 0 =
     λ k. Keeps script k now in subst Q (sym kept_is) (subst P (sym frames_are) keeps)
 
 -- ---- entries that end no frame and ask for no point

@@ -6,7 +6,7 @@ use Rattle.flat_base.specs.declared.ids.Actor.{Actor}
 use Rattle.flat_base.specs.declared.ids.Actor.TheVariants.{Display, Session, Probe}
 use Rattle.flat_base.specs.declared.ids.SessionNo.{SessionNo}
 use Rattle.flat_scene.specs.declared.script.ScriptLine.{ScriptLine}
-use Rattle.flat_scene.specs.declared.script.Body.{Body}
+use Rattle.flat_scene.specs.declared.script.LineBody.{LineBody}
 use Rattle.flat_forms.specs.declared.calls.CallName.{CallName}
 use Rattle.flat_places.specs.declared.kinds.FaultKind.TheVariants.{UnknownActor, Limit}
 use Rattle.flat_places.specs.declared.script.Script.{Script}
@@ -68,7 +68,7 @@ pub record Again (s : Script) (ls ms : List ScriptLine) (n m : ℕ) (words : Lis
   pub actor : Actor
   pub first : Word
   pub rest : List Word
-  pub body : Body
+  pub body : LineBody
   pub begins : words ≡ first ∷ rest
   pub named : actor_named s first ≡ Some actor
   pub line : actor_line (with_lines s ls) actor rest ≡ Ok body

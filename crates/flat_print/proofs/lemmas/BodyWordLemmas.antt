@@ -14,16 +14,16 @@ use Rattle.flat_base.specs.declared.ids.ContentId.{ContentId}
 use Rattle.flat_scene.specs.declared.calls.Call.{Call}
 use Rattle.flat_scene.specs.declared.calls.PresentArgs.{PresentArgs}
 use Rattle.flat_scene.specs.declared.calls.Watch.TheVariants as watch
-use Rattle.flat_scene.specs.declared.script.Cond.{Cond}
-use Rattle.flat_scene.specs.declared.script.Cond.TheVariants as asks
-use Rattle.flat_scene.specs.declared.script.Line.{Line}
-use Rattle.flat_scene.specs.declared.script.Line.TheVariants as line
+use Rattle.flat_scene.specs.declared.script.WaitCondition.{WaitCondition}
+use Rattle.flat_scene.specs.declared.script.WaitCondition.TheVariants as asks
+use Rattle.flat_scene.specs.declared.script.SessionLine.{SessionLine}
+use Rattle.flat_scene.specs.declared.script.SessionLine.TheVariants as line
 use Rattle.flat_scene.specs.declared.script.DisplayLine.{DisplayLine}
 use Rattle.flat_scene.specs.declared.script.DisplayLine.TheVariants as display
 use Rattle.flat_scene.specs.declared.script.ProbeLine.{ProbeLine}
 use Rattle.flat_scene.specs.declared.script.ProbeLine.TheVariants as probe
-use Rattle.flat_scene.specs.declared.script.Body.{Body}
-use Rattle.flat_scene.specs.declared.script.Body.TheVariants as body
+use Rattle.flat_scene.specs.declared.script.LineBody.{LineBody}
+use Rattle.flat_scene.specs.declared.script.LineBody.TheVariants as body
 use Rattle.flat_forms.specs.declared.calls.CallName.{CallName}
 use Rattle.flat_places.specs.declared.kinds.FaultKind.TheVariants.{BadNumber, UnknownCall, UnknownName, Limit, BadOrder}
 use Rattle.flat_places.specs.declared.script.Script.{Script}
@@ -110,13 +110,14 @@ display_signal_spelt s words l is =
 
 -- conditions
 
-counted_spelt : (h : ℕ → Cond) (s : Script) (w : Word) → ((n : ℕ) → condition_words s (h n) ≡ w ∷ decimal n ∷ []) → (words : List Word) (c : Cond)
+counted_spelt : (h : ℕ → WaitCondition) (s : Script) (w : Word) → ((n : ℕ) → condition_words s (h n) ≡ w ∷ decimal n ∷ [])
+    → (words : List Word) (c : WaitCondition)
     → whole (h <$> u32) words ≡ Ok c → condition_words s c ≡ w ∷ words
 counted_spelt h s w spells words c is =
     let m = map_ok h u32 words c [] (whole_ok (h <$> u32) words c is) in
     ap (condition_words s) (sym m.value) ∙ spells m.a ∙ ap (λ t. w ∷ t) (sym ((number_words (2 ^ 32)).takes words m.a [] m.given))
 
-waited_spelt : (s : Script) (a : Actor) (words : List Word) (c : Cond) → whole (asks.Fence <$> fence s a) words ≡ Ok c
+waited_spelt : (s : Script) (a : Actor) (words : List Word) (c : WaitCondition) → whole (asks.Fence <$> fence s a) words ≡ Ok c
     → condition_words s c ≡ codes "fence" ∷ words
 waited_spelt s a words c is =
     let m = map_ok asks.Fence (fence s a) words c [] (whole_ok (asks.Fence <$> fence s a) words c is) in
@@ -127,9 +128,9 @@ named_by : (s : Script) (w : Word) (a : SessionNo) (o : Option ℕ) → place_of
 named_by s w a None at is = absurd (cc)
 named_by s w a (Some i) at is = let e : record { 0 = i + 1 } ≡ a = cc in ap (session_word s) (sym e) ∙ number_of s w i at
 
-presents_spelt : (s : Script) (words : List Word) (c : Cond) → whole (presents_asked s) words ≡ Ok c → condition_words s c ≡ codes "presents" ∷ words
+presents_spelt : (s : Script) (words : List Word) (c : WaitCondition) → whole (presents_asked s) words ≡ Ok c → condition_words s c ≡ codes "presents" ∷ words
 presents_spelt s words c is =
-    let h : SessionNo → ℕ → Cond = λ x n. asks.Presents x n in
+    let h : SessionNo → ℕ → WaitCondition = λ x n. asks.Presents x n in
     let second = split (h <$> session s) u32 (λ n. decimal n ∷ []) words c [] (number_words (2 ^ 32)) (whole_ok (presents_asked s) words c is) in
     let first = map_ok h (session s) words second.g second.mid second.first in
     let value : h first.a second.a ≡ c = ap (λ g. g second.a) first.value ∙ second.value in
@@ -138,12 +139,13 @@ presents_spelt s words c is =
     ap (condition_words s) (sym value) ∙ ap (λ t. codes "presents" ∷ t)
     (ap (λ n. n ∷ decimal second.a ∷ []) name ∙ sym (p.begins ∙ ap (λ t. p.word ∷ t) second.behind))
 
-session_conditions : Script → SessionNo → Table Cond
+session_conditions : Script → SessionNo → Table WaitCondition
 session_conditions s a = (codes "frames", whole (asks.Frames <$> u32)) ∷ (codes "credits", whole (asks.Credits <$> u32))
     ∷ (codes "taken", whole (asks.Taken <$> u32)) ∷ (codes "answers", whole (asks.Answers <$> u32))
     ∷ (codes "fence", whole (asks.Fence <$> fence s (Session a))) ∷ []
 
-session_condition_spelt : (s : Script) (a : SessionNo) (words : List Word) (c : Cond) → session_condition s a words ≡ Ok c → condition_words s c ≡ words
+session_condition_spelt : (s : Script) (a : SessionNo) (words : List Word) (c : WaitCondition) → session_condition s a words ≡ Ok c
+    → condition_words s c ≡ words
 unfolding session_conditions
 session_condition_spelt s a [] c is = absurd (cc)
 session_condition_spelt s a (w ∷ words) c is =
@@ -158,10 +160,10 @@ session_condition_spelt s a (w ∷ words) c is =
       ),
     ) w words c is
 
-display_conditions : Script → Table Cond
+display_conditions : Script → Table WaitCondition
 display_conditions s = (codes "presents", whole (presents_asked s)) ∷ (codes "fence", whole (asks.Fence <$> fence s Display)) ∷ []
 
-display_condition_spelt : (s : Script) (words : List Word) (c : Cond) → display_condition s words ≡ Ok c → condition_words s c ≡ words
+display_condition_spelt : (s : Script) (words : List Word) (c : WaitCondition) → display_condition s words ≡ Ok c → condition_words s c ≡ words
 unfolding display_conditions
 display_condition_spelt s [] c is = absurd (cc)
 display_condition_spelt s (w ∷ words) c is = table_spelt (condition_words s) UnknownCall (display_conditions s) (presents_spelt s, (waited_spelt s Display, tt))
@@ -235,7 +237,7 @@ unsquashable_spelt version (w ∷ words) alone rest given = by_test (bytes_eq w 
     by_test true false at value left = let none : false ≡ alone = cc in left ∙ ap (λ b. unsquashable_word b ++ rest) none
     by_test false c at value left = let none : false ≡ alone = cc in left ∙ ap (λ b. unsquashable_word b ++ rest) none
 
-present_spelt : (s : Script) (a : SessionNo) (words : List Word) (l : Line) → whole (line.Present <$> present s a) words ≡ Ok l
+present_spelt : (s : Script) (a : SessionNo) (words : List Word) (l : SessionLine) → whole (line.Present <$> present s a) words ≡ Ok l
     → session_words s l ≡ codes "Present" ∷ words
 present_spelt s a words l is =
     let lists : Form (List FenceNo × List FenceNo) = λ ws. (fence_lists (tested_fence s (Session a)) ws, []) in
@@ -253,32 +255,33 @@ present_spelt s a words l is =
     (number_words (2 ^ 63)).takes words first.a second.mid first.given ∙ ap (λ t. decimal first.a ∷ t) behind in
     ap (session_words s) (sym whole_line.value) ∙ ap (λ p. present_words s p) (sym args) ∙ ap (λ t. codes "Present" ∷ t) (sym taken)
 
-signal_spelt : (s : Script) (a : SessionNo) (words : List Word) (l : Line) → whole (line.Signal <$> fence s (Session a)) words ≡ Ok l
+signal_spelt : (s : Script) (a : SessionNo) (words : List Word) (l : SessionLine) → whole (line.Signal <$> fence s (Session a)) words ≡ Ok l
     → session_words s l ≡ codes "Signal" ∷ words
 signal_spelt s a words l is =
     let m = map_ok line.Signal (fence s (Session a)) words l [] (whole_ok (line.Signal <$> fence s (Session a)) words l is) in
     ap (session_words s) (sym m.value) ∙ ap (λ t. codes "Signal" ∷ t) (sym ((fence_words s (Session a)).takes words m.a [] m.given))
 
-wait_spelt : (s : Script) (a : SessionNo) (words : List Word) (l : Line) → mapped line.Wait (session_condition s a words) ≡ Ok l
+wait_spelt : (s : Script) (a : SessionNo) (words : List Word) (l : SessionLine) → mapped line.Wait (session_condition s a words) ≡ Ok l
     → session_words s l ≡ codes "Wait" ∷ words
 wait_spelt s a words l is =
     let m = mapped_ok line.Wait (session_condition s a words) l is in
     ap (session_words s) (sym m.value) ∙ ap (λ t. codes "Wait" ∷ t) (session_condition_spelt s a words m.a m.given)
 
-alone_spelt : (s : Script) (one : Line) (words : List Word) (l : Line) → whole (give one) words ≡ Ok l → session_words s l ≡ session_words s one ++ words
+alone_spelt : (s : Script) (one : SessionLine) (words : List Word) (l : SessionLine) → whole (give one) words ≡ Ok l
+    → session_words s l ≡ session_words s one ++ words
 alone_spelt s one words l is =
     let given = whole_ok (give one) words l is in
     let same = given.value in
     let e : one ≡ l = cc in
     ap (session_words s) (sym e) ∙ sym (append-nil (session_words s one)) ∙ ap (λ t. session_words s one ++ t) (sym given.left)
 
-child_spelt : (s : Script) (words : List Word) (l : Line) → whole child_asked words ≡ Ok l → session_words s l ≡ codes "GetChildStatus" ∷ words
+child_spelt : (s : Script) (words : List Word) (l : SessionLine) → whole child_asked words ≡ Ok l → session_words s l ≡ codes "GetChildStatus" ∷ words
 child_spelt s words l is =
-    let h : ContentId → Line = λ c. line.Get (watch.Child c) in
+    let h : ContentId → SessionLine = λ c. line.Get (watch.Child c) in
     let m = map_ok h content words l [] (whole_ok child_asked words l is) in
     ap (session_words s) (sym m.value) ∙ ap (λ t. codes "GetChildStatus" ∷ t) (sym (content_words.takes words m.a [] m.given))
 
-other_table : Script → SessionNo → Table Line
+other_table : Script → SessionNo → Table SessionLine
 other_table s a =
     (codes "Present", whole (line.Present <$> present s a)) ∷
     (codes "GetLayout", whole (give (line.Get watch.Layout))) ∷
@@ -289,7 +292,7 @@ other_table s a =
     (codes "Wait", (λ rest. mapped line.Wait (session_condition s a rest))) ∷
     (codes "Disconnect", whole (give line.Disconnect)) ∷ []
 
-other_spelt : (s : Script) (a : SessionNo) (w : Word) (words : List Word) (l : Line) → other_line s a (w ∷ words) ≡ Ok l → session_words s l ≡ w ∷ words
+other_spelt : (s : Script) (a : SessionNo) (w : Word) (words : List Word) (l : SessionLine) → other_line s a (w ∷ words) ≡ Ok l → session_words s l ≡ w ∷ words
 unfolding other_table
 other_spelt s a w words l is =
     table_spelt (session_words s) UnknownCall (other_table s a) (
@@ -319,17 +322,17 @@ call_line_shown s a w n words c at shown =
           ∙ ap (mapped line.Call) shown.fields.again;
     }
 
-by_call : (s : Script) (a : SessionNo) (w : Word) (words : List Word) (l : Line) (o : Option CallName) → call_named s.version w ≡ o
+by_call : (s : Script) (a : SessionNo) (w : Word) (words : List Word) (l : SessionLine) (o : Option CallName) → call_named s.version w ≡ o
     → session_line s a (w ∷ words) ≡ Ok l
     → option_map_or (λ n. mapped line.Call (whole (call_form s a n) words)) o (other_line s a (w ∷ words)) ≡ Ok l
     → Shown (session_line s a) (session_words s l) (w ∷ words) l
 by_call s a w words l None at is other = shown_whole (session_line s a) (session_words s l) (w ∷ words) l (other_spelt s a w words l other) is
 by_call s a w words l (Some n) at is called =
     let m = mapped_ok line.Call (whole (call_form s a n) words) l called in
-    let P : Line → Type 0 = λ v. Shown (session_line s a) (session_words s v) (w ∷ words) v in
+    let P : SessionLine → Type 0 = λ v. Shown (session_line s a) (session_words s v) (w ∷ words) v in
     subst P m.value (call_line_shown s a w n words m.a at (call_shown s a w n at words m.a m.given))
 
-pub session_shown : (s : Script) (a : SessionNo) (words : List Word) (l : Line) → session_line s a words ≡ Ok l
+pub session_shown : (s : Script) (a : SessionNo) (words : List Word) (l : SessionLine) → session_line s a words ≡ Ok l
     → Shown (session_line s a) (session_words s l) words l
 session_shown s a [] l is = absurd (cc)
 session_shown s a (w ∷ words) l is = by_call s a w words l (call_named s.version w) refl is is
@@ -351,13 +354,13 @@ probe_spelt version (w ∷ words) l is = table_spelt probe_words UnknownCall pro
     (hit_spelt (λ x y. probe.Hit x y) probe_words (λ x y. refl), (await_spelt, tt)) w words l is
 
 -- a line behind its actor
-pub body_shown : (s : Script) (a : Actor) (words : List Word) (b : Body) → actor_line s a words ≡ Ok b → Shown (actor_line s a) (body_words s b) words b
+pub body_shown : (s : Script) (a : Actor) (words : List Word) (b : LineBody) → actor_line s a words ≡ Ok b → Shown (actor_line s a) (body_words s b) words b
 body_shown s Display words b is =
     let m = mapped_ok body.Display (display_line s words) b is in
     shown_whole (actor_line s Display) (body_words s b) words b (ap (body_words s) (sym m.value) ∙ display_spelt s words m.a m.given) is
 body_shown s (Session a) words b is =
     let m = mapped_ok body.Session (session_line s a words) b is in
-    let P : Body → Type 0 = λ v. Shown (actor_line s (Session a)) (body_words s v) words v in
+    let P : LineBody → Type 0 = λ v. Shown (actor_line s (Session a)) (body_words s v) words v in
     subst P m.value (shown_mapped body.Session (session_line s a) (session_words s m.a) words m.a (session_shown s a words m.a m.given))
 body_shown s (Probe p) words b is =
     let m = mapped_ok body.Probe (probe_line s.version words) b is in

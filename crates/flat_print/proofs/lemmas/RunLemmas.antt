@@ -9,13 +9,13 @@ use Rattle.std.specs.List.{list_all}
 use Rattle.std.proofs.lemmas.Slice.Eq.{bytes_eq-Decides}
 use Rattle.flat_base.specs.declared.ids.Actor.{Actor}
 use Rattle.flat_base.specs.declared.ids.Actor.TheVariants.{Display, Session, Probe}
-use Rattle.flat_scene.specs.declared.script.Body.{Body}
+use Rattle.flat_scene.specs.declared.script.LineBody.{LineBody}
 use Rattle.flat_scene.specs.declared.script.ScriptLine.{ScriptLine}
 use Rattle.flat_text.specs.Pieces.{words_of, lines_of}
 use Rattle.flat_places.specs.declared.kinds.FaultKind.TheVariants.{TooLong, NotAscii, LongLine, BadHead, BadOrder, UnknownVersion}
 use Rattle.flat_places.specs.declared.script.Script.{Script}
 use Rattle.flat_script.specs.declared.script.ScriptFault.{ScriptFault}
-use Rattle.flat_forms.specs.declared.lines.Part.TheVariants as part
+use Rattle.flat_forms.specs.declared.lines.TextPart.TheVariants as part
 use Rattle.flat_places.specs.Forms.{Word, Reading, mapped, whole, give}
 use Rattle.flat_forms.specs.Head.{empty, has_display, with_version, first_line, head_line, run_line, is_ready}
 use Rattle.flat_places.specs.Places.{number_below, known_version, version}
@@ -122,12 +122,12 @@ lines_more us ms x y same e =
     }
 
 -- the canonical words of a line that was read: they are read alike, and stand at its front
-record Canonical (h : Script) (us ms : List ScriptLine) (n m : ℕ) (ws : List Word) (actor : Actor) (body : Body) : Type 0 where
+record Canonical (h : Script) (us ms : List ScriptLine) (n m : ℕ) (ws : List Word) (actor : Actor) (body : LineBody) : Type 0 where
   pub good : IsLine (line_words h (record { number = n; actor = actor; body = body }))
   pub fits : length (line_of (line_words h (record { number = n; actor = actor; body = body }))) ≤ length (line_of ws)
   pub read : body_line (with_lines h ms) m (line_words h (record { number = n; actor = actor; body = body })) ≡ Ok (with_line (with_lines h ms) m actor body)
 
-some_words : (s : Script) (a : Actor) (ws : List Word) (b : Body) → actor_line s a ws ≡ Ok b → (v : Word) × (more : List Word) × (ws ≡ v ∷ more)
+some_words : (s : Script) (a : Actor) (ws : List Word) (b : LineBody) → actor_line s a ws ≡ Ok b → (v : Word) × (more : List Word) × (ws ≡ v ∷ more)
 some_words s a (v ∷ more) b is = (v, more, refl)
 some_words s Display [] b is = absurd (cc)
 some_words s (Session t) [] b is = absurd (cc)

@@ -6,8 +6,8 @@ use Rattle.flat_base.specs.declared.ids.Actor.{Actor}
 use Rattle.flat_base.specs.declared.ids.Actor.TheVariants.{Display, Session, Probe}
 use Rattle.flat_scene.specs.declared.frames.Hit as point
 use Rattle.flat_scene.specs.declared.journal.Entry.{Entry}
-use Rattle.flat_scene.specs.declared.journal.Kind.{Kind}
-use Rattle.flat_scene.specs.declared.journal.Kind.TheVariants.{Hit}
+use Rattle.flat_scene.specs.declared.journal.EntryKind.{EntryKind}
+use Rattle.flat_scene.specs.declared.journal.EntryKind.TheVariants.{Hit}
 use Rattle.flat_scene.specs.declared.setup.Setup.{Setup}
 use Rattle.flat_scene.specs.History.{◌▹◌, is_display}
 use Rattle.flat_scene.specs.Journals.{history_of, seat_number}
@@ -35,7 +35,7 @@ pub record IsBeside (setup : Setup) (before after : List Entry) : Type 0 where
   pub publishing : published_frames setup after ≡ published_frames setup before
   pub answering : answers_of setup after ≡ answers_of setup before
 
-not_hit : (entry : Entry) (n : ℕ) (hits : ℤ → ℤ → List point.Hit) (kind : Kind) → session_may kind ≡ true → answer_to entry n hits kind ≡ []
+not_hit : (entry : Entry) (n : ℕ) (hits : ℤ → ℤ → List point.Hit) (kind : EntryKind) → session_may kind ≡ true → answer_to entry n hits kind ≡ []
 not_hit entry n hits (Hit x y) may = absurd (cc)
 not_hit entry n hits _ may = refl
 

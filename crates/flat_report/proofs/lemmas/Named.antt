@@ -7,7 +7,7 @@ use Rattle.std.proofs.lemmas.Bool.Decides.{nat_tests}
 use Rattle.flat_base.specs.declared.ids.Actor.{Actor}
 use Rattle.flat_base.specs.declared.ids.Actor.TheVariants.{Display, Session, Probe}
 use Rattle.flat_base.specs.declared.ids.SessionNo.{SessionNo}
-use Rattle.flat_scene.specs.declared.journal.Kind.{Kind}
+use Rattle.flat_scene.specs.declared.journal.EntryKind.{EntryKind}
 use Rattle.flat_scene.specs.Setups.{is_declared}
 use Rattle.flat_rules.specs.Legal.{may_act, session_may}
 use Rattle.flat_places.specs.declared.script.Script.{Script}
@@ -60,7 +60,7 @@ Acts script Display = Unit {0}
 Acts script (Session s) = is_declared script.setup s ≡ true
 Acts script (Probe p) = ⊥
 
-pub acts : (script : Script) (kind : Kind) (actor : Actor) → may_act script.setup kind actor ≡ true → Acts script actor
+pub acts : (script : Script) (kind : EntryKind) (actor : Actor) → may_act script.setup kind actor ≡ true → Acts script actor
 acts script kind Display may = tt
 acts script kind (Session s) may = (and_parts (session_may kind) (is_declared script.setup s) may).1
 acts script kind (Probe p) may = cc

@@ -8,11 +8,11 @@ use Rattle.flat_base.specs.declared.ids.Actor.TheVariants.{Display, Session, Pro
 use Rattle.flat_base.specs.declared.ids.SessionNo.{SessionNo}
 use Rattle.flat_scene.specs.declared.calls.Call.{Call}
 use Rattle.flat_scene.specs.declared.frames.Hit.{Hit}
-use Rattle.flat_scene.specs.declared.frames.Lost.{Lost}
+use Rattle.flat_scene.specs.declared.frames.LostDisplay.{LostDisplay}
 use Rattle.flat_scene.specs.declared.journal.Entry.{Entry}
 use Rattle.flat_scene.specs.declared.journal.Event.{Event}
-use Rattle.flat_scene.specs.declared.journal.Kind.{Kind}
-use Rattle.flat_scene.specs.declared.journal.Kind.TheVariants as kind
+use Rattle.flat_scene.specs.declared.journal.EntryKind.{EntryKind}
+use Rattle.flat_scene.specs.declared.journal.EntryKind.TheVariants as kind
 use Rattle.flat_scene.specs.declared.journal.Reply.{Reply}
 use Rattle.flat_scene.specs.declared.journal.Reply.TheVariants as reply
 use Rattle.flat_rules.specs.Legal.{LegalEntry, may_act, display_may, reply_to, asked_of, value_of}
@@ -27,24 +27,24 @@ use Rattle.flat_report.proofs.lemmas.Sheets.{laid, line_on, told, told-next, is_
 -- ---- what stands behind the actor
 
 -- the first word behind an actor, and those behind it
-abbrev first_said : ℕ → Kind → Word
+abbrev first_said : ℕ → EntryKind → Word
 first_said line (kind.End refused) = codes "end"
 first_said line _ = number line
 
-abbrev then_said : Script → ℕ → (ℤ → ℤ → List Hit) → Kind → Reply → List Word
+abbrev then_said : Script → ℕ → (ℤ → ℤ → List Hit) → EntryKind → Reply → List Word
 then_said script frames hits (kind.End refused) answer = number refused ∷ []
 then_said script frames hits made answer = answer_words script frames hits made answer
 
-said-is : (script : Script) (frames : ℕ) (hits : ℤ → ℤ → List Hit) (line : ℕ) (made : Kind) (answer : Reply)
+said-is : (script : Script) (frames : ℕ) (hits : ℤ → ℤ → List Hit) (line : ℕ) (made : EntryKind) (answer : Reply)
     → said_words script frames hits line made answer ≡ first_said line made ∷ then_said script frames hits made answer
 said-is script frames hits line (kind.End refused) answer = refl
 said-is script frames hits line _ answer = refl
 
-first-word : (line : ℕ) (made : Kind) → is_word (first_said line made) ≡ true
+first-word : (line : ℕ) (made : EntryKind) → is_word (first_said line made) ≡ true
 first-word line (kind.End refused) = refl
 first-word line _ = number-word line
 
-not-ends : (line : ℕ) (made : Kind) → codes "ends" ≡ first_said line made → ⊥
+not-ends : (line : ℕ) (made : EntryKind) → codes "ends" ≡ first_said line made → ⊥
 not-ends line (kind.End refused) is = cc
 not-ends line _ is = no_number is
   where
@@ -58,9 +58,9 @@ NoEntry script text = (frames : ℕ) (hits : ℤ → ℤ → List Hit) (entry : 
     → text ≡ line_on (entry_line script frames hits entry) rest → ⊥
 
 abbrev pub NoLoss : List ℕ → Type 0
-NoLoss text = (one : Lost) (rest : List ℕ) → text ≡ line_on (lost_line one) rest → ⊥
+NoLoss text = (one : LostDisplay) (rest : List ℕ) → text ≡ line_on (lost_line one) rest → ⊥
 
-abbrev pub lost_words : Lost → List Word
+abbrev pub lost_words : LostDisplay → List Word
 lost_words one = codes "at" ∷ codes "frame" ∷ number one.frame.0 ∷ []
 
 -- the first letters of one text, and the second ones
@@ -74,7 +74,7 @@ differ : (a b : ℕ) → (a == b) ≡ false → a ≡ b → ⊥
 differ a b unlike is = grind (arith, nat_tests)
 
 -- the display says nothing of a lost one in its entries
-no-lost-said : (script : Script) (frames : ℕ) (hits : ℤ → ℤ → List Hit) (before : List Entry) (carries : List Call) (made : Kind) (answer : Reply)
+no-lost-said : (script : Script) (frames : ℕ) (hits : ℤ → ℤ → List Hit) (before : List Entry) (carries : List Call) (made : EntryKind) (answer : Reply)
     (ws : List Word) (rest rest' : List ℕ)
     → display_may made ≡ true → answer ≡ reply_to script.setup before Display carries made
     → laid (answer_words script frames hits made answer) rest ≡ laid (codes "lost" ∷ ws) rest' → ⊥
@@ -103,7 +103,7 @@ no-lost-said script frames hits before carries (kind.Wait c) answer ws rest rest
     by_test false v has = let wrong : laid (codes "Wait" ∷ codes "unmet" ∷ number v ∷ []) rest ≡ laid (codes "lost" ∷ ws) rest' =
         ap (λ (r : Reply). laid (answer_words script frames hits (kind.Wait c) r) rest) (sym has) ∙ is in differ 87 108 refl (second wrong)
 
-display-said : (script : Script) (frames : ℕ) (hits : ℤ → ℤ → List Hit) (line : ℕ) (made : Kind) (answer : Reply) → display_may made ≡ true
+display-said : (script : Script) (frames : ℕ) (hits : ℤ → ℤ → List Hit) (line : ℕ) (made : EntryKind) (answer : Reply) → display_may made ≡ true
     → said_words script frames hits line made answer ≡ number line ∷ answer_words script frames hits made answer
 display-said script frames hits line (kind.End refused) answer may = absurd (cc)
 display-said script frames hits line _ answer may = refl
@@ -111,7 +111,8 @@ display-said script frames hits line _ answer may = refl
 -- ---- the lines of entries
 
 module _ (script : Script) (named : IsNamed script) where
-  entry-no-loss-by : (before : List Entry) (entry : Entry) (frames : ℕ) (hits : ℤ → ℤ → List Hit) (rest : List ℕ) (one : Lost) (rest' : List ℕ) (actor : Actor)
+  entry-no-loss-by : (before : List Entry) (entry : Entry) (frames : ℕ) (hits : ℤ → ℤ → List Hit) (rest : List ℕ) (one : LostDisplay) (rest' : List ℕ)
+      (actor : Actor)
       → may_act script.setup entry.kind actor ≡ true
       → entry.reply ≡ reply_to script.setup before actor entry.calls entry.kind
       → actor_name script actor ++ laid (said_words script frames hits entry.line entry.kind entry.reply) rest ≡ codes "display"

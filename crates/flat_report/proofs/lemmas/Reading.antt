@@ -8,13 +8,13 @@ use Rattle.std.proofs.lemmas.List.Folds.{list_all-append}
 use Rattle.std.proofs.lemmas.Slice.Eq.{bytes_eq-Decides}
 use Rattle.flat_base.specs.declared.ids.Actor.{Actor}
 use Rattle.flat_base.specs.declared.ids.Actor.TheVariants.{Display, Session, Probe}
-use Rattle.flat_scene.specs.declared.script.Body.{Body}
-use Rattle.flat_scene.specs.declared.script.Body.TheVariants as body
+use Rattle.flat_scene.specs.declared.script.LineBody.{LineBody}
+use Rattle.flat_scene.specs.declared.script.LineBody.TheVariants as body
 use Rattle.flat_scene.specs.declared.script.ScriptLine.{ScriptLine}
 use Rattle.flat_places.specs.declared.kinds.FaultKind.TheVariants.{TooLong, NotAscii, LongLine, BadOrder}
 use Rattle.flat_places.specs.declared.script.Script.{Script}
 use Rattle.flat_script.specs.declared.script.ScriptFault.{ScriptFault}
-use Rattle.flat_forms.specs.declared.lines.Part.TheVariants as part
+use Rattle.flat_forms.specs.declared.lines.TextPart.TheVariants as part
 use Rattle.flat_forms.specs.Body.{actor_line, body_line, probe_line, is_open}
 use Rattle.flat_places.specs.Forms.{Word, Reading, mapped}
 use Rattle.flat_forms.specs.Lines.{Sofar, words_read}
@@ -176,7 +176,7 @@ head-kept n u ws t step kept =
       few = (let same : length t.lines ≡ length u.lines = ap (λ (ls : List ScriptLine). length ls) lines in omega (arith, few, same));
     }
 
-probe-spoken : (s : Script) (actor : Actor) (rest : List Word) (text : Body) → actor_line s actor rest ≡ Ok text → is_asking actor text ≡ true
+probe-spoken : (s : Script) (actor : Actor) (rest : List Word) (text : LineBody) → actor_line s actor rest ≡ Ok text → is_asking actor text ≡ true
 probe-spoken s (Probe p) rest text is = let m = mapped_ok body.Probe (probe_line s.version rest) text is in ap (is_asking (Probe p)) (sym m.value)
 probe-spoken s Display rest text is = refl
 probe-spoken s (Session a) rest text is = refl

@@ -10,8 +10,8 @@ use Rattle.std.proofs.lemmas.List.Folds.{list_all-append}
 use Rattle.flat_base.specs.declared.ids.Actor.{Actor}
 use Rattle.flat_base.specs.declared.ids.Actor.TheVariants.{Display, Session, Probe}
 use Rattle.flat_scene.specs.declared.journal.Entry.{Entry}
-use Rattle.flat_scene.specs.declared.script.Body.{Body}
-use Rattle.flat_scene.specs.declared.script.Body.TheVariants as body
+use Rattle.flat_scene.specs.declared.script.LineBody.{LineBody}
+use Rattle.flat_scene.specs.declared.script.LineBody.TheVariants as body
 use Rattle.flat_scene.specs.declared.script.ProbeLine.TheVariants as probe
 use Rattle.flat_scene.specs.declared.script.ScriptLine.{ScriptLine}
 use Rattle.flat_places.specs.declared.script.Script.{Script}
@@ -42,7 +42,7 @@ of-one most n (line ∷ lines) below spoken =
     let parts = and_parts (is_asking line.actor line.body) (list_all (λ (line : ScriptLine). is_asking line.actor line.body) lines) spoken in
     by_test (is_probe n line.actor) refl parts.0 (of-one most n lines below parts.1)
   where
-    of_it : (actor : Actor) (text : Body) (number : ℕ) → is_probe n actor ≡ true → is_asking actor text ≡ true
+    of_it : (actor : Actor) (text : LineBody) (number : ℕ) → is_probe n actor ≡ true → is_asking actor text ≡ true
         → is_of_probe most (record { number = number; actor = actor; body = text }) ≡ true
     of_it (Probe p) text number is says = let less : nat_lt p most ≡ true = grind (arith, nat_tests) in rw (less, says) refl
     of_it Display text number is says = absurd (cc)
@@ -66,7 +66,7 @@ probe-lines-are script spoken = of-all script.setup.probes 0 script.setup.probes
 
 -- ---- one line
 
-frame-said : (script : Script) (history : List Entry) (f f' : ℕ) (actor : Actor) (text : Body) (a a' : List ℕ) → f < 2 ^ 64 → f' < 2 ^ 64
+frame-said : (script : Script) (history : List Entry) (f f' : ℕ) (actor : Actor) (text : LineBody) (a a' : List ℕ) → f < 2 ^ 64 → f' < 2 ^ 64
     → is_asking actor text ≡ true → (p : ℕ) → actor ≡ Probe p
     → laid (seen_words script history f text) a ≡ laid (seen_words script history f' text) a' → f ≡ f'
 frame-said script history f f' actor (body.Probe (probe.Hit x y)) a a' low low' spoken p of_probe is =

@@ -7,11 +7,11 @@ use Rattle.std.proofs.lemmas.List.{take_more, reverse-append}
 use Rattle.std.proofs.lemmas.List.Sums.{take_while-cons}
 use Rattle.flat_scene.specs.declared.frames.FrameOut.{FrameOut}
 use Rattle.flat_scene.specs.declared.frames.Hit.{Hit}
-use Rattle.flat_scene.specs.declared.frames.Lost.{Lost}
+use Rattle.flat_scene.specs.declared.frames.LostDisplay.{LostDisplay}
 use Rattle.flat_scene.specs.declared.journal.Entry.{Entry}
-use Rattle.flat_scene.specs.declared.journal.Kind.{Kind}
-use Rattle.flat_scene.specs.declared.journal.Kind.TheVariants as kind
-use Rattle.flat_scene.specs.declared.journal.Post.{Post}
+use Rattle.flat_scene.specs.declared.journal.EntryKind.{EntryKind}
+use Rattle.flat_scene.specs.declared.journal.EntryKind.TheVariants as kind
+use Rattle.flat_scene.specs.declared.journal.PostedEvent.{PostedEvent}
 use Rattle.flat_scene.specs.declared.journal.Reply.{Reply}
 use Rattle.flat_scene.specs.declared.setup.Setup.{Setup}
 use Rattle.flat_scene.specs.History.{◌▹◌, is_finish}
@@ -68,7 +68,7 @@ grows all step more before (entry ∷ later) =
 
 -- ---- the three lists that are handed in
 
-abbrev pub post_step : Setup → List Entry → Entry → List Post
+abbrev pub post_step : Setup → List Entry → Entry → List PostedEvent
 post_step setup before entry = map (λ sent. record { entry = length before; session = sent.to; event = sent.event }) (posted setup before entry)
 
 abbrev pub frame_step : Setup → List Entry → Entry → List FrameOut
@@ -80,12 +80,12 @@ answer_step setup before entry = answer_to entry (frames before) (hits_at setup 
 -- ---- the events of an entry
 
 -- the first of some posts, if there is one, is of an entry after that place
-abbrev pub BeginsAfter : ℕ → List Post → Type 0
+abbrev pub BeginsAfter : ℕ → List PostedEvent → Type 0
 BeginsAfter place [] = Unit {0}
 BeginsAfter place (post ∷ later) = place < post.entry
 
-first_of_map : (n : ℕ) (sent : List Sent) (later : List Post) (place : ℕ) → place < n → BeginsAfter place later
-    → BeginsAfter place (map (λ (one : Sent). let p : Post = record { entry = n; session = one.to; event = one.event } in p) sent ++ later)
+first_of_map : (n : ℕ) (sent : List Sent) (later : List PostedEvent) (place : ℕ) → place < n → BeginsAfter place later
+    → BeginsAfter place (map (λ (one : Sent). let p : PostedEvent = record { entry = n; session = one.to; event = one.event } in p) sent ++ later)
 first_of_map n [] later place after begins = begins
 first_of_map n (one ∷ sent) later place after begins = after
 
@@ -95,22 +95,23 @@ begins-after setup place before (entry ∷ later) after =
     first_of_map (length before) (posted setup before entry) (tail (post_step setup) (before ▹ entry) later) place after
     (begins-after setup place (before ▹ entry) later (omega arith))
 
-none_taken : (place : ℕ) (later : List Post) → BeginsAfter place later → take_while (λ post. post.entry == place) later ≡ []
+none_taken : (place : ℕ) (later : List PostedEvent) → BeginsAfter place later → take_while (λ post. post.entry == place) later ≡ []
 none_taken place [] begins = refl
 none_taken place (post ∷ later) begins =
     let other : (post.entry == place) ≡ false = grind (arith, nat_tests) in
     take_while-cons (λ post. post.entry == place) post later ∙ rw other refl
 
-all_taken : (place : ℕ) (sent : List Sent) (later : List Post) → BeginsAfter place later
-    → take_while (λ post. post.entry == place) (map (λ (one : Sent). let p : Post = record { entry = place; session = one.to; event = one.event } in p) sent
+all_taken : (place : ℕ) (sent : List Sent) (later : List PostedEvent) → BeginsAfter place later
+    → take_while (λ post. post.entry == place) (map (λ (one : Sent). let p : PostedEvent = record { entry = place; session = one.to; event = one.event } in p)
+    sent
     ++ later)
-    ≡ map (λ (one : Sent). let p : Post = record { entry = place; session = one.to; event = one.event } in p) sent
+    ≡ map (λ (one : Sent). let p : PostedEvent = record { entry = place; session = one.to; event = one.event } in p) sent
 all_taken place [] later begins = none_taken place later begins
 all_taken place (one ∷ sent) later begins =
     let same : (place == place) ≡ true = grind (arith, nat_tests) in
-    let p : Post = record { entry = place; session = one.to; event = one.event } in
+    let p : PostedEvent = record { entry = place; session = one.to; event = one.event } in
     take_while-cons (λ post. post.entry == place) p (map
-    (λ (other : Sent). let q : Post = record { entry = place; session = other.to; event = other.event } in q) sent ++ later)
+    (λ (other : Sent). let q : PostedEvent = record { entry = place; session = other.to; event = other.event } in q) sent ++ later)
     ∙ rw same (ap (λ t. p ∷ t) (all_taken place sent later begins))
 
 -- the posts of the entry that is next are those that it adds
@@ -123,20 +124,20 @@ next_posts setup before entry later =
 -- ---- the lines of an entry
 
 -- only an entry that asks for a point says hits
-said : (script : Script) (n line : ℕ) (asked : Kind) (answer : Reply) (hits : ℤ → ℤ → List Hit) (some : List Hit)
+said : (script : Script) (n line : ℕ) (asked : EntryKind) (answer : Reply) (hits : ℤ → ℤ → List Hit) (some : List Hit)
     → ((x y : ℤ) → asked ≡ kind.Hit x y → some ≡ hits x y)
     → said_words script n (λ x y. some) line asked answer ≡ said_words script n hits line asked answer
 said script n line (kind.Hit x y) answer hits some same = ap (λ hs. number line ∷ point_words script x y n hs) (same x y refl)
 said script n line _ answer hits some same = refl
 
-first_hits_are : (entry : Entry) (n : ℕ) (hits : ℤ → ℤ → List Hit) (later : List HitAnswer) (x y : ℤ) (asked : Kind) → asked ≡ kind.Hit x y
+first_hits_are : (entry : Entry) (n : ℕ) (hits : ℤ → ℤ → List Hit) (later : List HitAnswer) (x y : ℤ) (asked : EntryKind) → asked ≡ kind.Hit x y
     → first_hits (answer_to entry n hits asked ++ later) ≡ hits x y
 first_hits_are entry n hits later x y asked is = rw is refl
 
 pub text-append : (xs ys : List (List Word)) → text_of (xs ++ ys) ≡ text_of xs ++ text_of ys
 text-append xs ys = flat_map-append (λ words. line_of words ++ 10 ∷ []) xs ys
 
-shown_is : (script : Script) (lost : List Lost) (before : List Entry) (later : List FrameOut) (b : Bool)
+shown_is : (script : Script) (lost : List LostDisplay) (before : List Entry) (later : List FrameOut) (b : Bool)
     → cond b (shown_text lost (frames before + 1) (map (frame_text script)
     (cond b (frame_at script.setup (suc (frames before)) (to_begin before) ∷ []) [] ++ later))) [] ≡ text_of (cond b (shown_lines script lost before) [])
 shown_is script lost before later true =
@@ -146,13 +147,14 @@ shown_is script lost before later true =
 shown_is script lost before later false = refl
 
 posts_are : (script : Script) (n : ℕ) (sent : List Sent)
-    → map (post_line script) (map (λ (one : Sent). let p : Post = record { entry = n; session = one.to; event = one.event } in p) sent)
+    → map (post_line script) (map (λ (one : Sent). let p : PostedEvent = record { entry = n; session = one.to; event = one.event } in p) sent)
     ≡ map (λ one. event_line script one.to one.event) sent
 posts_are script n [] = refl
 posts_are script n (one ∷ sent) = ap (λ t. event_line script one.to one.event ∷ t) (posts_are script n sent)
 
 -- what is written of the next entry by what is handed in from it on is the text of its lines
-pub next_text : (script : Script) (lost : List Lost) (before : List Entry) (entry : Entry) (later_frames : List FrameOut) (later_answers : List HitAnswer)
+pub next_text : (script : Script) (lost : List LostDisplay) (before : List Entry) (entry : Entry) (later_frames : List FrameOut)
+    (later_answers : List HitAnswer)
     → handed_text script lost (frames before) (map (frame_text script) (frame_step script.setup before entry ++ later_frames))
     (answer_step script.setup before entry ++ later_answers) (post_step script.setup before entry) entry
     ≡ text_of (entry_lines script lost before entry)
@@ -190,7 +192,7 @@ later_texts script before entry later =
     texts_left script (is_finish entry.kind) (frame_at script.setup (suc (frames before)) (to_begin before))
     (tail (frame_step script.setup) (before ▹ entry) later)
 
-answers_left : (entry : Entry) (n : ℕ) (hits : ℤ → ℤ → List Hit) (later : List HitAnswer) (asked : Kind)
+answers_left : (entry : Entry) (n : ℕ) (hits : ℤ → ℤ → List Hit) (later : List HitAnswer) (asked : EntryKind)
     → answers_after asked (answer_to entry n hits asked ++ later) ≡ later
 answers_left entry n hits later (kind.Hit x y) = refl
 answers_left entry n hits later _ = refl

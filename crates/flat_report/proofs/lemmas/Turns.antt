@@ -6,7 +6,7 @@ use Rattle.flat_base.specs.declared.ids.Actor.{Actor}
 use Rattle.flat_base.specs.declared.ids.Actor.TheVariants.{Display, Session, Probe}
 use Rattle.flat_base.specs.declared.ids.SessionNo.{SessionNo}
 use Rattle.flat_scene.specs.declared.journal.Entry.{Entry}
-use Rattle.flat_scene.specs.declared.journal.Kind.{Kind}
+use Rattle.flat_scene.specs.declared.journal.EntryKind.{EntryKind}
 use Rattle.flat_scene.specs.declared.script.ScriptLine.{ScriptLine}
 use Rattle.flat_scene.specs.declared.script.DisplayLine.{DisplayLine}
 use Rattle.flat_scene.specs.declared.setup.Setup.{Setup}
@@ -82,7 +82,7 @@ module _ (setup : Setup) (count : ℕ) (lines : List ScriptLine) where
   display-next before e is follows = (subst (λ (a : Actor). FollowsDisplay (display_lines lines)
       (cond (is_display a) (by_display before ▹ e) (by_display before))) is follows).1
 
-  pub no-probe : (kind : Kind) (p : ℕ) → may_act setup kind (Probe p) ≡ true → ⊥
+  pub no-probe : (kind : EntryKind) (p : ℕ) → may_act setup kind (Probe p) ≡ true → ⊥
   no-probe kind p acts = cc
 
   -- who acts is the display or a declared session

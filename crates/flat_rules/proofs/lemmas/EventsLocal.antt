@@ -10,7 +10,7 @@ use Rattle.flat_scene.specs.declared.calls.Watch.{Watch}
 use Rattle.flat_scene.specs.declared.journal.Entry.{Entry}
 use Rattle.flat_scene.specs.declared.journal.Event.{Event}
 use Rattle.flat_scene.specs.declared.journal.Event.TheVariants as event
-use Rattle.flat_scene.specs.declared.journal.Told.{Told}
+use Rattle.flat_scene.specs.declared.journal.WatcherValue.{WatcherValue}
 use Rattle.flat_scene.specs.declared.setup.PairDecl.{PairDecl}
 use Rattle.flat_scene.specs.declared.setup.Setup.{Setup}
 use Rattle.flat_rules.specs.Ends.{pairs_where, views_of, viewports_of, to_begin, view_owner, viewport_owner, viewport_uses}
@@ -69,7 +69,7 @@ where-all test o all has number (pair ∷ pairs) at =
 
 -- ---- a watcher at rest has no answer
 
-pub rest-none : (p : PairNo) (a : Option Told) (w : Watching) → answered_by a w ≡ w → event_of p w.waits a ≡ []
+pub rest-none : (p : PairNo) (a : Option WatcherValue) (w : Watching) → answered_by a w ≡ w → event_of p w.waits a ≡ []
 rest-none p None w is = by_waits w.waits
   where
     by_waits : (o : Option Watch) → event_of p o None ≡ []

@@ -7,11 +7,11 @@ use Rattle.flat_scene.specs.declared.calls.Call.TheVariants as call
 use Rattle.flat_scene.specs.declared.calls.Watch.TheVariants as watch
 use Rattle.flat_scene.specs.declared.journal.Entry.{Entry}
 use Rattle.flat_scene.specs.declared.journal.Event.TheVariants as event
-use Rattle.flat_scene.specs.declared.journal.Kind.TheVariants as kind
+use Rattle.flat_scene.specs.declared.journal.EntryKind.TheVariants as kind
 use Rattle.flat_scene.specs.declared.journal.Reply.TheVariants as reply
-use Rattle.flat_scene.specs.declared.journal.Told.TheVariants as tell
+use Rattle.flat_scene.specs.declared.journal.WatcherValue.TheVariants as tell
 use Rattle.flat_scene.specs.declared.script.DisplayLine.TheVariants as display
-use Rattle.flat_scene.specs.declared.script.Line.TheVariants as line
+use Rattle.flat_scene.specs.declared.script.SessionLine.TheVariants as line
 use Rattle.flat_scene.specs.declared.script.ScriptLine.{ScriptLine}
 use Rattle.flat_scene.specs.declared.setup.Setup.{Setup}
 use Rattle.flat_scene.specs.History.{◌▹◌}

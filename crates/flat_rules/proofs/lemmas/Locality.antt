@@ -11,8 +11,8 @@ use Rattle.flat_base.specs.declared.ids.Actor.TheVariants.{Display, Session, Pro
 use Rattle.flat_base.specs.declared.ids.SessionNo.{SessionNo}
 use Rattle.flat_base.specs.declared.ids.FenceNo.{FenceNo}
 use Rattle.flat_scene.specs.declared.journal.Entry.{Entry}
-use Rattle.flat_scene.specs.declared.journal.Kind.{Kind}
-use Rattle.flat_scene.specs.declared.journal.Kind.TheVariants.{Present, Signal, Begin, Finish}
+use Rattle.flat_scene.specs.declared.journal.EntryKind.{EntryKind}
+use Rattle.flat_scene.specs.declared.journal.EntryKind.TheVariants.{Present, Signal, Begin, Finish}
 use Rattle.flat_scene.specs.declared.journal.Reply.{Reply}
 use Rattle.flat_scene.specs.declared.journal.Reply.TheVariants.{Presented}
 use Rattle.flat_scene.specs.declared.calls.Call.{Call}
@@ -45,7 +45,7 @@ same-session s t is = ap (λ (n : ℕ). let u : SessionNo = record { 0 = n } in 
 pub same-number : (n : ℕ) → (n == n) ≡ true
 same-number n = grind (arith, common_steps)
 
-pub kept-by : (of_family : SessionNo → Bool) (kind : Kind) (s : SessionNo) (actor : Actor) → is_session s actor ≡ true
+pub kept-by : (of_family : SessionNo → Bool) (kind : EntryKind) (s : SessionNo) (actor : Actor) → is_session s actor ≡ true
     → keeps of_family kind actor ≡ of_family s
 kept-by of_family kind s (Session t) is = ap of_family (same-session s t is)
 kept-by of_family kind s Display is = cc
@@ -77,18 +77,18 @@ pub ready-same : (time : ℕ) (o f g : FenceNo → Bool) → ((x : FenceNo) → 
     → ready_prefix time f xs ≡ ready_prefix time g xs
 ready-same time o f g same xs all = ap (up_to_first is_unsquashable) (run-same time o f g same xs all)
 
-pub takes-same : (kind : Kind) (o f g : FenceNo → Bool) → ((x : FenceNo) → o x ≡ true → f x ≡ g x) → (is_shut : Bool) (xs : List Published)
+pub takes-same : (kind : EntryKind) (o f g : FenceNo → Bool) → ((x : FenceNo) → o x ≡ true → f x ≡ g x) → (is_shut : Bool) (xs : List Published)
     → list_all (owns_fences_of o) xs ≡ true → takes kind f is_shut xs ≡ takes kind g is_shut xs
 takes-same (Begin time) o f g same is_shut xs all = ap (cond is_shut []) (ready-same time o f g same xs all)
 takes-same _ o f g same is_shut xs all = refl
 
-pub goes-same : (kind : Kind) (o f g : FenceNo → Bool) → ((x : FenceNo) → o x ≡ true → f x ≡ g x) → (is_shut : Bool) (xs gone gone' : List Published)
+pub goes-same : (kind : EntryKind) (o f g : FenceNo → Bool) → ((x : FenceNo) → o x ≡ true → f x ≡ g x) → (is_shut : Bool) (xs gone gone' : List Published)
     → list_all (owns_fences_of o) xs ≡ true → gone ≡ gone' → lets_go kind f is_shut xs gone ≡ lets_go kind g is_shut xs gone'
 goes-same (Begin time) o f g same is_shut xs gone gone' all stays = ap (cond is_shut xs) (ready-same time o f g same xs all)
 goes-same _ o f g same is_shut xs gone gone' all stays = stays
 
 -- where nothing waits nothing goes
-pub goes-none : (kind : Kind) (f : FenceNo → Bool) (is_shut : Bool) → lets_go kind f is_shut [] [] ≡ []
+pub goes-none : (kind : EntryKind) (f : FenceNo → Bool) (is_shut : Bool) → lets_go kind f is_shut [] [] ≡ []
 goes-none (Begin time) f true = refl
 goes-none (Begin time) f false = refl
 goes-none _ f is_shut = refl
@@ -113,7 +113,8 @@ all-up-to p ends (x ∷ xs) all =
 pub all-ready : (p : Published → Bool) (time : ℕ) (f : FenceNo → Bool) (xs : List Published) → list_all p xs ≡ true → list_all p (ready_prefix time f xs) ≡ true
 all-ready p time f xs all = all-up-to p is_unsquashable (ready_run time f xs) (all-run p time f xs all)
 
-pub all-let-go : (p : Published → Bool) (kind : Kind) (f : FenceNo → Bool) (b : Bool) (xs gone : List Published) → list_all p xs ≡ true → list_all p gone ≡ true
+pub all-let-go : (p : Published → Bool) (kind : EntryKind) (f : FenceNo → Bool) (b : Bool) (xs gone : List Published) → list_all p xs ≡ true
+    → list_all p gone ≡ true
     → list_all p (lets_go kind f b xs gone) ≡ true
 all-let-go p (Begin time) f true xs gone all stays = all
 all-let-go p (Begin time) f false xs gone all stays = all-ready p time f xs all
@@ -138,7 +139,7 @@ not-released o (x ∷ xs) f all none =
     grind arith
 
 -- what signals a fence goes by what releases it
-pub signals-same : (sessions : List SessionNo) (kind : Kind) (g h : SessionNo → List Published) (f : FenceNo)
+pub signals-same : (sessions : List SessionNo) (kind : EntryKind) (g h : SessionNo → List Published) (f : FenceNo)
     → ((s : SessionNo) → is_released_by (g s) f ≡ is_released_by (h s) f)
     → signals sessions kind g f ≡ signals sessions kind h f
 signals-same sessions Finish g h f same = any-same (λ s. is_released_by (g s) f) (λ s. is_released_by (h s) f) same sessions
@@ -159,12 +160,12 @@ module _ (setup : Setup) (of_family : SessionNo → Bool) where
   own-others s other = own-dropped s (is_kept of_family) (dropped-own s other)
 
 -- the presents of a session acquire and release only fences that it owns
-pub published-owned : (setup : Setup) (s : SessionNo) (kind : Kind) (reply : Reply) (made : List Call) → owns_in_kind setup s kind ≡ true
+pub published-owned : (setup : Setup) (s : SessionNo) (kind : EntryKind) (reply : Reply) (made : List Call) → owns_in_kind setup s kind ≡ true
     → list_all (owns_fences_of (owns_fence setup s)) (published kind reply made) ≡ true
 published-owned setup s (Present args) (Presented number credits) made owned = grind arith
 published-owned setup s _ _ made owned = refl
 
-pub owned-by : (setup : Setup) (s : SessionNo) (carries : List Call) (kind : Kind) (actor : Actor) → is_session s actor ≡ true
+pub owned-by : (setup : Setup) (s : SessionNo) (carries : List Call) (kind : EntryKind) (actor : Actor) → is_session s actor ≡ true
     → owns_all setup actor carries kind ≡ true → owns_in_kind setup s kind ≡ true
 owned-by setup s carries kind (Session t) is owns = subst (λ (u : SessionNo). owns_in_kind setup u kind ≡ true) (same-session s t is) (grind arith)
 owned-by setup s carries kind Display is owns = cc
@@ -218,7 +219,7 @@ module _ (setup : Setup) (of_family : SessionNo → Bool) (closed : IsClosedFami
       let too : of_family t ≡ true = closed.grows of_it.s t of_it.mine linked in cc)
 
   -- An entry that isn't kept changes nothing for the family's fences.
-  pub quiet : (kind : Kind) (actor : Actor) (f : FenceNo) (g : SessionNo → List Published) → IsOfFamily f → keeps of_family kind actor ≡ false
+  pub quiet : (kind : EntryKind) (actor : Actor) (f : FenceNo) (g : SessionNo → List Published) → IsOfFamily f → keeps of_family kind actor ≡ false
       → may_act setup kind actor ≡ true → ((t : SessionNo) → is_session t actor ≡ true → owns_in_kind setup t kind ≡ true)
       → signals (sessions_to setup.sessions) kind g f ≡ false
   quiet (Begin time) Display f g of_it out acts owns = cc
@@ -237,14 +238,14 @@ module _ (setup : Setup) (of_family : SessionNo → Bool) (closed : IsClosedFami
       cc)
   quiet _ actor f g of_it out acts owns = refl
 
-  pub quiet-takes : (kind : Kind) (actor : Actor) (f : FenceNo → Bool) (is_shut : Bool) (xs : List Published) → keeps of_family kind actor ≡ false
+  pub quiet-takes : (kind : EntryKind) (actor : Actor) (f : FenceNo → Bool) (is_shut : Bool) (xs : List Published) → keeps of_family kind actor ≡ false
       → may_act setup kind actor ≡ true → takes kind f is_shut xs ≡ []
   quiet-takes (Begin time) Display f is_shut xs out acts = cc
   quiet-takes (Begin time) (Session t) f is_shut xs out acts = cc
   quiet-takes (Begin time) (Probe p) f is_shut xs out acts = cc
   quiet-takes _ actor f is_shut xs out acts = refl
 
-  pub quiet-goes : (kind : Kind) (actor : Actor) (f : FenceNo → Bool) (is_shut : Bool) (xs gone : List Published) → keeps of_family kind actor ≡ false
+  pub quiet-goes : (kind : EntryKind) (actor : Actor) (f : FenceNo → Bool) (is_shut : Bool) (xs gone : List Published) → keeps of_family kind actor ≡ false
       → may_act setup kind actor ≡ true → lets_go kind f is_shut xs gone ≡ gone
   quiet-goes (Begin time) Display f is_shut xs gone out acts = cc
   quiet-goes (Begin time) (Session t) f is_shut xs gone out acts = cc

@@ -7,8 +7,8 @@ use Rattle.flat_base.specs.declared.ids.FenceNo.{FenceNo}
 use Rattle.flat_base.specs.declared.ids.SessionNo.{SessionNo}
 use Rattle.flat_scene.specs.declared.calls.Call.{Call}
 use Rattle.flat_scene.specs.declared.journal.Entry.{Entry}
-use Rattle.flat_scene.specs.declared.journal.Kind.{Kind}
-use Rattle.flat_scene.specs.declared.journal.Kind.TheVariants.{Begin}
+use Rattle.flat_scene.specs.declared.journal.EntryKind.{EntryKind}
+use Rattle.flat_scene.specs.declared.journal.EntryKind.TheVariants.{Begin}
 use Rattle.flat_scene.specs.declared.setup.Setup.{Setup}
 use Rattle.flat_scene.specs.History.{◌▹◌, own, is_begin, is_finish, is_closed, is_session, presents, published, published_all, closes, carried, Published}
 use Rattle.flat_scene.specs.Frames.{taken, takes, lets_go, going, waiting, is_signalled}
@@ -33,14 +33,16 @@ pub presents-quiet : (h : List Entry) (e : Entry) (s : SessionNo) → ((made : L
     → presents s (h ▹ e) ≡ presents s h
 presents-quiet h e s none = publish-skip (is_session s e.actor) e (own s h) none
 
-pub takes-none : (kind : Kind) (signalled : FenceNo → Bool) (closed : Bool) (w : List Published) → is_begin kind ≡ false → takes kind signalled closed w ≡ []
+pub takes-none : (kind : EntryKind) (signalled : FenceNo → Bool) (closed : Bool) (w : List Published) → is_begin kind ≡ false
+    → takes kind signalled closed w ≡ []
 takes-none (Begin time) signalled closed w no_begin = cc
 takes-none kind signalled closed w no_begin = refl
 
 pub taken-quiet : (setup : Setup) (h : List Entry) (e : Entry) (s : SessionNo) → is_begin e.kind ≡ false → taken setup (h ▹ e) s ≡ taken setup h s
 taken-quiet setup h e s no_begin = rw (takes-none e.kind (is_signalled setup h) (is_closed s h) (waiting setup h s) no_begin) (add-zero _)
 
-going-stays : (kind : Kind) (signalled : FenceNo → Bool) (closed : Bool) (w g : List Published) → is_begin kind ≡ false → lets_go kind signalled closed w g ≡ g
+going-stays : (kind : EntryKind) (signalled : FenceNo → Bool) (closed : Bool) (w g : List Published) → is_begin kind ≡ false
+    → lets_go kind signalled closed w g ≡ g
 going-stays (Begin time) signalled closed w g no_begin = cc
 going-stays kind signalled closed w g no_begin = refl
 

@@ -12,7 +12,7 @@ use Rattle.flat_base.specs.declared.ids.SessionNo.{SessionNo}
 use Rattle.flat_scene.specs.declared.journal.Entry.{Entry}
 use Rattle.flat_scene.specs.declared.journal.Event.{Event}
 use Rattle.flat_scene.specs.declared.journal.Event.TheVariants as event
-use Rattle.flat_scene.specs.declared.journal.Kind.{Kind}
+use Rattle.flat_scene.specs.declared.journal.EntryKind.{EntryKind}
 use Rattle.flat_scene.specs.declared.setup.Setup.{Setup}
 use Rattle.flat_scene.specs.Family.{only, is_kept, keeps}
 use Rattle.flat_scene.specs.Laws.{IsClosedFamily}
@@ -29,9 +29,9 @@ use Rattle.flat_rules.proofs.lemmas.Locality.{same-session, entry-owned}
 use Rattle.flat_rules.proofs.ToldLocal.{IsFamilyPair, no-frame, no-viewport}
 use Rattle.std.proofs.lemmas.Bool.{false_from_ne_true}
 use Rattle.flat_scene.specs.declared.calls.Watch.{Watch}
-use Rattle.flat_scene.specs.declared.journal.Told.{Told}
+use Rattle.flat_scene.specs.declared.journal.WatcherValue.{WatcherValue}
 
-pub no-told : (p q : PairNo) (get : Option Watch) (value : Option Told) → list_any (is_token_back p) (event_of q get value) ≡ false
+pub no-told : (p q : PairNo) (get : Option Watch) (value : Option WatcherValue) → list_any (is_token_back p) (event_of q get value) ≡ false
 no-told p q None value = refl
 no-told p q (Some get) None = refl
 no-told p q (Some get) (Some value) = refl
@@ -271,7 +271,7 @@ module _ (setup : Setup) (of_family : SessionNo → Bool) (closed : IsClosedFami
       (events-dropped setup of_family closed before e legal out s mine)
 
   -- a dropped entry is none of the family's
-  not-its : (s : SessionNo) → of_family s ≡ true → (kind : Kind) (actor : Actor) → keeps of_family kind actor ≡ false → is_session s actor ≡ false
+  not-its : (s : SessionNo) → of_family s ≡ true → (kind : EntryKind) (actor : Actor) → keeps of_family kind actor ≡ false → is_session s actor ≡ false
   not-its s mine kind Display out = refl
   not-its s mine kind (Probe p) out = refl
   not-its s mine kind (Session t) out = false_from_ne_true (t.0 == s.0) (λ is. let same : of_family t ≡ of_family s = ap of_family (same-session s t is) in cc)

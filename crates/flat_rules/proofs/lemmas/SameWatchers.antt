@@ -2,7 +2,7 @@
 use Rattle.std.proofs.Common.{◌≡◌, ◌∙◌, ℕ, Bool, true, false, refl, arith, ap, None}
 use Rattle.std.specs.Prelude.{Option}
 use Rattle.std.proofs.lemmas.Bool.Decides.{nat_tests}
-use Rattle.flat_scene.specs.declared.journal.Told.{Told}
+use Rattle.flat_scene.specs.declared.journal.WatcherValue.{WatcherValue}
 use Rattle.flat_watch.specs.Told.{settled}
 use Rattle.flat_rules.specs.Watch.{Watcher, layout_of, status_of, child_of, same_watcher}
 
@@ -31,6 +31,7 @@ same-sym (status_of p) (child_of q n) = refl
 same-sym (child_of p m) (layout_of q) = refl
 same-sym (child_of p m) (status_of q) = refl
 
-pub nothing-settled : (listens : Bool) (now : Option Told) → settled listens now (record { last = None; waits = None }) ≡ record { last = None; waits = None }
+pub nothing-settled : (listens : Bool) (now : Option WatcherValue) → settled listens now (record { last = None; waits = None })
+    ≡ record { last = None; waits = None }
 nothing-settled true now = refl
 nothing-settled false now = refl

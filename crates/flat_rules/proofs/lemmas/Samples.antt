@@ -12,13 +12,13 @@ use Rattle.flat_scene.specs.declared.calls.Call.{Call}
 use Rattle.flat_scene.specs.declared.calls.PresentArgs.{PresentArgs}
 use Rattle.flat_scene.specs.declared.journal.Entry.{Entry}
 use Rattle.flat_scene.specs.declared.journal.Event.{Event}
-use Rattle.flat_scene.specs.declared.journal.Kind.{Kind}
+use Rattle.flat_scene.specs.declared.journal.EntryKind.{EntryKind}
 use Rattle.flat_scene.specs.declared.journal.Layout.{Layout}
-use Rattle.flat_scene.specs.declared.journal.Post.{Post}
+use Rattle.flat_scene.specs.declared.journal.PostedEvent.{PostedEvent}
 use Rattle.flat_scene.specs.declared.journal.Reply.{Reply}
-use Rattle.flat_scene.specs.declared.script.Body.TheVariants as body
+use Rattle.flat_scene.specs.declared.script.LineBody.TheVariants as body
 use Rattle.flat_scene.specs.declared.script.DisplayLine.{DisplayLine}
-use Rattle.flat_scene.specs.declared.script.Line.{Line}
+use Rattle.flat_scene.specs.declared.script.SessionLine.{SessionLine}
 use Rattle.flat_scene.specs.declared.script.ScriptLine.{ScriptLine}
 
 abbrev pub s : ℕ → SessionNo
@@ -36,7 +36,7 @@ t n = record { 0 = n }
 abbrev pub c : ℕ → ContentId
 c n = record { 0 = n }
 
-abbrev pub by : Actor → ℕ → List Call → Kind → Reply → Entry
+abbrev pub by : Actor → ℕ → List Call → EntryKind → Reply → Entry
 by actor line calls kind reply = record { actor = actor; line = line; calls = calls; kind = kind; reply = reply }
 
 abbrev pub present : ℕ → List FenceNo → List FenceNo → PresentArgs
@@ -45,10 +45,10 @@ present time acquire release = record { time = time; acquire = acquire; release 
 abbrev pub layout : ℕ → ℕ → ℕ → ℕ → ℕ → ℕ → Layout
 layout w h top right bottom left = record { w = w; h = h; inset = record { top = top; right = right; bottom = bottom; left = left }; ratio = ONE }
 
-abbrev pub post : ℕ → ℕ → Event → Post
+abbrev pub post : ℕ → ℕ → Event → PostedEvent
 post entry session event = record { entry = entry; session = s session; event = event }
 
-abbrev pub session_line : ℕ → ℕ → Line → ScriptLine
+abbrev pub session_line : ℕ → ℕ → SessionLine → ScriptLine
 session_line number session line = record { number = number; actor = Session (s session); body = body.Session line }
 
 abbrev pub display_line : ℕ → DisplayLine → ScriptLine

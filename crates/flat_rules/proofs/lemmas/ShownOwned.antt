@@ -10,8 +10,8 @@ use Rattle.flat_base.specs.declared.errors.Reason.{Reason}
 use Rattle.flat_base.specs.declared.ids.SessionNo.{SessionNo}
 use Rattle.flat_scene.specs.declared.calls.Call.{Call}
 use Rattle.flat_scene.specs.declared.journal.Entry.{Entry}
-use Rattle.flat_scene.specs.declared.journal.Kind.{Kind}
-use Rattle.flat_scene.specs.declared.journal.Kind.TheVariants.{Present}
+use Rattle.flat_scene.specs.declared.journal.EntryKind.{EntryKind}
+use Rattle.flat_scene.specs.declared.journal.EntryKind.TheVariants.{Present}
 use Rattle.flat_scene.specs.declared.journal.Reply.{Reply}
 use Rattle.flat_scene.specs.declared.journal.Reply.TheVariants.{Presented}
 use Rattle.flat_scene.specs.declared.setup.PairDecl.{PairDecl}
@@ -55,7 +55,8 @@ joined-back (pair ∷ pairs) zero s c over under = grind arith
 joined-back (pair ∷ pairs) (suc n) s c over under = grind (arith, joined-back pairs n s c)
 
 module _ (setup : Setup) where
-  calls-owned-by : (s : SessionNo) (carries : List Call) (kind : Kind) (actor : Actor) → is_session s actor ≡ true → owns_all setup actor carries kind ≡ true
+  calls-owned-by : (s : SessionNo) (carries : List Call) (kind : EntryKind) (actor : Actor) → is_session s actor ≡ true
+      → owns_all setup actor carries kind ≡ true
       → list_all (owns_in_call setup s) carries ≡ true
   calls-owned-by s carries kind (Session t) is owned =
       subst (λ (u : SessionNo). list_all (owns_in_call setup u) carries ≡ true) (same-session s t is) (grind arith)
@@ -84,7 +85,7 @@ module _ (setup : Setup) where
   abbrev made_of_owned : SessionNo → Published → Bool
   made_of_owned s present = list_all (owns_in_call setup s) present.made
 
-  published-made : (s : SessionNo) (kind : Kind) (reply : Reply) (made : List Call) → list_all (owns_in_call setup s) made ≡ true
+  published-made : (s : SessionNo) (kind : EntryKind) (reply : Reply) (made : List Call) → list_all (owns_in_call setup s) made ≡ true
       → list_all (made_of_owned s) (published kind reply made) ≡ true
   published-made s (Present args) (Presented number credits) made owned = rw owned refl
   published-made s _ _ made owned = refl

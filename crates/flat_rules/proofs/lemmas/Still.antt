@@ -8,7 +8,7 @@ use Rattle.flat_base.specs.declared.ids.SessionNo.{SessionNo}
 use Rattle.flat_scene.specs.declared.calls.Watch.{Watch}
 use Rattle.flat_scene.specs.declared.journal.Entry.{Entry}
 use Rattle.flat_scene.specs.declared.journal.Event.{Event}
-use Rattle.flat_scene.specs.declared.journal.Told.{Told}
+use Rattle.flat_scene.specs.declared.journal.WatcherValue.{WatcherValue}
 use Rattle.flat_scene.specs.declared.setup.Setup.{Setup}
 use Rattle.flat_scene.specs.History.{◌▹◌, own, is_session, is_finish, is_begin, is_closed}
 use Rattle.flat_rules.specs.Ends.{viewport_uses, uses_view, uses_viewport, is_done, viewport_owner, view_owner, views_of, viewports_of}
@@ -82,7 +82,7 @@ module _ (setup : Setup) where
   rests watcher before e same unasked =
       let w : Watching = watching setup watcher before in
       let listens : Bool = is_open setup (listener setup watcher) (before ▹ e) in
-      ap (λ (now : Option Told). settled listens now (asking (asked setup watcher before e) w)) same
+      ap (λ (now : Option WatcherValue). settled listens now (asking (asked setup watcher before e) w)) same
       ∙ ap (λ (get : Option Watch). settled listens (told setup before watcher) (asking get w)) unasked
       ∙ ap (λ (v : Watching). settled listens (told setup before watcher) v) (asking-none w)
       ∙ by_open listens refl
@@ -111,7 +111,7 @@ module _ (setup : Setup) where
   told-nothing p watcher before e same listens =
       let resting : settled true (told setup before watcher) (watching setup watcher before) ≡ watching setup watcher before =
       rw listens at (at-rest setup watcher before) in
-      ap (λ (now : Option Told). event_of p (watching setup watcher before).waits (answer now (watching setup watcher before))) same
+      ap (λ (now : Option WatcherValue). event_of p (watching setup watcher before).waits (answer now (watching setup watcher before))) same
       ∙ rest-none p (answer (told setup before watcher) (watching setup watcher before)) (watching setup watcher before) resting
 
   -- a watcher of which no get is held posts nothing

@@ -10,9 +10,9 @@ use Rattle.flat_base.specs.declared.ids.SessionNo.{SessionNo}
 use Rattle.flat_scene.specs.declared.calls.Watch.{Watch}
 use Rattle.flat_scene.specs.declared.calls.Watch.TheVariants as watch
 use Rattle.flat_scene.specs.declared.journal.Entry.{Entry}
-use Rattle.flat_scene.specs.declared.journal.Kind.{Kind}
-use Rattle.flat_scene.specs.declared.journal.Kind.TheVariants.{Get}
-use Rattle.flat_scene.specs.declared.journal.Told.{Told}
+use Rattle.flat_scene.specs.declared.journal.EntryKind.{EntryKind}
+use Rattle.flat_scene.specs.declared.journal.EntryKind.TheVariants.{Get}
+use Rattle.flat_scene.specs.declared.journal.WatcherValue.{WatcherValue}
 use Rattle.flat_scene.specs.declared.setup.Setup.{Setup}
 use Rattle.flat_scene.specs.Draft.{Draft, Made, an_image, a_fill, a_viewport, made_of, content_of, of_serial}
 use Rattle.flat_scene.specs.Effect.{draft_of}
@@ -46,11 +46,11 @@ asking-none w = ap (λ (o : Option Watch). let v : Watching = record w { waits =
     by_waits (Some x) = refl
 
 -- settling twice is settling once
-pub settled-twice : (listens : Bool) (now : Option Told) (w : Watching) → settled listens now (settled listens now w) ≡ settled listens now w
+pub settled-twice : (listens : Bool) (now : Option WatcherValue) (w : Watching) → settled listens now (settled listens now w) ≡ settled listens now w
 settled-twice false now w = refl
 settled-twice true now w = by_answer (answer now w) refl
   where
-    by_answer : (a : Option Told) → answer now w ≡ a → settled true now (answered_by a w) ≡ answered_by a w
+    by_answer : (a : Option WatcherValue) → answer now w ≡ a → settled true now (answered_by a w) ≡ answered_by a w
     by_answer None is = rw is refl
     by_answer (Some value) is = refl
 
@@ -174,7 +174,7 @@ module _ (setup : Setup) (of_family : SessionNo → Bool) (closed : IsClosedFami
           in_draft d (draft-owned setup s (calls s before ++ e.calls) (all-calls-owned setup before e legal s (rw is (same-number s.0))) d
           (ok-is setup (draft_of setup (calls s before ++ e.calls)) d h)) get asks
 
-  pub asked-kept : (watcher : Watcher) (before : List Entry) (e : Entry) → Legal setup (before ▹ e) → is_kept of_family e ≡ true → (kind : Kind)
+  pub asked-kept : (watcher : Watcher) (before : List Entry) (e : Entry) → Legal setup (before ▹ e) → is_kept of_family e ≡ true → (kind : EntryKind)
       → asked_in setup watcher (only of_family before) e kind ≡ asked_in setup watcher before e kind
   asked-kept watcher before e legal kept (Get get) = rw (asked-kept-by before e legal e.actor refl kept get) refl
   asked-kept watcher before e legal kept _ = refl
@@ -255,7 +255,7 @@ module _ (setup : Setup) (of_family : SessionNo → Bool) (closed : IsClosedFami
           (ok-is setup (draft_of setup (calls t before ++ e.calls)) d h)) get
 
   pub not-asked : (watcher : Watcher) → IsFamilyPair setup of_family closed (pair_watched watcher) → (before : List Entry) (e : Entry)
-      → Legal setup (before ▹ e) → (kind : Kind) → keeps of_family kind e.actor ≡ false
+      → Legal setup (before ▹ e) → (kind : EntryKind) → keeps of_family kind e.actor ≡ false
       → asked_in setup watcher before e kind ≡ None
   not-asked watcher pair before e legal (Get get) out = rw (not-asked-by watcher pair before e legal get e.actor refl out) refl
   not-asked watcher pair before e legal _ out = refl

@@ -7,9 +7,9 @@ use Rattle.flat_base.specs.declared.ids.SessionNo.{SessionNo}
 use Rattle.flat_scene.specs.declared.calls.Watch.{Watch}
 use Rattle.flat_scene.specs.declared.journal.Entry.{Entry}
 use Rattle.flat_scene.specs.declared.journal.Event.TheVariants as event
-use Rattle.flat_scene.specs.declared.journal.Kind.{Kind}
-use Rattle.flat_scene.specs.declared.journal.Kind.TheVariants.{Get}
-use Rattle.flat_scene.specs.declared.journal.Told.{Told}
+use Rattle.flat_scene.specs.declared.journal.EntryKind.{EntryKind}
+use Rattle.flat_scene.specs.declared.journal.EntryKind.TheVariants.{Get}
+use Rattle.flat_scene.specs.declared.journal.WatcherValue.{WatcherValue}
 use Rattle.flat_scene.specs.declared.setup.Setup.{Setup}
 use Rattle.flat_scene.specs.History.{◌▹◌}
 use Rattle.flat_rules.specs.Ends.{views_of, viewport_uses}
@@ -24,20 +24,20 @@ use Rattle.flat_rules.proofs.lemmas.ListLemmas.{not-some}
 -- ---- one watcher
 
 -- what a get leaves, where none is held: it is answered at once where there is news, and else held
-abbrev pub after_get : Watch → Option Told → Option Told → Watching
+abbrev pub after_get : Watch → Option WatcherValue → Option WatcherValue → Watching
 after_get get (Some value) last = record { last = Some value; waits = None }
 after_get get None last = record { last = last; waits = Some get }
 
-get-answered : (get : Watch) (now : Option Told) (last : Option Told)
+get-answered : (get : Watch) (now : Option WatcherValue) (last : Option WatcherValue)
     → settled true now (asking (Some get) (record { last = last; waits = None })) ≡ after_get get (news now last) last
 get-answered get now last = by_news (news now last)
   where
-    by_news : (o : Option Told) → answered_by o (record { last = last; waits = Some get }) ≡ after_get get o last
+    by_news : (o : Option WatcherValue) → answered_by o (record { last = last; waits = Some get }) ≡ after_get get o last
     by_news None = refl
     by_news (Some value) = refl
 
 -- a watcher of which no get is held, and that isn't asked, stays as it is whatever it tells
-unheld-settled : (listens : Bool) (now : Option Told) (w : Watching) → w.waits ≡ None → settled listens now w ≡ w
+unheld-settled : (listens : Bool) (now : Option WatcherValue) (w : Watching) → w.waits ≡ None → settled listens now w ≡ w
 unheld-settled false now w none = refl
 unheld-settled true now w none = rw none refl
 
@@ -53,7 +53,7 @@ module _ (setup : Setup) where
       → asked setup watcher before e ≡ None
   unasked watcher before e others = by_kind e.kind refl
     where
-      by_kind : (kind : Kind) → e.kind ≡ kind → asked_in setup watcher before e kind ≡ None
+      by_kind : (kind : EntryKind) → e.kind ≡ kind → asked_in setup watcher before e kind ≡ None
       by_kind (Get get) is = rw (others get is) refl
       by_kind _ is = refl
 
@@ -62,7 +62,7 @@ module _ (setup : Setup) where
       → watching setup watcher (before ▹ e) ≡ watching setup watcher before
   unheld-stays watcher before e none idle =
       let listens : Bool = is_open setup (listener setup watcher) (before ▹ e) in
-      let now : Option Told = told setup (before ▹ e) watcher in
+      let now : Option WatcherValue = told setup (before ▹ e) watcher in
       ap (λ (get : Option Watch). settled listens now (asking get (watching setup watcher before))) idle
       ∙ ap (λ (w : Watching). settled listens now w) (asking-none (watching setup watcher before))
       ∙ unheld-settled listens now (watching setup watcher before) none
@@ -73,7 +73,7 @@ module _ (setup : Setup) where
       (watching setup watcher before)
   settled-now watcher before e idle =
       let listens : Bool = is_open setup (listener setup watcher) (before ▹ e) in
-      let now : Option Told = told setup (before ▹ e) watcher in
+      let now : Option WatcherValue = told setup (before ▹ e) watcher in
       ap (λ (get : Option Watch). settled listens now (asking get (watching setup watcher before))) idle
       ∙ ap (λ (w : Watching). settled listens now w) (asking-none (watching setup watcher before))
 
@@ -83,7 +83,7 @@ module _ (setup : Setup) where
   asked-itself : (watcher : Watcher) (before : List Entry) (e : Entry) (get : Watch) → e.kind ≡ Get get
       → watcher_of setup before e.actor e.calls get ≡ Some watcher → asked setup watcher before e ≡ Some get
   asked-itself watcher before e get is means =
-      let K : Kind → Type 0 = λ kind. asked_in setup watcher before e kind ≡ Some get in
+      let K : EntryKind → Type 0 = λ kind. asked_in setup watcher before e kind ≡ Some get in
       subst K (sym is) (rw (means, same-itself watcher) refl)
 
   -- where none is held: it is answered at once, or held
@@ -98,7 +98,7 @@ module _ (setup : Setup) where
       let idle : w ≡ record { last = w.last; waits = None } = ap (λ (o : Option Watch). let v : Watching = record w { waits = o } in v) none in
       let asks : asked setup watcher before e ≡ Some get = asked-itself watcher before e get is means in
       ap (λ (b : Bool). settled b (told setup (before ▹ e) watcher) (asking (asked setup watcher before e) w)) listens
-      ∙ ap (λ (now : Option Told). settled true now (asking (asked setup watcher before e) w)) same
+      ∙ ap (λ (now : Option WatcherValue). settled true now (asking (asked setup watcher before e) w)) same
       ∙ ap (λ (a : Option Watch). settled true (told setup before watcher) (asking a w)) asks
       ∙ ap (λ (v : Watching). settled true (told setup before watcher) (asking (Some get) v)) idle
       ∙ get-answered get (told setup before watcher) w.last
@@ -121,7 +121,7 @@ module _ (setup : Setup) where
   -- ---- an answer to a held get
 
   -- a held get with news is answered
-  pub held-answered : (p : PairNo) (watcher : Watcher) (before : List Entry) (e : Entry) (get : Watch) (value : Told)
+  pub held-answered : (p : PairNo) (watcher : Watcher) (before : List Entry) (e : Entry) (get : Watch) (value : WatcherValue)
       → (watching setup watcher before).waits ≡ Some get
       → news (told setup (before ▹ e) watcher) (watching setup watcher before).last ≡ Some value
       → told_event setup p watcher before e ≡ event.Told p get value ∷ []
@@ -140,7 +140,7 @@ module _ (setup : Setup) where
           by_two (Some get) = refl
 
   -- what an answer leaves
-  pub answered-after : (watcher : Watcher) (before : List Entry) (e : Entry) (value : Told) → asked setup watcher before e ≡ None
+  pub answered-after : (watcher : Watcher) (before : List Entry) (e : Entry) (value : WatcherValue) → asked setup watcher before e ≡ None
       → is_open setup (listener setup watcher) (before ▹ e) ≡ true
       → is_some (watching setup watcher before).waits ≡ true → news (told setup (before ▹ e) watcher) (watching setup watcher before).last ≡ Some value
       → watching setup watcher (before ▹ e) ≡ record { last = Some value; waits = None }

@@ -6,12 +6,12 @@ use Rattle.flat_io.specs.Counts.{has_risen}
 use Rattle.flat_io.specs.Told.{Appends}
 use Rattle.flat_display.specs.Had.{AreKept}
 use Rattle.flat_scene.specs.declared.frames.FrameOut.{FrameOut}
-use Rattle.flat_words.specs.declared.form.Form.{Form}
+use Rattle.flat_words.specs.declared.service_word.ServiceWord.{ServiceWord}
 use Rattle.flat_words.specs.Forms.{CallFor}
 use Rattle.flat_play.proofs.lemmas.Seen.{kept_none}
-use Rattle.flat_run.specs.declared.answers.Answer.{Answer}
-use Rattle.flat_run.specs.declared.answers.Unanswered.{Unanswered}
-use Rattle.flat_run.specs.declared.answers.Unanswered.TheVariants.{Fault, Memory}
+use Rattle.flat_run.specs.declared.answers.ServiceAnswer.{ServiceAnswer}
+use Rattle.flat_run.specs.declared.answers.NoAnswer.{NoAnswer}
+use Rattle.flat_run.specs.declared.answers.NoAnswer.TheVariants.{Fault, Memory}
 use Rattle.flat_run.specs.Answering.{Answers}
 use Rattle.flat_run.specs.Forms.{is_read}
 use Rattle.flat_run.specs.Promise.{AreFramesFor, AreGiven, CallForNothing, IsAnswer, Gives, IsThere, IsTooLarge, either_rose, usage_line}
@@ -92,8 +92,8 @@ other_status : (test : ℕ → Bool) (n m : ℕ) {P : Type 0} → test m ≡ fal
 other_status test n m not_m is_n same = absurd (let both : true ≡ false = sym is_n ∙ ap test same ∙ not_m in cc)
 
 -- what holds where nothing was shown, by the status
-pub untouched_by : {X : Type 0} (answer : Result Answer Unanswered) (result : ℕ) (sink sink' : SinkState)
-    → ((one : Answer) → answer ≡ Ok one → Writes one.text one.status sink sink' result) → (answer ≡ Err Memory → result ≡ 6)
+pub untouched_by : {X : Type 0} (answer : Result ServiceAnswer NoAnswer) (result : ℕ) (sink sink' : SinkState)
+    → ((one : ServiceAnswer) → answer ≡ Ok one → Writes one.text one.status sink sink' result) → (answer ≡ Err Memory → result ≡ 6)
     → IfOk answer (λ one. one.status ≢ 0 → X) → (answer ≡ Err Fault → X)
     → IsTrue (result == 2 || result == 3 || result == 4 || result == 7 || result == 8) → X
 untouched_by (Ok one) result sink sink' writes memory unshown failed among =
@@ -106,8 +106,8 @@ untouched_by (Err Fault) result sink sink' writes memory unshown failed among = 
 untouched_by (Err Memory) result sink sink' writes memory unshown failed among = other_status is_untouched result 6 refl among (memory refl)
 
 -- what holds where nothing was written
-pub unwritten_by : {X : Type 0} (answer : Result Answer Unanswered) (result : ℕ) (sink sink' : SinkState)
-    → ((one : Answer) → answer ≡ Ok one → Writes one.text one.status sink sink' result)
+pub unwritten_by : {X : Type 0} (answer : Result ServiceAnswer NoAnswer) (result : ℕ) (sink sink' : SinkState)
+    → ((one : ServiceAnswer) → answer ≡ Ok one → Writes one.text one.status sink sink' result)
     → IfOk answer (λ one. IsTrue (one.status == 0 || one.status == 3 || one.status == 7 || one.status == 8)) → (answer ≡ Err Fault → X)
     → (answer ≡ Err Memory → X)
     → IsTrue (result == 4 || result == 6) → X
@@ -134,7 +134,7 @@ unwritten_by (Err Memory) result sink sink' writes statuses failed memory among 
 module _ {D : Type 0} (shown : D → Option (List FrameOut)) (faults : D → ℕ) {K : Type 0} (kind : D → K) (words : List (List ℕ)) where
   module _ (source source' : SourceState) (sink sink' : SinkState) (olds news : List D) where
     -- an answer was written
-    written : (form : Form) → CallFor words form → ((f : Form) → CallFor words f → f ≡ form) → (status result : ℕ) (text : List ℕ)
+    written : (form : ServiceWord) → CallFor words form → ((f : ServiceWord) → CallFor words f → f ≡ form) → (status result : ℕ) (text : List ℕ)
         → IsAnswer shown faults olds news words source.left source'.left status text → IsTrue (status == 0 || status == 3 || status == 7 || status == 8)
         → AreKept shown faults (AreFramesFor words source.left source'.left) olds news kind → (given : List ℕ) × AreGiven given source.left source'.left
         → source'.faults ≡ source.faults → Writes text status sink sink' result → Serves shown faults kind words source source' sink sink' olds news result
@@ -163,7 +163,8 @@ module _ {D : Type 0} (shown : D → Option (List FrameOut)) (faults : D → ℕ
     }
 
     -- a read failed
-    pub failed : (form : Form) → CallFor words form → ((f : Form) → CallFor words f → f ≡ form) → (result : ℕ) → result ≡ 4 → sink' ≡ sink → is_read form ≡ true
+    pub failed : (form : ServiceWord) → CallFor words form → ((f : ServiceWord) → CallFor words f → f ≡ form) → (result : ℕ) → result ≡ 4 → sink' ≡ sink
+        → is_read form ≡ true
         → IsTrue (has_risen source.faults source'.faults) → source.faults ≤ source'.faults
         → AreKept shown faults (AreFramesFor words source.left source'.left) olds news kind → (given : List ℕ) × AreGiven given source.left source'.left
         → Serves shown faults kind words source source' sink sink' olds news result
@@ -215,9 +216,10 @@ module _ {D : Type 0} (shown : D → Option (List FrameOut)) (faults : D → ℕ
         }))
 
     -- an answer was made, or none could be, and what there was is written
-    pub serves_by : (form : Form) → CallFor words form → ((f : Form) → CallFor words f → f ≡ form) → (answer : Result Answer Unanswered) (result : ℕ)
+    pub serves_by : (form : ServiceWord) → CallFor words form → ((f : ServiceWord) → CallFor words f → f ≡ form)
+        → (answer : Result ServiceAnswer NoAnswer) (result : ℕ)
         → Answers shown faults kind form source source' olds news answer
-        → ((one : Answer) → answer ≡ Ok one → Writes one.text one.status sink sink' result) → (answer ≡ Err Fault → (result ≡ 4) × (sink' ≡ sink))
+        → ((one : ServiceAnswer) → answer ≡ Ok one → Writes one.text one.status sink sink' result) → (answer ≡ Err Fault → (result ≡ 4) × (sink' ≡ sink))
         → (answer ≡ Err Memory → (result ≡ 6) × (sink' ≡ sink)) → Serves shown faults kind words source source' sink sink' olds news result
     serves_by form calls one (Ok answer) result answers writes fault memory =
         written form calls one answer.status result answer.text (answers.answer words calls) answers.statuses (answers.kept words calls) answers.given

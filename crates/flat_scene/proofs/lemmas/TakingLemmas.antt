@@ -10,8 +10,8 @@ use Rattle.std.proofs.lemmas.List.Folds.{list_any-append}
 use Rattle.flat_base.specs.declared.ids.FenceNo.{FenceNo}
 use Rattle.flat_base.specs.declared.ids.SessionNo.{SessionNo}
 use Rattle.flat_scene.specs.declared.journal.Entry.{Entry}
-use Rattle.flat_scene.specs.declared.journal.Kind.{Kind}
-use Rattle.flat_scene.specs.declared.journal.Kind.TheVariants as kind
+use Rattle.flat_scene.specs.declared.journal.EntryKind.{EntryKind}
+use Rattle.flat_scene.specs.declared.journal.EntryKind.TheVariants as kind
 use Rattle.flat_scene.specs.declared.setup.Setup.{Setup}
 use Rattle.flat_scene.specs.Frames.{is_signalled, is_ready, is_unsquashable, up_to_first, ready_run, ready_prefix, takes, lets_go, signals, going, sessions_to}
 use Rattle.flat_scene.specs.Frames.{taken}
@@ -155,7 +155,7 @@ squashed-prefix time is_signalled waiting none =
     (none-while is_unsquashable (λ (present : Published). is_ready time is_signalled present.args) waiting none)
 
 -- no more is taken than waits
-takes-fits : (k : Kind) (is_signalled : FenceNo → Bool) (closed : Bool) (waiting : List Published)
+takes-fits : (k : EntryKind) (is_signalled : FenceNo → Bool) (closed : Bool) (waiting : List Published)
     → length (takes k is_signalled closed waiting) ≤ length waiting
 takes-fits (kind.Begin time) is_signalled true waiting = omega arith
 takes-fits (kind.Begin time) is_signalled false waiting =
@@ -192,12 +192,12 @@ record IsSquashed (setup : Setup) (history : List Entry) : Type 0 where
   taken : taken setup history ≡ squashed.taken setup history
   going : going setup history ≡ squashed.going setup history
 
-takes-all : (k : Kind) (f : FenceNo → Bool) (closed : Bool) (waiting : List Published) → list_any is_unsquashable waiting ≡ false
+takes-all : (k : EntryKind) (f : FenceNo → Bool) (closed : Bool) (waiting : List Published) → list_any is_unsquashable waiting ≡ false
     → takes k f closed waiting ≡ squashed.takes_all k f closed waiting
 takes-all (kind.Begin time) f closed waiting none = ap (λ ready. cond closed [] ready) (squashed-prefix time f waiting none)
 takes-all _ f closed waiting none = refl
 
-lets-all-go : (k : Kind) (f : FenceNo → Bool) (closed : Bool) (waiting going : List Published) → list_any is_unsquashable waiting ≡ false
+lets-all-go : (k : EntryKind) (f : FenceNo → Bool) (closed : Bool) (waiting going : List Published) → list_any is_unsquashable waiting ≡ false
     → lets_go k f closed waiting going ≡ squashed.lets_all_go k f closed waiting going
 lets-all-go (kind.Begin time) f closed waiting going none = ap (λ ready. cond closed waiting ready) (squashed-prefix time f waiting none)
 lets-all-go _ f closed waiting going none = refl

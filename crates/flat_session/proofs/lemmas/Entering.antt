@@ -11,8 +11,8 @@ use Rattle.flat_base.specs.declared.errors.Reason.{Reason}
 use Rattle.flat_base.specs.declared.ids.ContentId.{ContentId}
 use Rattle.flat_base.specs.declared.ids.FenceNo.{FenceNo}
 use Rattle.flat_base.specs.declared.ids.PairNo.{PairNo}
-use Rattle.flat_scene.specs.declared.script.Cond.{Cond}
-use Rattle.flat_scene.specs.declared.script.Cond.TheVariants as asks
+use Rattle.flat_scene.specs.declared.script.WaitCondition.{WaitCondition}
+use Rattle.flat_scene.specs.declared.script.WaitCondition.TheVariants as asks
 use Rattle.flat_base.specs.declared.ids.SessionNo.{SessionNo}
 use Rattle.flat_base.specs.declared.ids.Actor.TheVariants.{Session}
 use Rattle.flat_scene.specs.declared.calls.Call.{Call}
@@ -23,7 +23,7 @@ use Rattle.flat_scene.specs.declared.calls.ViewportProps.{ViewportProps}
 use Rattle.flat_scene.specs.declared.calls.Watch.{Watch}
 use Rattle.flat_scene.specs.declared.calls.Watch.TheVariants as watch
 use Rattle.flat_scene.specs.declared.journal.Entry.{Entry}
-use Rattle.flat_scene.specs.declared.journal.Kind.TheVariants.{View, Viewport, Present, Get, Signal, Poll, Wait, Close, End}
+use Rattle.flat_scene.specs.declared.journal.EntryKind.TheVariants.{View, Viewport, Present, Get, Signal, Poll, Wait, Close, End}
 use Rattle.flat_scene.specs.declared.setup.Setup.{Setup}
 use Rattle.flat_scene.specs.Draft.{Draft, Made, a_viewport, an_image, a_fill, made_of, empty_draft}
 use Rattle.flat_scene.specs.Effect.{draft_of, after_call, after_calls}
@@ -147,7 +147,7 @@ no_tree_poll : (setup : Setup) (draft : Option Draft) → has_tree setup draft P
 no_tree_poll setup None = refl
 no_tree_poll setup (Some d) = refl
 
-no_tree_wait : (setup : Setup) (c : Cond) (draft : Option Draft) → has_tree setup draft (Wait c) ≡ true
+no_tree_wait : (setup : Setup) (c : WaitCondition) (draft : Option Draft) → has_tree setup draft (Wait c) ≡ true
 no_tree_wait setup c None = refl
 no_tree_wait setup c (Some d) = refl
 
@@ -318,7 +318,7 @@ module _ (m : Machine) (s : SessionNo) (pending : List Call) (draft : Draft) (wa
     share = waits.share;
   }
 
-  waits_for : (c : Cond) → (session_may (Wait c) && is_declared m.setup s) ≡ true → owns_in_kind m.setup s (Wait c) ≡ true
+  waits_for : (c : WaitCondition) → (session_may (Wait c) && is_declared m.setup s) ≡ true → owns_in_kind m.setup s (Wait c) ≡ true
       → MayCall m (Session s) pending (Wait c)
   waits_for c acts owns = record {
     may = record {
@@ -336,7 +336,7 @@ module _ (m : Machine) (s : SessionNo) (pending : List Call) (draft : Draft) (wa
     share = waits.share;
   }
 
-  pub may_wait : (c : Cond) → is_played_condition m.setup s c ≡ true → MayCall m (Session s) pending (Wait c)
+  pub may_wait : (c : WaitCondition) → is_played_condition m.setup s c ≡ true → MayCall m (Session s) pending (Wait c)
   may_wait (asks.Frames n) played = waits_for (asks.Frames n) waits.declared refl
   may_wait (asks.Credits n) played = waits_for (asks.Credits n) waits.declared refl
   may_wait (asks.Taken n) played = waits_for (asks.Taken n) waits.declared refl

@@ -9,12 +9,12 @@ use Rattle.flat_base.specs.declared.errors.Reason.{Reason}
 use Rattle.flat_base.specs.declared.ids.Actor.TheVariants.{Session}
 use Rattle.flat_scene.specs.declared.calls.Call.{Call}
 use Rattle.flat_scene.specs.declared.journal.Entry.{Entry}
-use Rattle.flat_scene.specs.declared.journal.Kind.{Kind}
-use Rattle.flat_scene.specs.declared.journal.Kind.TheVariants.{End, Present, Get}
+use Rattle.flat_scene.specs.declared.journal.EntryKind.{EntryKind}
+use Rattle.flat_scene.specs.declared.journal.EntryKind.TheVariants.{End, Present, Get}
 use Rattle.flat_scene.specs.declared.journal.Reply.{Reply}
 use Rattle.flat_scene.specs.declared.journal.Reply.TheVariants.{Done}
-use Rattle.flat_scene.specs.declared.script.Line.{Line}
-use Rattle.flat_scene.specs.declared.script.Line.TheVariants as line
+use Rattle.flat_scene.specs.declared.script.SessionLine.{SessionLine}
+use Rattle.flat_scene.specs.declared.script.SessionLine.TheVariants as line
 use Rattle.flat_scene.specs.declared.setup.Setup.{Setup}
 use Rattle.flat_scene.specs.Draft.{Draft, empty_draft}
 use Rattle.flat_scene.specs.Effect.{draft_of}
@@ -24,7 +24,7 @@ use Rattle.flat_scene.specs.Interleave.{entry_of_call, calls_of_line, after_line
 use Rattle.flat_scene.specs.Misuse.{misuse, first_reason}
 use Rattle.flat_scene.specs.Tree.{present_tests}
 use Rattle.flat_core.specs.Machines.{Machine, entry_of}
-use Rattle.flat_session.specs.declared.reader.Reader.{Reader}
+use Rattle.flat_session.specs.declared.session_reader.SessionReader.{SessionReader}
 use Rattle.flat_session.specs.Readings.{Rise, HasRead, NoneIsRead, OneMoreIsRead, EndsAreRead, next_by}
 use Rattle.flat_session.specs.Reads.{Stands, IsOpen, Reads, Makes, draft_so_far, made_by_line, with_line}
 use Rattle.flat_session.proofs.lemmas.Readying.{one_more}
@@ -32,7 +32,7 @@ use Rattle.flat_session.proofs.lemmas.Standing.{own_more, or_rest}
 
 -- ---- which lines are unread
 
-pub later_all : (n m : ℕ) (later : List (ℕ × Line)) → n ≤ m → Rise m later → filter (λ one. nat_lt n one.0) later ≡ later
+pub later_all : (n m : ℕ) (later : List (ℕ × SessionLine)) → n ≤ m → Rise m later → filter (λ one. nat_lt n one.0) later ≡ later
 later_all n m [] le rise = refl
 later_all n m ((number, text) ∷ later) le rise =
     let less : m < number = rise.0 in
@@ -42,11 +42,11 @@ later_all n m ((number, text) ∷ later) le rise =
     ∙ ap (λ ls. (number, text) ∷ ls) (later_all n number later at_least rise.1)
 
 -- what stands before a line has a lesser number
-before_less : (m number : ℕ) (text : Line) (given later : List (ℕ × Line)) → Rise m (given ++ (number, text) ∷ later) → m < number
+before_less : (m number : ℕ) (text : SessionLine) (given later : List (ℕ × SessionLine)) → Rise m (given ++ (number, text) ∷ later) → m < number
 before_less m number text [] later rise = rise.0
 before_less m number text ((k, t) ∷ given) later rise = let first : m < k = rise.0 in let rest = before_less k number text given later rise.1 in omega arith
 
-unread : (m number : ℕ) (text : Line) (given later : List (ℕ × Line)) → Rise m (given ++ (number, text) ∷ later)
+unread : (m number : ℕ) (text : SessionLine) (given later : List (ℕ × SessionLine)) → Rise m (given ++ (number, text) ∷ later)
     → filter (λ one. nat_lt number one.0) (given ++ (number, text) ∷ later) ≡ later
 unread m number text [] later rise =
     let test : nat_lt number number ≡ false = grind (arith, nat_tests) in
@@ -60,11 +60,11 @@ unread m number text ((k, t) ∷ given) later rise =
 
 -- ---- a line that makes no entry is a call that is no misuse
 
-no_reason : (misused : Option Reason) (kind : Option Kind) → or_close misused kind ≡ None → misused ≡ None
+no_reason : (misused : Option Reason) (kind : Option EntryKind) → or_close misused kind ≡ None → misused ≡ None
 no_reason None kind none = refl
 no_reason (Some reason) kind none = absurd (cc)
 
-waits_so : (setup : Setup) (made pending : List Call) (draft : Draft) (text : Line) → entry_of_line setup draft text ≡ None
+waits_so : (setup : Setup) (made pending : List Call) (draft : Draft) (text : SessionLine) → entry_of_line setup draft text ≡ None
     → draft_of setup (made ++ pending) ≡ Ok draft → draft_of setup (made ++ (pending ++ calls_of_line text)) ≡ Ok (after_line draft text)
 waits_so setup made pending draft (line.Call call) none drawn =
     one_more setup made pending call draft (no_reason (misuse setup draft call) (entry_of_call call) none) drawn
@@ -87,7 +87,7 @@ none_is_read setup reader stands none = record {
   next = λ count later rise. first_next count later rise;
 }
   where
-    first_next : (count : ℕ) (later : List (ℕ × Line)) → Rise 0 later
+    first_next : (count : ℕ) (later : List (ℕ × SessionLine)) → Rise 0 later
         → next_of setup count [] later ≡ next_by setup count [] reader.pending reader.closed reader.refused later
     first_next count later rise =
         let all : unread_lines [] later ≡ later = later_all 0 0 later (omega arith) rise in
@@ -96,23 +96,23 @@ none_is_read setup reader stands none = record {
         ∙ ap (λ b. cond b (record { line = count + 1; carries = []; kind = End (reader.refused + length later) })
         (next_from setup count (draft_so_far setup [] reader.pending) reader.pending later)) stands.closed
 
-module _ (setup : Setup) (given : List (ℕ × Line)) (number : ℕ) (text : Line) (mine : List Entry) (before after : Reader)
+module _ (setup : Setup) (given : List (ℕ × SessionLine)) (number : ℕ) (text : SessionLine) (mine : List Entry) (before after : SessionReader)
     (has : HasRead setup given mine before) where
-  abbrev lines : List (ℕ × Line) → List (ℕ × Line)
+  abbrev lines : List (ℕ × SessionLine) → List (ℕ × SessionLine)
   lines later = given ++ (number, text) ∷ later
 
   -- the lines with this one are the same lines
-  same_lines : (later : List (ℕ × Line)) → (given ++ (number, text) ∷ []) ++ later ≡ lines later
+  same_lines : (later : List (ℕ × SessionLine)) → (given ++ (number, text) ∷ []) ++ later ≡ lines later
   same_lines later = append_assoc given ((number, text) ∷ []) later
 
-  rise_so : (later : List (ℕ × Line)) → Rise 0 ((given ++ (number, text) ∷ []) ++ later) → Rise 0 (lines later)
-  rise_so later rise = let R : List (ℕ × Line) → Type 0 = Rise 0 in subst R (same_lines later) rise
+  rise_so : (later : List (ℕ × SessionLine)) → Rise 0 ((given ++ (number, text) ∷ []) ++ later) → Rise 0 (lines later)
+  rise_so later rise = let R : List (ℕ × SessionLine) → Type 0 = Rise 0 in subst R (same_lines later) rise
 
   pub refused_more : before.closed ≡ true → after ≡ record before { refused = before.refused + 1 } → HasRead setup (given ++ (number, text) ∷ []) mine after
   refused_more closed is =
-      let H : Reader → Type 0 = HasRead setup (given ++ (number, text) ∷ []) mine in
+      let H : SessionReader → Type 0 = HasRead setup (given ++ (number, text) ∷ []) mine in
       subst H (sym is) (record {
-        follows = λ count later rise. let F : List (ℕ × Line) → Type 0 =
+        follows = λ count later rise. let F : List (ℕ × SessionLine) → Type 0 =
             λ ls. Follows setup count ls mine in subst F (sym (same_lines later)) (has.follows count ((number, text) ∷ later) (rise_so later rise));
         next = λ count later rise.
             ap (next_of setup count mine) (same_lines later) ∙ has.next count ((number, text) ∷ later) (rise_so later rise)
@@ -124,7 +124,7 @@ module _ (setup : Setup) (given : List (ℕ × Line)) (number : ℕ) (text : Lin
       })
 
   -- what an open session reads next
-  open_next : before.closed ≡ false → (count : ℕ) (later : List (ℕ × Line)) → Rise 0 (lines later)
+  open_next : before.closed ≡ false → (count : ℕ) (later : List (ℕ × SessionLine)) → Rise 0 (lines later)
       → next_of setup count mine (lines later) ≡ next_from setup count (draft_so_far setup mine before.pending) before.pending ((number, text) ∷ later)
   open_next opened count later rise =
       has.next count ((number, text) ∷ later) rise
@@ -140,9 +140,9 @@ module _ (setup : Setup) (given : List (ℕ × Line)) (number : ℕ) (text : Lin
       let carries : List Call = before.pending ++ calls_of_line text in
       let then : draft_so_far setup mine carries ≡ after_line draft text =
       ap (λ r. unwrap_or (result_ok r) empty_draft) (waits_so setup (carried mine) before.pending draft text none_made drawn) in
-      let H : Reader → Type 0 = HasRead setup (given ++ (number, text) ∷ []) mine in
+      let H : SessionReader → Type 0 = HasRead setup (given ++ (number, text) ∷ []) mine in
       subst H (sym is) (record {
-        follows = λ count later rise. let F : List (ℕ × Line) → Type 0 =
+        follows = λ count later rise. let F : List (ℕ × SessionLine) → Type 0 =
             λ ls. Follows setup count ls mine in subst F (sym (same_lines later)) (has.follows count ((number, text) ∷ later) (rise_so later rise));
         next = λ count later rise.
             ap (next_of setup count mine) (same_lines later) ∙ open_next opened count later (rise_so later rise)
@@ -153,7 +153,8 @@ module _ (setup : Setup) (given : List (ℕ × Line)) (number : ℕ) (text : Lin
             (next_from setup count (draft_so_far setup mine carries) carries later)) opened);
       })
 
-  pub enters_more : before.closed ≡ false → before.refused ≡ 0 → list_any (λ e. closes e.reply) mine ≡ false → (kind : Kind) (reply : Reply) (entry : Entry)
+  pub enters_more : before.closed ≡ false → before.refused ≡ 0 → list_any (λ e. closes e.reply) mine ≡ false
+      → (kind : EntryKind) (reply : Reply) (entry : Entry)
       → entry_of_line setup (draft_so_far setup mine before.pending) text ≡ Some kind
       → entry.line ≡ number → entry.calls ≡ before.pending ++ calls_of_line text → entry.kind ≡ kind → entry.reply ≡ reply → after.pending ≡ []
       → after.closed ≡ closes reply → after.refused ≡ before.refused
@@ -162,7 +163,7 @@ module _ (setup : Setup) (given : List (ℕ × Line)) (number : ℕ) (text : Lin
       let carries : List Call = before.pending ++ calls_of_line text in
       record {
         follows = λ count later rise.
-            let F : List (ℕ × Line) → Type 0 = λ ls. Follows setup count ls (mine ▹ entry) in
+            let F : List (ℕ × SessionLine) → Type 0 = λ ls. Follows setup count ls (mine ▹ entry) in
             let d = draft_so_far setup mine before.pending in
             let is : next_of setup count mine (lines later) ≡ record { line = number; carries = carries; kind = kind } =
             open_next opened count later (rise_so later rise)
@@ -193,7 +194,7 @@ module _ (setup : Setup) (given : List (ℕ × Line)) (number : ℕ) (text : Lin
 pub one_more_is_read : OneMoreIsRead
 one_more_is_read given number text reply old new before after stands has reads = by_closed before.closed refl reads
   where
-    by_made : before.closed ≡ false → (made : Option Kind) → made_by_line old before text ≡ made → Makes number text reply old new before after made
+    by_made : before.closed ≡ false → (made : Option EntryKind) → made_by_line old before text ≡ made → Makes number text reply old new before after made
         → HasRead old.setup (given ++ (number, text) ∷ []) (own before.session new.history) after
     by_made opened None is makes =
         let was : IsOpen old.setup (own before.session old.history) before = stands.when_open opened in
@@ -208,7 +209,7 @@ one_more_is_read given number text reply old new before after stands has reads =
         subst H (sym grown)
         (enters_more old.setup given number text (own before.session old.history) before after has opened was.none_refused (stands.closed ∙ opened) kind reply
         (entry_of (Session before.session) number carries kind reply) is refl refl refl refl
-        (ap (λ (r : Reader). r.pending) makes.rest) (ap (λ (r : Reader). r.closed) makes.rest) (ap (λ (r : Reader). r.refused) makes.rest))
+        (ap (λ (r : SessionReader). r.pending) makes.rest) (ap (λ (r : SessionReader). r.closed) makes.rest) (ap (λ (r : SessionReader). r.refused) makes.rest))
 
     by_closed : (b : Bool) → before.closed ≡ b → Reads number text reply old new before after b
         → HasRead old.setup (given ++ (number, text) ∷ []) (own before.session new.history) after
@@ -220,7 +221,8 @@ one_more_is_read given number text reply old new before after stands has reads =
 -- ---- the End
 
 -- the End of a session whose lines are all read
-pub ends_reading : (setup : Setup) (given : List (ℕ × Line)) (count : ℕ) (mine : List Entry) (reader : Reader) (entry : Entry) → Stands setup mine reader
+pub ends_reading : (setup : Setup) (given : List (ℕ × SessionLine)) (count : ℕ) (mine : List Entry) (reader : SessionReader) (entry : Entry)
+    → Stands setup mine reader
     → HasRead setup given mine reader → Rise 0 given
     → entry.line ≡ count + 1 → entry.calls ≡ reader.pending → entry.kind ≡ End reader.refused → IsReading setup count given (mine ▹ entry)
 ends_reading setup given count mine reader entry stands has rise line_is calls_are kind_is = by_closed reader.closed refl
@@ -233,9 +235,9 @@ ends_reading setup given count mine reader entry stands has rise line_is calls_a
 
     by_closed : (b : Bool) → reader.closed ≡ b → IsReading setup count given (mine ▹ entry)
     by_closed b is =
-        let R : List (ℕ × Line) → Type 0 = Rise 0 in
+        let R : List (ℕ × SessionLine) → Type 0 = Rise 0 in
         let rise_all : Rise 0 (given ++ []) = subst R (sym all_given) rise in
-        let F : List (ℕ × Line) → Type 0 = λ ls. Follows setup count ls (mine ▹ entry) in
+        let F : List (ℕ × SessionLine) → Type 0 = λ ls. Follows setup count ls (mine ▹ entry) in
         let N : Next → Type 0 = λ next. IsNext next entry in
         let next : next_of setup count mine (given ++ []) ≡ record { line = count + 1; carries = reader.pending; kind = End reader.refused } =
         has.next count [] rise_all ∙ by_test b is in

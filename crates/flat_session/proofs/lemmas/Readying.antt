@@ -6,8 +6,8 @@ use Rattle.flat_base.specs.declared.ids.Actor.TheVariants.{Session}
 use Rattle.flat_base.specs.declared.ids.SessionNo.{SessionNo}
 use Rattle.flat_scene.specs.declared.calls.Call.{Call}
 use Rattle.flat_scene.specs.declared.calls.Call.TheVariants.{CreateView, CreateViewport}
-use Rattle.flat_scene.specs.declared.journal.Kind.{Kind}
-use Rattle.flat_scene.specs.declared.journal.Kind.TheVariants.{Present, Get, Close}
+use Rattle.flat_scene.specs.declared.journal.EntryKind.{EntryKind}
+use Rattle.flat_scene.specs.declared.journal.EntryKind.TheVariants.{Present, Get, Close}
 use Rattle.flat_scene.specs.declared.setup.Setup.{Setup}
 use Rattle.flat_scene.specs.Draft.{Draft}
 use Rattle.flat_scene.specs.Effect.{draft_of, effect}
@@ -20,9 +20,9 @@ use Rattle.flat_draft.specs.declared.fault.DraftFault.TheVariants.{Bad, Closed, 
 use Rattle.flat_draft.specs.Answers.{IsAnswer, has_room_for}
 use Rattle.flat_draft.specs.State.{DraftState}
 use Rattle.flat_draft.proofs.lemmas.Following.{calls_follow}
-use Rattle.flat_session.specs.declared.made.Made.{Made}
-use Rattle.flat_session.specs.declared.made.Made.TheVariants as made
-use Rattle.flat_session.specs.declared.reader.Reader.{Reader}
+use Rattle.flat_session.specs.declared.requested_entry.RequestedEntry.{RequestedEntry}
+use Rattle.flat_session.specs.declared.requested_entry.RequestedEntry.TheVariants as made
+use Rattle.flat_session.specs.declared.session_reader.SessionReader.{SessionReader}
 use Rattle.flat_session.specs.Made.{kind_of, IsMeant}
 use Rattle.flat_session.specs.Reads.{IsPrepared, IsReady}
 use Rattle.flat_session.proofs.lemmas.Entering.{IsWaiting, get_meant, may_view, may_viewport, may_get, may_present, may_signal, may_poll, may_wait}
@@ -35,10 +35,10 @@ one_more setup made before call draft fine drawn = ap (draft_of setup) (sym (app
     ∙ (calls_follow setup (made ++ before) draft call drawn).done fine
 
 module _ (m : Machine) (s : SessionNo) (before pending : List Call) (draft : Draft) (after : DraftState) (waits : IsWaiting m s before draft) where
-  abbrev May : Kind → List Call → Type 0
+  abbrev May : EntryKind → List Call → Type 0
   May kind carries = MayCall m (Session s) carries kind
 
-  pub may_enter_as : (one : Made) → IsPrepared m.setup s draft before pending after one → MayCall m (Session s) pending (kind_of one)
+  pub may_enter_as : (one : RequestedEntry) → IsPrepared m.setup s draft before pending after one → MayCall m (Session s) pending (kind_of one)
   may_enter_as (made.View pair) p =
       subst (May (kind_of (made.View pair))) (sym p.0)
       (may_view m s before draft waits pair (effect draft (CreateView pair)) p.1
@@ -57,7 +57,7 @@ module _ (m : Machine) (s : SessionNo) (before pending : List Call) (draft : Dra
   may_enter_as (made.Close (Some why)) (inr misused) =
       subst (May (Close (Some why))) (sym misused.1) (may_close_call m s before draft waits misused.0 why misused.2 misused.3)
 
-  pub meant_as : (one : Made) → IsPrepared m.setup s draft before pending after one → IsMeant m s pending one
+  pub meant_as : (one : RequestedEntry) → IsPrepared m.setup s draft before pending after one → IsMeant m s pending one
   meant_as (made.View pair) p = tt
   meant_as (made.Viewport c pair props) p = tt
   meant_as (made.Present args snapshot) p =
@@ -71,7 +71,7 @@ module _ (m : Machine) (s : SessionNo) (before pending : List Call) (draft : Dra
   meant_as (made.Wait c) p = tt
   meant_as (made.Close why) p = tt
 
-module _ (m : Machine) (reader : Reader) (one : Made) (ready : IsReady m.setup (own reader.session m.history) reader one) where
+module _ (m : Machine) (reader : SessionReader) (one : RequestedEntry) (ready : IsReady m.setup (own reader.session m.history) reader one) where
   -- what is known of the session
   pub waiting : HasShare m (Session reader.session) → IsWaiting m reader.session ready.before ready.draft
   waiting share = record {

@@ -12,11 +12,11 @@ use Rattle.flat_base.specs.declared.errors.Reason.{Reason}
 use Rattle.flat_scene.specs.declared.calls.Call.{Call}
 use Rattle.flat_scene.specs.declared.calls.Call.TheVariants.{CreateView, CreateViewport, CreateImage}
 use Rattle.flat_scene.specs.declared.journal.Entry.{Entry}
-use Rattle.flat_scene.specs.declared.journal.Kind.{Kind}
-use Rattle.flat_scene.specs.declared.journal.Kind.TheVariants.{Close}
+use Rattle.flat_scene.specs.declared.journal.EntryKind.{EntryKind}
+use Rattle.flat_scene.specs.declared.journal.EntryKind.TheVariants.{Close}
 use Rattle.flat_scene.specs.declared.journal.Reply.{Reply}
-use Rattle.flat_scene.specs.declared.script.Line.{Line}
-use Rattle.flat_scene.specs.declared.script.Line.TheVariants as line
+use Rattle.flat_scene.specs.declared.script.SessionLine.{SessionLine}
+use Rattle.flat_scene.specs.declared.script.SessionLine.TheVariants as line
 use Rattle.flat_scene.specs.declared.setup.Setup.{Setup}
 use Rattle.flat_scene.specs.Draft.{Draft, empty_draft}
 use Rattle.flat_scene.specs.Effect.{draft_of, effect}
@@ -27,9 +27,9 @@ use Rattle.flat_rules.specs.Legal.{reply_to}
 use Rattle.flat_draft.specs.Stands.{StandsFor}
 use Rattle.flat_draft.specs.State.{DraftState}
 use Rattle.flat_rules.specs.Owned.{is_private, is_played_call, is_played_line}
-use Rattle.flat_session.specs.declared.made.Made.{Made}
-use Rattle.flat_session.specs.declared.made.Made.TheVariants as made
-use Rattle.flat_session.specs.declared.reader.Reader.{Reader}
+use Rattle.flat_session.specs.declared.requested_entry.RequestedEntry.{RequestedEntry}
+use Rattle.flat_session.specs.declared.requested_entry.RequestedEntry.TheVariants as made
+use Rattle.flat_session.specs.declared.session_reader.SessionReader.{SessionReader}
 use Rattle.flat_session.specs.Made.{kind_of, takes_memory}
 use Rattle.flat_session.specs.Reads.{Stands, IsOpen, IsReady, IsPrepared, IsMade, IsNoMisuse, Tells, with_line, viewport_call, draft_so_far, kept_calls}
 use Rattle.flat_base.proofs.lemmas.Tests.{or-false, all-more}
@@ -45,11 +45,11 @@ private_played setup s (CreateImage c buffers i w h) played none = played
 private_played setup s _ played none = refl
 
 -- what is known of the calls once a line made no entry
-pub record Waits (setup : Setup) (s : SessionNo) (made pending : List Call) (draft : Draft) (text : Line) : Type 0 where
+pub record Waits (setup : Setup) (s : SessionNo) (made pending : List Call) (draft : Draft) (text : SessionLine) : Type 0 where
   pub drawn : draft_of setup (made ++ (pending ++ calls_of_line text)) ≡ Ok (after_line draft text)
   pub private : list_all (is_private setup s) (pending ++ calls_of_line text) ≡ true
 
-waits_more : (setup : Setup) (s : SessionNo) (made pending : List Call) (draft : Draft) (text : Line) → is_played_line setup s text ≡ true
+waits_more : (setup : Setup) (s : SessionNo) (made pending : List Call) (draft : Draft) (text : SessionLine) → is_played_line setup s text ≡ true
     → IsNoMisuse setup draft text → entry_of_line setup draft text ≡ None
     → draft_of setup (made ++ pending) ≡ Ok draft → list_all (is_private setup s) pending ≡ true → Waits setup s made pending draft text
 waits_more setup s made pending draft (line.Call call) played fine none drawn private = record {
@@ -70,7 +70,7 @@ waits_more setup s made pending draft line.Poll played fine none drawn private =
 waits_more setup s made pending draft (line.Wait c) played fine none drawn private = absurd (cc)
 waits_more setup s made pending draft line.Disconnect played fine none drawn private = absurd (cc)
 
-module _ (setup : Setup) (mine : List Entry) (text : Line) (old new : Reader) (stands : Stands setup mine old) (opened : old.closed ≡ false) where
+module _ (setup : Setup) (mine : List Entry) (text : SessionLine) (old new : SessionReader) (stands : Stands setup mine old) (opened : old.closed ≡ false) where
   pub was : IsOpen setup mine old
   was = stands.when_open opened
 
@@ -86,7 +86,7 @@ module _ (setup : Setup) (mine : List Entry) (text : Line) (old new : Reader) (s
       let left = tells.leaves old.pending in
       let w : Waits setup old.session (carried mine) old.pending was.draft text =
       waits_more setup old.session (carried mine) old.pending was.draft text played left.0 none was.made was.private in
-      let S : Reader → Type 0 = λ r. Stands setup mine r in
+      let S : SessionReader → Type 0 = λ r. Stands setup mine r in
       subst S (sym rest) (record {
         declared = stands.declared;
         unended = stands.unended;
@@ -103,9 +103,10 @@ module _ (setup : Setup) (mine : List Entry) (text : Line) (old new : Reader) (s
       })
 
   -- the session is about to make its entry
-  pub is_ready : (one : Made) → new ≡ with_line text old new.draft → Tells setup old.session was.draft text new.draft (Some one) → IsReady setup mine new one
+  pub is_ready : (one : RequestedEntry) → new ≡ with_line text old new.draft → Tells setup old.session was.draft text new.draft (Some one)
+      → IsReady setup mine new one
   is_ready one rest tells =
-      let R : Reader → Type 0 = λ r. IsReady setup mine r one in
+      let R : SessionReader → Type 0 = λ r. IsReady setup mine r one in
       subst R (sym rest) (record {
         declared = stands.declared;
         unended = stands.unended;
@@ -120,7 +121,7 @@ module _ (setup : Setup) (mine : List Entry) (text : Line) (old new : Reader) (s
       })
 
 -- a line after the one that closed the session is counted
-pub stands_refused : (setup : Setup) (mine : List Entry) (reader : Reader) → reader.closed ≡ true → Stands setup mine reader
+pub stands_refused : (setup : Setup) (mine : List Entry) (reader : SessionReader) → reader.closed ≡ true → Stands setup mine reader
     → Stands setup mine (record reader { refused = reader.refused + 1 })
 stands_refused setup mine reader closed stands = record {
   declared = stands.declared;
@@ -136,7 +137,7 @@ pub or_rest : (a b : Bool) → b ≡ false → (a || b) ≡ a
 or_rest true b is = refl
 or_rest false b is = is
 
-made_no_end : (one : Made) → is_end (kind_of one) ≡ false
+made_no_end : (one : RequestedEntry) → is_end (kind_of one) ≡ false
 made_no_end (made.View pair) = refl
 made_no_end (made.Viewport c pair props) = refl
 made_no_end (made.Present args snapshot) = refl
@@ -151,7 +152,7 @@ close_closes : (setup : Setup) (s : SessionNo) (history : List Entry) (carries :
 close_closes setup s history carries None = refl
 close_closes setup s history carries (Some reason) = refl
 
-pub own_more : (s : SessionNo) (history : List Entry) (n : ℕ) (carries : List Call) (kind : Kind) (reply : Reply)
+pub own_more : (s : SessionNo) (history : List Entry) (n : ℕ) (carries : List Call) (kind : EntryKind) (reply : Reply)
     → own s (history ▹ entry_of (Session s) n carries kind reply) ≡ (own s history ▹ entry_of (Session s) n carries kind reply)
 own_more s history n carries kind reply = rw (eq-eqb s.0 s.0 refl) refl
 
@@ -175,7 +176,7 @@ module _ (setup : Setup) (s : SessionNo) (history : List Entry) (earlier : List 
         still_open = ap (λ (state : DraftState). state.closed) stays ∙ opened;
       }
 
-  pub left_after : (one : Made) (reply : Reply) → IsPrepared setup s draft before pending was one
+  pub left_after : (one : RequestedEntry) (reply : Reply) → IsPrepared setup s draft before pending was one
       → ((d : Draft) → StandsFor setup was d → IsMade setup d was after (viewport_call one))
       → reply ≡ reply_to setup history (Session s) pending (kind_of one) → closes reply ≡ false → IsLeft setup earlier pending after
   left_after (made.View pair) reply p makes replied goes_on =
@@ -204,10 +205,11 @@ module _ (setup : Setup) (s : SessionNo) (history : List Entry) (earlier : List 
   left_after (made.Close why) reply p makes replied goes_on =
       absurd (let both : true ≡ false = sym (close_closes setup s history pending why) ∙ sym (ap closes replied) ∙ goes_on in cc)
 
-module _ (setup : Setup) (history : List Entry) (number : ℕ) (reader : Reader) (one : Made) (ready : IsReady setup (own reader.session history) reader one)
+module _ (setup : Setup) (history : List Entry) (number : ℕ) (reader : SessionReader) (one : RequestedEntry)
+    (ready : IsReady setup (own reader.session history) reader one)
   where
     -- the session after its entry
-    pub stands_entered : (after : Reader) (reply : Reply) → reply ≡ reply_to setup history (Session reader.session) reader.pending (kind_of one)
+    pub stands_entered : (after : SessionReader) (reply : Reply) → reply ≡ reply_to setup history (Session reader.session) reader.pending (kind_of one)
         → ((d : Draft) → StandsFor setup reader.draft d → IsMade setup d reader.draft after.draft (viewport_call one))
         → after ≡ record reader { draft = after.draft; pending = []; events = after.events; closed = closes reply }
         → Stands setup (own reader.session (history ▹ entry_of (Session reader.session) number reader.pending (kind_of one) reply)) after
@@ -215,7 +217,7 @@ module _ (setup : Setup) (history : List Entry) (number : ℕ) (reader : Reader)
         let s : SessionNo = reader.session in
         let entry : Entry = entry_of (Session s) number reader.pending (kind_of one) reply in
         let grown : own s (history ▹ entry) ≡ (own s history ▹ entry) = own_more s history number reader.pending (kind_of one) reply in
-        let S : Reader → Type 0 = λ r. Stands setup (own s (history ▹ entry)) r in
+        let S : SessionReader → Type 0 = λ r. Stands setup (own s (history ▹ entry)) r in
         let M : List Entry → Type 0 = λ mine. Stands setup mine
         (record reader { draft = after.draft; pending = []; events = after.events; closed = closes reply }) in
         subst S (sym rest) (subst M (sym grown) (record {
@@ -243,7 +245,7 @@ pub all_but_one : (before : List Call) (call : Call) → take (length (before ++
 all_but_one before call = grind (arith, common_steps)
 
 -- the calls that waited wait still
-pub kept_are : (setup : Setup) (s : SessionNo) (draft : Draft) (before pending : List Call) (after : DraftState) (one : Made)
+pub kept_are : (setup : Setup) (s : SessionNo) (draft : Draft) (before pending : List Call) (after : DraftState) (one : RequestedEntry)
     → IsPrepared setup s draft before pending after one → takes_memory one ≡ true → kept_calls (viewport_call one) pending ≡ before
 kept_are setup s draft before pending after (made.View pair) p takes = absurd (cc)
 kept_are setup s draft before pending after (made.Viewport c pair props) p takes =
@@ -261,7 +263,7 @@ record IsStill (setup : Setup) (draft : Draft) (after : DraftState) : Type 0 whe
   pub stands : StandsFor setup after draft
   pub still_open : after.closed ≡ false
 
-is_still : (setup : Setup) (s : SessionNo) (draft : Draft) (before pending : List Call) (after : DraftState) (one : Made)
+is_still : (setup : Setup) (s : SessionNo) (draft : Draft) (before pending : List Call) (after : DraftState) (one : RequestedEntry)
     → IsPrepared setup s draft before pending after one → takes_memory one ≡ true → IsStill setup draft after
 is_still setup s draft before pending after (made.View pair) p takes = absurd (cc)
 is_still setup s draft before pending after (made.Viewport c pair props) p takes = record { stands = p.3; still_open = p.4 }
@@ -272,10 +274,11 @@ is_still setup s draft before pending after made.Poll p takes = record { stands 
 is_still setup s draft before pending after (made.Wait c) p takes = absurd (cc)
 is_still setup s draft before pending after (made.Close why) p takes = absurd (cc)
 
-pub stands_kept : (setup : Setup) (mine : List Entry) (reader after : Reader) (one : Made) → IsReady setup mine reader one → takes_memory one ≡ true
+pub stands_kept : (setup : Setup) (mine : List Entry) (reader after : SessionReader) (one : RequestedEntry) → IsReady setup mine reader one
+    → takes_memory one ≡ true
     → after ≡ record reader { pending = kept_calls (viewport_call one) reader.pending } → Stands setup mine after
 stands_kept setup mine reader after one ready takes rest =
-    let S : Reader → Type 0 = λ r. Stands setup mine r in
+    let S : SessionReader → Type 0 = λ r. Stands setup mine r in
     let same : kept_calls (viewport_call one) reader.pending ≡ ready.before =
     kept_are setup reader.session ready.draft ready.before reader.pending reader.draft one ready.prepared takes in
     let still : IsStill setup ready.draft reader.draft =

@@ -10,8 +10,8 @@ use Rattle.flat_scene.specs.declared.calls.Call.TheVariants.{CreateView, CreateV
 use Rattle.flat_scene.specs.declared.calls.PresentArgs.{PresentArgs}
 use Rattle.flat_scene.specs.declared.calls.ViewportProps.{ViewportProps}
 use Rattle.flat_scene.specs.declared.calls.Watch.{Watch}
-use Rattle.flat_scene.specs.declared.journal.Kind.TheVariants.{Present, Get}
-use Rattle.flat_scene.specs.declared.script.Line.TheVariants as line
+use Rattle.flat_scene.specs.declared.journal.EntryKind.TheVariants.{Present, Get}
+use Rattle.flat_scene.specs.declared.script.SessionLine.TheVariants as line
 use Rattle.flat_scene.specs.declared.setup.Setup.{Setup}
 use Rattle.flat_scene.specs.Draft.{Draft}
 use Rattle.flat_scene.specs.Interleave.{entry_of_call, entry_of_line, or_close, get_tests}
@@ -24,7 +24,7 @@ use Rattle.flat_rules.specs.Legal.{owns_fence}
 use Rattle.flat_rules.specs.Owned.{is_played_line}
 use Rattle.flat_rules.proofs.lemmas.Refusals.{present-refused, get-refused}
 use Rattle.flat_scene.specs.declared.trees.Tree.{Tree}
-use Rattle.flat_session.specs.declared.made.Made.TheVariants as made
+use Rattle.flat_session.specs.declared.requested_entry.RequestedEntry.TheVariants as made
 use Rattle.flat_session.specs.Reads.{Tells, view_made, makes_viewport}
 
 module _ (setup : Setup) (s : SessionNo) (draft : Draft) where

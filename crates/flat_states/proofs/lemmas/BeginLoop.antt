@@ -8,7 +8,7 @@ use Rattle.std.proofs.lemmas.List.{append-nil, length-set}
 use Rattle.std.proofs.lemmas.List.Sums.{get_or-le-sum_by}
 use Rattle.flat_base.specs.declared.ids.SessionNo.{SessionNo}
 use Rattle.flat_scene.specs.declared.journal.Entry.{Entry}
-use Rattle.flat_scene.specs.declared.journal.Post.{Post}
+use Rattle.flat_scene.specs.declared.journal.PostedEvent.{PostedEvent}
 use Rattle.flat_scene.specs.declared.setup.Setup.{Setup}
 use Rattle.flat_scene.specs.declared.trees.Tree.{Tree}
 use Rattle.flat_rules.specs.Ends.{to_begin}
@@ -81,7 +81,7 @@ sessions-on i = rw add-one refl
 pub posts-on : (setup : Setup) (h : List Entry) (e : Entry) (i : ℕ)
     → posts_to setup h e (i + 1) ≡ posts_to setup h e i ++ map (post_of (length h) (number i)) (events_to setup h e (number i))
 posts-on setup h e i =
-    let f : SessionNo → List Post = λ s. map (post_of (length h) s) (events_to setup h e s) in
+    let f : SessionNo → List PostedEvent = λ s. map (post_of (length h) s) (events_to setup h e s) in
     ap (flat_map f) (sessions-on i) ∙ flat-on f (sessions_to i) (number i)
 
 pub due-le : (sessions : List SessionState) (i : ℕ) (state : SessionState) → i < length sessions → state ≡ slice_index_or sessions i state
@@ -133,10 +133,10 @@ kept-next setup was h line time i sessions new same each here =
     let P : List Entry → Type 0 = λ k. IsKept setup (seen_of setup (begun k line time) (number i)) new in
     kept-on setup h line time i sessions new each (subst P same here)
 
-pub posts-next : (setup : Setup) (was h : List Entry) (e : Entry) (i : ℕ) (first old new : List Post) → was ≡ h → old ≡ first ++ posts_to setup h e i
+pub posts-next : (setup : Setup) (was h : List Entry) (e : Entry) (i : ℕ) (first old new : List PostedEvent) → was ≡ h → old ≡ first ++ posts_to setup h e i
     → new ≡ old ++ map (post_of (length was) (number i)) (events_to setup was e (number i)) → new ≡ first ++ posts_to setup h e (i + 1)
 posts-next setup was h e i first old new same so_far more =
-    let here : List Entry → List Post = λ k. map (post_of (length k) (number i)) (events_to setup k e (number i)) in
+    let here : List Entry → List PostedEvent = λ k. map (post_of (length k) (number i)) (events_to setup k e (number i)) in
     more ∙ ap (λ xs. xs ++ here was) so_far ∙ ap (λ (k : List Entry). (first ++ posts_to setup h e i) ++ here k) same
     ∙ append_assoc first (posts_to setup h e i) (here h) ∙ ap (λ xs. first ++ xs) (sym (posts-on setup h e i))
 

@@ -8,9 +8,9 @@ use Rattle.flat_base.specs.declared.ids.Actor.TheVariants.{Display}
 use Rattle.flat_base.specs.declared.ids.FenceNo.{FenceNo}
 use Rattle.flat_base.specs.declared.ids.SessionNo.{SessionNo}
 use Rattle.flat_scene.specs.declared.journal.Entry.{Entry}
-use Rattle.flat_scene.specs.declared.journal.Kind.{Kind}
-use Rattle.flat_scene.specs.declared.journal.Kind.TheVariants.{Begin, Finish}
-use Rattle.flat_scene.specs.declared.journal.Post.{Post}
+use Rattle.flat_scene.specs.declared.journal.EntryKind.{EntryKind}
+use Rattle.flat_scene.specs.declared.journal.EntryKind.TheVariants.{Begin, Finish}
+use Rattle.flat_scene.specs.declared.journal.PostedEvent.{PostedEvent}
 use Rattle.flat_scene.specs.declared.journal.Reply.TheVariants.{Done}
 use Rattle.flat_scene.specs.declared.setup.Setup.{Setup}
 use Rattle.flat_scene.specs.History.{◌▹◌, is_closed, presents, Published, is_finish}
@@ -23,7 +23,7 @@ use Rattle.flat_scene.specs.Draft.{of_serial}
 use Rattle.flat_rules.specs.Posts.{events_to, Sent}
 use Rattle.flat_rules.specs.AllPosts.{posts}
 use Rattle.flat_fence.specs.Fences.{has}
-use Rattle.flat_states.specs.declared.clock.Clock.{Clock}
+use Rattle.flat_states.specs.declared.frame_clock.FrameClock.{FrameClock}
 use Rattle.flat_states.specs.declared.ratios.Ratios.{Ratios}
 use Rattle.flat_states.specs.declared.state.SessionState.{SessionState}
 use Rattle.flat_facts.specs.Begins.{begun, begin_entry, finished, finish_entry, post_of, posts_to, entry_of}
@@ -47,7 +47,7 @@ map-twice f g (x ∷ xs) = rw (map-twice f g xs) refl
 pub posts-all : (setup : Setup) (h : List Entry) (e : Entry) → posts setup (h ▹ e) ≡ posts setup h ++ posts_to setup h e setup.sessions
 posts-all setup h e =
     let send : SessionNo → List Sent = λ s. map (λ event. record { to = s; event = event }) (events_to setup h e s) in
-    let post : Sent → Post = λ sent. record { entry = length h; session = sent.to; event = sent.event } in
+    let post : Sent → PostedEvent = λ sent. record { entry = length h; session = sent.to; event = sent.event } in
     ap (λ more. posts setup h ++ more)
     (flat-mapped post send (sessions_to setup.sessions)
     ∙ flat-each (λ s. map post (send s)) (λ s. map (post_of (length h) s) (events_to setup h e s))
@@ -63,7 +63,7 @@ pub record Framed (setup : Setup) (h : List Entry) (e : Entry) (log mid then : L
   pub due : dues_now + count ≤ dues
   pub entered : Entered mid then e
 
-room-framed : (m : Machine) (line : ℕ) (kind : Kind) → MayCall m Display [] kind
+room-framed : (m : Machine) (line : ℕ) (kind : EntryKind) → MayCall m Display [] kind
     → (dues after : ℕ) (log mid then : Logged) (owed count : ℕ) → log.history ≡ m.history → HasRoom m.setup m.shares log owed dues
     → Framed m.setup m.history (entry_of Display line [] kind Done) log mid then count dues after → HasRoom m.setup m.shares then (owed - count) after
 room-framed m line kind call dues after log mid then owed count same room framed =
@@ -80,7 +80,7 @@ room-framed m line kind call dues after log mid then owed count same room framed
     (omega (arith, small, as_many, framed.posted, framed.due, room.due))
 
 pub kept-begun : (m : Machine) (line time : ℕ) → MayCall m Display [] (Begin time)
-    → (clock : Clock) (fences views : List Bool) (sessions after : List SessionState) (log mid then : Logged) (owed count : ℕ) {dues dues_now : ℕ}
+    → (clock : FrameClock) (fences views : List Bool) (sessions after : List SessionState) (log mid then : Logged) (owed count : ℕ) {dues dues_now : ℕ}
     → log.history ≡ m.history
     → Stands m.setup log.history clock fences views sessions → HasRoom m.setup m.shares log owed dues
     → length after ≡ m.setup.sessions → AllNumbered (λ i. IsKept m.setup (seen_of m.setup (begun m.history line time) (number i))) after
@@ -93,8 +93,8 @@ kept-begun m line time call clock fences views sessions after log mid then owed 
     let e : Entry = begin_entry line time in
     let old : Stands m.setup h clock fences views sessions = rw (← same) stands in
     let now : then.history ≡ (h ▹ e) = framed.entered.history ∙ rw (framed.history, same) refl in
-    let ticks : clock.frames ≡ frames h = ap (λ (c : Clock). c.frames) old.timed in
-    let told : ratios ≡ ratios_of m.setup (h ▹ e) = noted (ap (λ (c : Clock). c.ratios) old.timed) in
+    let ticks : clock.frames ≡ frames h = ap (λ (c : FrameClock). c.frames) old.timed in
+    let told : ratios ≡ ratios_of m.setup (h ▹ e) = noted (ap (λ (c : FrameClock). c.ratios) old.timed) in
     let is : Stands m.setup (h ▹ e) (record { frames = clock.frames; is_open = true; time = time; ratios = ratios }) fences views after = record {
       legal = (old.legal, legal-entered m Display line [] (Begin time) Done call refl);
       timed = rw (frames-quiet h e refl, ticks, told) refl;
@@ -174,20 +174,21 @@ unsquashable-shown setup h line time s earlier later present opened here ends =
     (none, rw (opened, last) refl)
 
 -- there are few enough entries, and frames
-pub place-small : (m : Machine) (kind : Kind) → MayCall m Display [] kind
-    → (clock : Clock) (fences views : List Bool) (sessions : List SessionState) (log : Logged) (owed : ℕ) {dues : ℕ} → log.history ≡ m.history
+pub place-small : (m : Machine) (kind : EntryKind) → MayCall m Display [] kind
+    → (clock : FrameClock) (fences views : List Bool) (sessions : List SessionState) (log : Logged) (owed : ℕ) {dues : ℕ} → log.history ≡ m.history
     → Stands m.setup log.history clock fences views sessions → HasRoom m.setup m.shares log owed dues
     → (length log.history < 2 ^ 32) × (clock.frames + 1 < 2 ^ 32)
 place-small m kind call clock fences views sessions log owed {dues} same stands room =
     let old : Stands m.setup m.history clock fences views sessions = rw (← same) stands in
     let few = few-history m Display [] kind call old.legal log owed dues same room in
-    let ticks : clock.frames ≡ frames m.history = ap (λ (c : Clock). c.frames) old.timed in
+    let ticks : clock.frames ≡ frames m.history = ap (λ (c : FrameClock). c.frames) old.timed in
     let long : length log.history ≡ length m.history = ap length same in
     (omega (arith, few, room.total, long), omega (arith, few, room.total, ticks, frames-few m.history))
 
 -- all that is kept, after the end of a frame
 pub kept-finished : (m : Machine) (line : ℕ) → MayCall m Display [] Finish
-    → (clock : Clock) (fences signalled_now views : List Bool) (sessions after : List SessionState) (log mid then : Logged) (owed count : ℕ) {dues dues_now : ℕ}
+    → (clock : FrameClock) (fences signalled_now views : List Bool) (sessions after : List SessionState) (log mid then : Logged) (owed count : ℕ)
+    {dues dues_now : ℕ}
     → log.history ≡ m.history
     → Stands m.setup log.history clock fences views sessions → HasRoom m.setup m.shares log owed dues
     → length after ≡ m.setup.sessions → AllNumbered (λ i. IsKept m.setup (seen_of m.setup (finished m.history line) (number i))) after
@@ -202,10 +203,10 @@ kept-finished m line call clock fences signalled_now views sessions after log mi
     let e : Entry = finish_entry line in
     let old : Stands m.setup h clock fences views sessions = rw (← same) stands in
     let now : then.history ≡ (h ▹ e) = framed.entered.history ∙ rw (framed.history, same) refl in
-    let ticks : clock.frames ≡ frames h = ap (λ (c : Clock). c.frames) old.timed in
-    let times : clock.time ≡ begin_time h = ap (λ (c : Clock). c.time) old.timed in
+    let ticks : clock.frames ≡ frames h = ap (λ (c : FrameClock). c.frames) old.timed in
+    let times : clock.time ≡ begin_time h = ap (λ (c : FrameClock). c.time) old.timed in
     let more : frames (h ▹ e) ≡ frames h + 1 = sym (add-one (frames h)) in
-    let told : ratios ≡ ratios_of m.setup (h ▹ e) = noted (ap (λ (c : Clock). c.ratios) old.timed) in
+    let told : ratios ≡ ratios_of m.setup (h ▹ e) = noted (ap (λ (c : FrameClock). c.ratios) old.timed) in
     let is : Stands m.setup (h ▹ e) (record { frames = clock.frames + 1; is_open = false; time = clock.time; ratios = ratios }) signalled_now views after =
     record {
       legal = (old.legal, legal-entered m Display line [] Finish Done call refl);

@@ -12,7 +12,7 @@ use Rattle.flat_scene.specs.declared.journal.Entry.{Entry}
 use Rattle.flat_scene.specs.declared.setup.Setup.{Setup}
 use Rattle.flat_scene.specs.Draft.{changed_at}
 use Rattle.flat_scene.specs.History.{◌▹◌, is_begin, is_finish, is_session, published, closes}
-use Rattle.flat_states.specs.declared.state.Account.{Account}
+use Rattle.flat_states.specs.declared.state.SessionCounts.{SessionCounts}
 use Rattle.flat_states.specs.declared.state.SessionState.{SessionState}
 use Rattle.flat_rules.specs.Numbers.{number, AllNumbered}
 use Rattle.flat_states.specs.Kept.{IsKept}
@@ -67,7 +67,8 @@ seen-closed setup h e s is closes_it mine =
     ) refl
 
 -- an account that has as many presents
-pub kept-account : (setup : Setup) (seen : Seen) (state : SessionState) (f : Account → Account) → ((a : Account) → (f a).presents ≡ a.presents)
+pub kept-account : (setup : Setup) (seen : Seen) (state : SessionState) (f : SessionCounts → SessionCounts)
+    → ((a : SessionCounts) → (f a).presents ≡ a.presents)
     → IsKept setup seen state
     → IsKept setup (record seen { account = f seen.account }) (record state { account = f state.account })
 kept-account setup seen state f same kept = record {

@@ -5,7 +5,7 @@ use Rattle.std.proofs.lemmas.List.Sums.{prefix_len-le-length}
 use Rattle.std.proofs.lemmas.List.Folds.{length-prefix_len}
 use Rattle.std.specs.Prelude.{nat_lt, nat_le, slice_index_or, IsTrue, cond, ◌&&◌, ◌==◌, take_while}
 use Rattle.flat_scene.proofs.lemmas.TakingLemmas.{taken-made}
-use Rattle.flat_states.specs.declared.clock.Clock.{Clock}
+use Rattle.flat_states.specs.declared.frame_clock.FrameClock.{FrameClock}
 use Rattle.flat_scene.specs.Setups.{is_declared}
 use Rattle.flat_states.specs.Machines.{Stands}
 use Rattle.flat_rules.specs.Numbers.{number, AllNumbered}
@@ -15,7 +15,7 @@ use Rattle.flat_scene.specs.declared.journal.Entry.{Entry}
 use Rattle.flat_scene.specs.declared.setup.Setup.{Setup}
 use Rattle.flat_scene.specs.History.{presents}
 use Rattle.flat_scene.specs.Frames.{taken, waiting}
-use Rattle.flat_states.specs.declared.state.Account.{Account}
+use Rattle.flat_states.specs.declared.state.SessionCounts.{SessionCounts}
 use Rattle.flat_states.specs.declared.state.SessionState.{SessionState}
 use Rattle.flat_states.specs.Kept.{IsKept, taken_in, waiting_in, credits_in, release_of, kept_of, meant}
 use Rattle.flat_states.specs.Seen.{Seen, seen_of}
@@ -43,7 +43,7 @@ kept-taken : (setup : Setup) (seen : Seen) (state : SessionState) → IsKept set
     → (gone : Bool) → state.let_go ≡ gone → cond gone (state.account.presents - length state.going.items) state.queue.taken ≡ seen.taken
 kept-taken setup seen state kept count true gone =
     let waits : length state.going.items ≡ length seen.waiting = kept-waiting setup seen state kept true gone in
-    omega (arith, waits, ap (λ (a : Account). a.presents) kept.account, count)
+    omega (arith, waits, ap (λ (a : SessionCounts). a.presents) kept.account, count)
 kept-taken setup seen state kept count false gone = kept.taken gone
 
 pub taken-kept : (setup : Setup) (seen : Seen) (state : SessionState) → IsKept setup seen state → seen.taken + length seen.waiting ≡ seen.account.presents
@@ -72,7 +72,7 @@ pub declared-some : (m n : ℕ) → (nat_lt 0 m && nat_le m n) ≡ true → (0 <
 declared-some m n h = (lt-of 0 m (and-left (nat_lt 0 m) (nat_le m n) h), le-of m n (and-right (nat_lt 0 m) (nat_le m n) h))
 
 -- what is kept of a declared session
-pub kept-session : (setup : Setup) (h : List Entry) (clock : Clock) (fences views : List Bool) (sessions : List SessionState) (s : SessionNo)
+pub kept-session : (setup : Setup) (h : List Entry) (clock : FrameClock) (fences views : List Bool) (sessions : List SessionState) (s : SessionNo)
     (state : SessionState) → Stands setup h clock fences views sessions
     → IsTrue (is_declared setup s) → state ≡ slice_index_or sessions (s.0 - 1) state → IsKept setup (seen_of setup h s) state
 kept-session setup h clock fences views sessions s state stands declared is =

@@ -4,7 +4,7 @@ use Rattle.std.proofs.Common.{append_assoc}
 use Rattle.std.specs.List.{list_any}
 use Rattle.std.specs.Prelude.{cond, ◌||◌, nat_lt}
 use Rattle.std.proofs.lemmas.List.{map-append}
-use Rattle.flat_scene.specs.declared.journal.Post.{Post}
+use Rattle.flat_scene.specs.declared.journal.PostedEvent.{PostedEvent}
 use Rattle.flat_base.specs.declared.ids.FenceNo.{FenceNo}
 use Rattle.flat_base.specs.declared.ids.SessionNo.{SessionNo}
 use Rattle.flat_scene.specs.declared.journal.Entry.{Entry}
@@ -25,11 +25,12 @@ use Rattle.std.proofs.Math.Bool.{or_assoc}
 
 -- ---- two runs of posts
 
-pub told-then : (f : Event → Post) (old mid new : List Post) (xs ys events : List Event) → mid ≡ old ++ map f xs → new ≡ mid ++ map f ys → events ≡ xs ++ ys
+pub told-then : (f : Event → PostedEvent) (old mid new : List PostedEvent) (xs ys events : List Event) → mid ≡ old ++ map f xs → new ≡ mid ++ map f ys
+    → events ≡ xs ++ ys
     → new ≡ old ++ map f events
 told-then f old mid new xs ys events first second all =
-    second ∙ ap (λ (ps : List Post). ps ++ map f ys) first ∙ append_assoc old (map f xs) (map f ys)
-    ∙ ap (λ (ps : List Post). old ++ ps) (sym (map-append f xs ys)) ∙ ap (λ (es : List Event). old ++ map f es) (sym all)
+    second ∙ ap (λ (ps : List PostedEvent). ps ++ map f ys) first ∙ append_assoc old (map f xs) (map f ys)
+    ∙ ap (λ (ps : List PostedEvent). old ++ ps) (sym (map-append f xs ys)) ∙ ap (λ (es : List Event). old ++ map f es) (sym all)
 
 -- ---- session by session
 

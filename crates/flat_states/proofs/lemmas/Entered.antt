@@ -3,10 +3,10 @@ use Rattle.std.proofs.Common.{◌≡◌, ℕ, ◌+◌, ◌*◌, ◌≤◌, Bool,
 use Rattle.flat_base.specs.declared.ids.Actor.{Actor}
 use Rattle.flat_scene.specs.declared.calls.Call.{Call}
 use Rattle.flat_scene.specs.declared.journal.Entry.{Entry}
-use Rattle.flat_scene.specs.declared.journal.Kind.{Kind}
+use Rattle.flat_scene.specs.declared.journal.EntryKind.{EntryKind}
 use Rattle.flat_scene.specs.declared.journal.Reply.{Reply}
 use Rattle.flat_scene.specs.History.{◌▹◌, is_begin, is_finish}
-use Rattle.flat_states.specs.declared.clock.Clock.{Clock}
+use Rattle.flat_states.specs.declared.frame_clock.FrameClock.{FrameClock}
 use Rattle.flat_states.specs.declared.state.SessionState.{SessionState}
 use Rattle.flat_states.specs.Machines.{clock_then, Machine, MayCall, Stands, HasRoom}
 use Rattle.flat_facts.specs.Begins.{entry_of}
@@ -21,7 +21,7 @@ use Rattle.flat_facts.proofs.lemmas.Between.{is_viewport, posted-between}
 use Rattle.flat_states.proofs.lemmas.Steps.{Changed, legal-entered, posts-none, room-entered, stands-entered}
 
 -- where nothing is posted
-pub room-quiet : (m : Machine) (who : Actor) (line : ℕ) (calls : List Call) (kind : Kind) (reply : Reply) → MayCall m who calls kind
+pub room-quiet : (m : Machine) (who : Actor) (line : ℕ) (calls : List Call) (kind : EntryKind) (reply : Reply) → MayCall m who calls kind
     → Legal m.setup (m.history ▹ entry_of who line calls kind reply)
     → is_begin kind ≡ false → is_finish kind ≡ false → is_viewport kind ≡ false
     → (log after : Logged) (owed dues then : ℕ) → log.history ≡ m.history → HasRoom m.setup m.shares log owed dues
@@ -45,10 +45,10 @@ pub record Entered (log then : Logged) (e : Entry) : Type 0 where
   pub post_room : then.post_room ≡ log.post_room
 
 -- all that is kept, after an entry that posts nothing and owes nothing
-pub kept-entered : (m : Machine) (who : Actor) (line : ℕ) (calls : List Call) (kind : Kind) (reply : Reply) → MayCall m who calls kind
+pub kept-entered : (m : Machine) (who : Actor) (line : ℕ) (calls : List Call) (kind : EntryKind) (reply : Reply) → MayCall m who calls kind
     → reply ≡ reply_to m.setup m.history who calls kind
     → is_begin kind ≡ false → is_finish kind ≡ false → is_viewport kind ≡ false
-    → (clock : Clock) (fences fences_now views views_now : List Bool) (sessions after : List SessionState) (log then : Logged) (owed dues dues_now : ℕ)
+    → (clock : FrameClock) (fences fences_now views views_now : List Bool) (sessions after : List SessionState) (log then : Logged) (owed dues dues_now : ℕ)
     → log.history ≡ m.history
     → Stands m.setup log.history clock fences views sessions → HasRoom m.setup m.shares log owed dues
     → Changed m (entry_of who line calls kind reply) fences fences_now views views_now → length after ≡ length sessions

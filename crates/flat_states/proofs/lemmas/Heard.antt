@@ -13,12 +13,12 @@ use Rattle.flat_scene.specs.declared.calls.Call.{Call}
 use Rattle.flat_scene.specs.declared.calls.PresentArgs.{PresentArgs}
 use Rattle.flat_scene.specs.declared.calls.ViewportProps.{ViewportProps}
 use Rattle.flat_scene.specs.declared.journal.Entry.{Entry}
-use Rattle.flat_scene.specs.declared.journal.Kind.{Kind}
-use Rattle.flat_scene.specs.declared.journal.Kind.TheVariants.{Close, Get, Present, View, Viewport, Wait}
+use Rattle.flat_scene.specs.declared.journal.EntryKind.{EntryKind}
+use Rattle.flat_scene.specs.declared.journal.EntryKind.TheVariants.{Close, Get, Present, View, Viewport, Wait}
 use Rattle.flat_scene.specs.declared.journal.Reply.{Reply}
 use Rattle.flat_scene.specs.declared.journal.Reply.TheVariants.{Closed, Done, Held, Met, Now, Polled, Presented, Unmet}
 use Rattle.flat_scene.specs.declared.calls.Watch.{Watch}
-use Rattle.flat_scene.specs.declared.script.Cond.{Cond}
+use Rattle.flat_scene.specs.declared.script.WaitCondition.{WaitCondition}
 use Rattle.flat_scene.specs.Draft.{changed_at}
 use Rattle.flat_scene.specs.History.{closes}
 use Rattle.flat_queue.specs.Line.{credits_of, pushed}
@@ -74,7 +74,7 @@ pub heard-close : (why : Option Reason) (state : SessionState)
 heard-close None state = refl
 heard-close (Some reason) state = refl
 
-pub heard-wait : (c : Cond) (wanted value : ℕ) (state : SessionState) → after_reply (Wait c) (waited wanted value) state ≡ state
+pub heard-wait : (c : WaitCondition) (wanted value : ℕ) (state : SessionState) → after_reply (Wait c) (waited wanted value) state ≡ state
 heard-wait c wanted value state = by_test (nat_le wanted value)
   where
     by_test : (b : Bool) → after_reply (Wait c) (cond b (Met value) (Unmet value)) state ≡ state
@@ -102,7 +102,7 @@ entered-of e s mine sessions state placed is =
     ap (λ (x : SessionState). slice_set sessions (s.0 - 1) (after_entry e x)) is ∙ sym (changed-set (after_entry e) sessions (s.0 - 1) state below)
     ∙ ap (λ (n : ℕ). changed_at n (after_entry e) sessions) place ∙ sym (ap (λ (who : Actor). entered_by who e sessions) mine)
 
-pub entered-set : (s : SessionNo) (line : ℕ) (calls : List Call) (kind : Kind) (reply : Reply) (sessions : List SessionState) (state : SessionState)
+pub entered-set : (s : SessionNo) (line : ℕ) (calls : List Call) (kind : EntryKind) (reply : Reply) (sessions : List SessionState) (state : SessionState)
     → IsPlaced (length sessions) (Session s) → state ≡ slice_index_or sessions (s.0 - 1) state
     → entered_in (entry_of (Session s) line calls kind reply) sessions ≡ slice_set sessions (s.0 - 1) (after_reply kind reply state)
 entered-set s line calls kind reply sessions state placed is = sym (entered-of (entry_of (Session s) line calls kind reply) s refl sessions state placed is)
@@ -113,7 +113,7 @@ set-twice (z ∷ xs) zero x y = refl
 set-twice (z ∷ xs) (suc i) x y = ap (λ ys. z ∷ ys) (set-twice xs i x y)
 
 -- where something else of that session was changed before
-pub entered-changed : (s : SessionNo) (line : ℕ) (calls : List Call) (kind : Kind) (reply : Reply) (sessions : List SessionState) (new : SessionState)
+pub entered-changed : (s : SessionNo) (line : ℕ) (calls : List Call) (kind : EntryKind) (reply : Reply) (sessions : List SessionState) (new : SessionState)
     → IsPlaced (length sessions) (Session s)
     → entered_in (entry_of (Session s) line calls kind reply) (slice_set sessions (s.0 - 1) new) ≡ slice_set sessions (s.0 - 1) (after_reply kind reply new)
 entered-changed s line calls kind reply sessions new placed =
@@ -144,7 +144,7 @@ changed-none f same n (x ∷ xs) = rw (same x, changed-none f same (n - 1) xs) (
     by_test false = refl
 
 -- one whose reply decides nothing
-pub entered-none : (who : Actor) (line : ℕ) (calls : List Call) (kind : Kind) (reply : Reply) (sessions : List SessionState)
+pub entered-none : (who : Actor) (line : ℕ) (calls : List Call) (kind : EntryKind) (reply : Reply) (sessions : List SessionState)
     → ((state : SessionState) → after_reply kind reply state ≡ state)
     → entered_in (entry_of who line calls kind reply) sessions ≡ sessions
 entered-none Display line calls kind reply sessions same = refl

@@ -9,16 +9,16 @@ use Rattle.flat_base.specs.declared.ids.FenceNo.{FenceNo}
 use Rattle.flat_base.specs.declared.ids.SessionNo.{SessionNo}
 use Rattle.flat_scene.specs.declared.calls.Call.{Call}
 use Rattle.flat_scene.specs.declared.journal.Entry.{Entry}
-use Rattle.flat_scene.specs.declared.journal.Kind.{Kind}
-use Rattle.flat_scene.specs.declared.journal.Kind.TheVariants.{Close, Signal, End, Wait}
+use Rattle.flat_scene.specs.declared.journal.EntryKind.{EntryKind}
+use Rattle.flat_scene.specs.declared.journal.EntryKind.TheVariants.{Close, Signal, End, Wait}
 use Rattle.flat_scene.specs.declared.journal.Reply.{Reply}
 use Rattle.flat_scene.specs.declared.journal.Reply.TheVariants.{Done}
-use Rattle.flat_scene.specs.declared.script.Cond.{Cond}
+use Rattle.flat_scene.specs.declared.script.WaitCondition.{WaitCondition}
 use Rattle.flat_scene.specs.declared.setup.Setup.{Setup}
 use Rattle.flat_scene.specs.History.{◌▹◌, closes, is_begin, is_finish, is_session}
 use Rattle.flat_scene.specs.Setups.{is_declared}
 use Rattle.flat_base.proofs.lemmas.Tests.{and-right}
-use Rattle.flat_states.specs.declared.clock.Clock.{Clock}
+use Rattle.flat_states.specs.declared.frame_clock.FrameClock.{FrameClock}
 use Rattle.flat_states.specs.declared.state.SessionState.{SessionState}
 use Rattle.flat_states.specs.Machines.{Machine, MayCall, Stands, HasRoom, clock_then, due}
 use Rattle.flat_facts.specs.Begins.{entry_of}
@@ -35,16 +35,17 @@ use Rattle.flat_facts.proofs.lemmas.Between.{is_viewport}
 use Rattle.flat_states.proofs.lemmas.Entered.{Entered, kept-entered}
 use Rattle.flat_states.proofs.lemmas.Steps.{Changed}
 
-pub declared-of : (setup : Setup) (kind : Kind) (s : SessionNo) → may_act setup kind (Session s) ≡ true → IsTrue (is_declared setup s)
+pub declared-of : (setup : Setup) (kind : EntryKind) (s : SessionNo) → may_act setup kind (Session s) ≡ true → IsTrue (is_declared setup s)
 declared-of setup kind s may = and-right (session_may kind) (is_declared setup s) may
 
-pub looks-declared : (setup : Setup) (c : Cond) (s : SessionNo) → may_act setup (Wait c) (Session s) ≡ true → IsTrue (is_declared setup s)
+pub looks-declared : (setup : Setup) (c : WaitCondition) (s : SessionNo) → may_act setup (Wait c) (Session s) ≡ true → IsTrue (is_declared setup s)
 looks-declared setup c s may = declared-of setup (Wait c) s may
 
 -- the sessions after an entry of one of them
-pub each-one : (m : Machine) (s : SessionNo) (line : ℕ) (calls : List Call) (kind : Kind) (reply : Reply) → MayCall m (Session s) calls kind
+pub each-one : (m : Machine) (s : SessionNo) (line : ℕ) (calls : List Call) (kind : EntryKind) (reply : Reply) → MayCall m (Session s) calls kind
     → is_begin kind ≡ false → is_finish kind ≡ false
-    → (clock : Clock) (fences views : List Bool) (sessions : List SessionState) (state new : SessionState) → state ≡ slice_index_or sessions (s.0 - 1) state
+    → (clock : FrameClock) (fences views : List Bool) (sessions : List SessionState) (state new : SessionState)
+    → state ≡ slice_index_or sessions (s.0 - 1) state
     → Stands m.setup m.history clock fences views sessions
     → (IsKept m.setup (seen_of m.setup m.history s) state → IsKept m.setup (seen_of m.setup (m.history ▹ entry_of (Session s) line calls kind reply) s) new)
     → AllNumbered (λ i. IsKept m.setup (seen_of m.setup (m.history ▹ entry_of (Session s) line calls kind reply) (number i))) (slice_set sessions (s.0 - 1) new)
@@ -63,10 +64,11 @@ both-same : {a b c d : ℕ} → a ≡ b → c ≡ d → a + c ≡ b + d
 both-same p q = omega (arith, p, q)
 
 -- all that is kept, where the session owes as before
-pub kept-one : (m : Machine) (s : SessionNo) (line : ℕ) (calls : List Call) (kind : Kind) (reply : Reply) → MayCall m (Session s) calls kind
+pub kept-one : (m : Machine) (s : SessionNo) (line : ℕ) (calls : List Call) (kind : EntryKind) (reply : Reply) → MayCall m (Session s) calls kind
     → reply ≡ reply_to m.setup m.history (Session s) calls kind
     → is_begin kind ≡ false → is_finish kind ≡ false → is_viewport kind ≡ false
-    → (clock : Clock) (fences fences_now views views_now : List Bool) (sessions : List SessionState) (log then : Logged) (owed : ℕ) {due_back due_back_now : ℕ}
+    → (clock : FrameClock) (fences fences_now views views_now : List Bool) (sessions : List SessionState) (log then : Logged) (owed : ℕ)
+    {due_back due_back_now : ℕ}
     (state new : SessionState)
     → state ≡ slice_index_or sessions (s.0 - 1) state → log.history ≡ m.history
     → Stands m.setup log.history clock fences views sessions → HasRoom m.setup m.shares log owed (sum_by due sessions + due_back)
@@ -90,7 +92,7 @@ kept-one m s line calls kind reply call replied no_begin no_finish no_viewport c
 -- ---- calls alone
 
 -- an actor that may act has a place
-pub placed-of : (setup : Setup) (kind : Kind) (who : Actor) (n : ℕ) → n ≡ setup.sessions → may_act setup kind who ≡ true → IsPlaced n who
+pub placed-of : (setup : Setup) (kind : EntryKind) (who : Actor) (n : ℕ) → n ≡ setup.sessions → may_act setup kind who ≡ true → IsPlaced n who
 placed-of setup kind Display n same may = tt
 placed-of setup kind (Probe p) n same may = tt
 placed-of setup kind (Session s) n same may = rw same (declared-some s.0 setup.sessions (declared-of setup kind s may))
@@ -101,10 +103,10 @@ seen-quiet setup h e s quiet stays true mine = seen-plain setup h e s quiet stay
 seen-quiet setup h e s quiet stays false other = seen-other setup h e s quiet.no_begin quiet.no_finish other
 
 -- all that is kept, after an entry that only carries calls: the sessions are as they were
-pub kept-quiet : (m : Machine) (who : Actor) (line : ℕ) (calls : List Call) (kind : Kind) (reply : Reply) → MayCall m who calls kind
+pub kept-quiet : (m : Machine) (who : Actor) (line : ℕ) (calls : List Call) (kind : EntryKind) (reply : Reply) → MayCall m who calls kind
     → reply ≡ reply_to m.setup m.history who calls kind
     → IsPlainOne (entry_of who line calls kind reply) → closes reply ≡ false → is_viewport kind ≡ false
-    → (clock : Clock) (fences fences_now views views_now : List Bool) (sessions after : List SessionState) (log then : Logged) (owed : ℕ)
+    → (clock : FrameClock) (fences fences_now views views_now : List Bool) (sessions after : List SessionState) (log then : Logged) (owed : ℕ)
     {due_back due_back_now : ℕ} → log.history ≡ m.history
     → Stands m.setup log.history clock fences views sessions → HasRoom m.setup m.shares log owed (sum_by due sessions + due_back)
     → Changed m (entry_of who line calls kind reply) fences fences_now views views_now → after ≡ sessions → due_back_now ≡ due_back
@@ -132,7 +134,7 @@ plain-signal who line calls f = record { no_begin = refl; no_finish = refl; no_p
 pub plain-end : (who : Actor) (line : ℕ) (calls : List Call) (refused : ℕ) → IsPlainOne (entry_of who line calls (End refused) Done)
 plain-end who line calls refused = record { no_begin = refl; no_finish = refl; no_poll = refl; no_view = refl; none = λ made. refl }
 
-pub plain-wait : (who : Actor) (line : ℕ) (calls : List Call) (c : Cond) (reply : Reply) → IsPlainOne (entry_of who line calls (Wait c) reply)
+pub plain-wait : (who : Actor) (line : ℕ) (calls : List Call) (c : WaitCondition) (reply : Reply) → IsPlainOne (entry_of who line calls (Wait c) reply)
 plain-wait who line calls c reply = record { no_begin = refl; no_finish = refl; no_poll = refl; no_view = refl; none = λ made. refl }
 
 pub plain-close : (who : Actor) (line : ℕ) (calls : List Call) (why : Option Reason) (reply : Reply) → IsPlainOne (entry_of who line calls (Close why) reply)

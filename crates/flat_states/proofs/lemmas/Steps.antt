@@ -10,8 +10,8 @@ use Rattle.flat_base.specs.declared.ids.PairNo.{PairNo}
 use Rattle.flat_base.specs.declared.ids.SessionNo.{SessionNo}
 use Rattle.flat_scene.specs.declared.calls.Call.{Call}
 use Rattle.flat_scene.specs.declared.journal.Entry.{Entry}
-use Rattle.flat_scene.specs.declared.journal.Kind.{Kind}
-use Rattle.flat_scene.specs.declared.journal.Kind.TheVariants.{Signal}
+use Rattle.flat_scene.specs.declared.journal.EntryKind.{EntryKind}
+use Rattle.flat_scene.specs.declared.journal.EntryKind.TheVariants.{Signal}
 use Rattle.flat_scene.specs.declared.journal.Reply.{Reply}
 use Rattle.flat_scene.specs.declared.setup.Setup.{Setup}
 use Rattle.flat_scene.specs.History.{◌▹◌, is_begin, is_finish, Published}
@@ -20,7 +20,7 @@ use Rattle.flat_scene.specs.Setups.{is_declared}
 use Rattle.flat_scene.specs.Frames.{signals, going, sessions_to}
 use Rattle.flat_base.proofs.lemmas.Tests.{and-right}
 use Rattle.flat_fence.specs.Fences.{has}
-use Rattle.flat_states.specs.declared.clock.Clock.{Clock}
+use Rattle.flat_states.specs.declared.frame_clock.FrameClock.{FrameClock}
 use Rattle.flat_states.specs.declared.state.SessionState.{SessionState}
 use Rattle.flat_states.specs.Machines.{Machine, MayCall, Stands, HasRoom, made, clock_of, clock_then}
 use Rattle.flat_facts.specs.Begins.{entry_of}
@@ -38,7 +38,7 @@ use Rattle.flat_facts.proofs.lemmas.Tests.{or-false}
 use Rattle.flat_facts.proofs.lemmas.ViewUses.{viewed-more}
 
 -- an entry that an actor may make, with the reply of the rules, is legal
-pub legal-entered : (m : Machine) (who : Actor) (line : ℕ) (calls : List Call) (kind : Kind) (reply : Reply) → MayCall m who calls kind
+pub legal-entered : (m : Machine) (who : Actor) (line : ℕ) (calls : List Call) (kind : EntryKind) (reply : Reply) → MayCall m who calls kind
     → reply ≡ reply_to m.setup m.history who calls kind
     → LegalEntry m.setup m.history (entry_of who line calls kind reply)
 legal-entered m who line calls kind reply call replied = record { may = call.may; reply = replied }
@@ -80,10 +80,10 @@ signalled m who line calls reply f {views = views} size members = record {
   viewed = λ p. or-false (has_end views p);
 }
 
-pub stands-entered : (m : Machine) (who : Actor) (line : ℕ) (calls : List Call) (kind : Kind) (reply : Reply) → MayCall m who calls kind
+pub stands-entered : (m : Machine) (who : Actor) (line : ℕ) (calls : List Call) (kind : EntryKind) (reply : Reply) → MayCall m who calls kind
     → reply ≡ reply_to m.setup m.history who calls kind
     → is_begin kind ≡ false → is_finish kind ≡ false
-    → (clock : Clock) (fences fences_now views views_now : List Bool) (sessions after : List SessionState)
+    → (clock : FrameClock) (fences fences_now views views_now : List Bool) (sessions after : List SessionState)
     → Stands m.setup m.history clock fences views sessions
     → Changed m (entry_of who line calls kind reply) fences fences_now views views_now → length after ≡ length sessions
     → AllNumbered (λ i. IsKept m.setup (seen_of m.setup (m.history ▹ entry_of who line calls kind reply) (number i))) after
@@ -104,7 +104,7 @@ stands-entered m who line calls kind reply call replied no_begin no_finish clock
 below-more : (m n : ℕ) → nat_le m n ≡ true → m < n + 1
 below-more m n le = grind (arith, nat_tests)
 
-place-within : (setup : Setup) (kind : Kind) (who : Actor) → may_act setup kind who ≡ true → seat_number who < setup.sessions + 1
+place-within : (setup : Setup) (kind : EntryKind) (who : Actor) → may_act setup kind who ≡ true → seat_number who < setup.sessions + 1
 place-within setup kind Display may = omega arith
 place-within setup kind (Session s) may = below-more s.0 setup.sessions
     (and-right (nat_lt 0 s.0) (nat_le s.0 setup.sessions) (and-right (session_may kind) (is_declared setup s) may))
@@ -116,7 +116,7 @@ all-placed setup [] n same legal = tt
 all-placed setup (h ▹ e) n same legal = (all-placed setup h n same legal.0, rw same (place-within setup e.kind e.actor legal.1.may.acts))
 
 -- there are fewer entries than the shares allow
-pub few-history : (m : Machine) (who : Actor) (calls : List Call) (kind : Kind) → MayCall m who calls kind → Legal m.setup m.history
+pub few-history : (m : Machine) (who : Actor) (calls : List Call) (kind : EntryKind) → MayCall m who calls kind → Legal m.setup m.history
     → (log : Logged) (owed dues : ℕ) → log.history ≡ m.history → HasRoom m.setup m.shares log owed dues → length m.history < sum m.shares
 few-history m who calls kind call legal log owed dues same room =
     let fair : (p : ℕ) → p < length m.shares → made p m.history ≤ slice_index m.shares p = rw (← same) room.fair in
@@ -124,19 +124,19 @@ few-history m who calls kind call legal log owed dues same room =
     few-entries m.shares m.history (seat_number who) (all-placed m.setup m.history (length m.shares) room.actors legal) placed fair call.share
 
 -- so the history is short
-pub short-history : (m : Machine) (who : Actor) (calls : List Call) (kind : Kind) → MayCall m who calls kind → Legal m.setup m.history
+pub short-history : (m : Machine) (who : Actor) (calls : List Call) (kind : EntryKind) → MayCall m who calls kind → Legal m.setup m.history
     → (log : Logged) (owed dues : ℕ) → log.history ≡ m.history → HasRoom m.setup m.shares log owed dues → length m.history < 2 ^ 32 - 1
 short-history m who calls kind call legal log owed dues same room = omega (arith, few-history m who calls kind call legal log owed dues same room, room.total)
 
 -- who may enter has room
-pub has-room : (m : Machine) (who : Actor) (calls : List Call) (kind : Kind) → MayCall m who calls kind → Legal m.setup m.history
+pub has-room : (m : Machine) (who : Actor) (calls : List Call) (kind : EntryKind) → MayCall m who calls kind → Legal m.setup m.history
     → (log : Logged) (owed dues : ℕ) → log.history ≡ m.history → HasRoom m.setup m.shares log owed dues → 0 < log.room
 has-room m who calls kind call legal log owed dues same room =
     let entries : sum m.shares ≤ length m.history + log.room = rw (← same) room.entries in
     omega (arith, few-history m who calls kind call legal log owed dues same room, entries)
 
 -- what is owed is a number of the machine
-pub owed-small : (m : Machine) (who : Actor) (calls : List Call) (kind : Kind) → MayCall m who calls kind → Legal m.setup m.history
+pub owed-small : (m : Machine) (who : Actor) (calls : List Call) (kind : EntryKind) → MayCall m who calls kind → Legal m.setup m.history
     → (log : Logged) (owed dues : ℕ) → log.history ≡ m.history → HasRoom m.setup m.shares log owed dues → owed + 2 < 2 ^ 64
 owed-small m who calls kind call legal log owed dues same room =
     let small : length log.posts + owed ≤ 2 * length m.history = rw (← same) room.small in
@@ -162,7 +162,7 @@ pub posts-none : (setup : Setup) (h : List Entry) (e : Entry) → posted setup h
 posts-none setup h e none = rw none (append-nil _)
 
 -- room after an entry, whatever was posted
-pub room-entered : (m : Machine) (who : Actor) (line : ℕ) (calls : List Call) (kind : Kind) (reply : Reply) → MayCall m who calls kind
+pub room-entered : (m : Machine) (who : Actor) (line : ℕ) (calls : List Call) (kind : EntryKind) (reply : Reply) → MayCall m who calls kind
     → (log after : Logged) (owed owes dues then : ℕ) → log.history ≡ m.history → HasRoom m.setup m.shares log owed dues
     → after.history ≡ (log.history ▹ entry_of who line calls kind reply) → after.posts ≡ posts m.setup (m.history ▹ entry_of who line calls kind reply)
     → after.room + 1 ≡ log.room

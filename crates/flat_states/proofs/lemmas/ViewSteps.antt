@@ -8,12 +8,12 @@ use Rattle.flat_base.specs.declared.ids.PairNo.{PairNo}
 use Rattle.flat_base.specs.declared.ids.SessionNo.{SessionNo}
 use Rattle.flat_scene.specs.declared.calls.Call.{Call}
 use Rattle.flat_scene.specs.declared.journal.Entry.{Entry}
-use Rattle.flat_scene.specs.declared.journal.Kind.TheVariants.{View}
+use Rattle.flat_scene.specs.declared.journal.EntryKind.TheVariants.{View}
 use Rattle.flat_scene.specs.declared.journal.Reply.TheVariants.{Done}
 use Rattle.flat_scene.specs.declared.setup.Setup.{Setup}
 use Rattle.flat_scene.specs.History.{◌▹◌}
 use Rattle.flat_base.proofs.lemmas.Tests.{and-left}
-use Rattle.flat_states.specs.declared.state.Account.{Account}
+use Rattle.flat_states.specs.declared.state.SessionCounts.{SessionCounts}
 use Rattle.flat_states.specs.declared.state.SessionState.{SessionState}
 use Rattle.flat_states.specs.Machines.{Machine, MayCall, due}
 use Rattle.flat_facts.specs.Begins.{entry_of}
@@ -97,7 +97,8 @@ pub view-kept : (setup : Setup) (h : List Entry) (s : SessionNo) (line : ℕ) (c
     → IsKept setup (seen_of setup h s) state
     → IsKept setup (seen_of setup (h ▹ entry_of (Session s) line calls (View p) (use_reply is_held)) s) (after_view p is_held state)
 view-kept setup h s line calls p true state kept =
-    rw (seen-viewed setup h s line calls p) (kept-account setup (seen_of setup h s) state (λ (a : Account). let b : Account = record a { view = Some p } in b)
+    rw (seen-viewed setup h s line calls p) (kept-account setup (seen_of setup h s) state
+    (λ (a : SessionCounts). let b : SessionCounts = record a { view = Some p } in b)
     (λ a. refl) kept)
 view-kept setup h s line calls p false state kept =
     rw (seen-closed setup h (entry_of (Session s) line calls (View p) refused_token) s (plain-view s line calls p) refl (is-session s))

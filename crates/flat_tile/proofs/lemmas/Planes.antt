@@ -12,7 +12,7 @@ use Rattle.flat_ink.specs.Inks.{inked, IsInk}
 use Rattle.flat_ink.specs.Pixels.{covers}
 use Rattle.flat_tile.specs.Tiles.{x_at, y_at, channel_at, pixels_of, IsTile}
 use Rattle.flat_ink.specs.declared.area.Area.{Area}
-use Rattle.flat_ink.specs.declared.ink.Ink.{Ink}
+use Rattle.flat_ink.specs.declared.channel_ink.ChannelInk.{ChannelInk}
 use Rattle.flat_tile.specs.declared.tile.Tile.{Tile}
 use Rattle.flat_ink.proofs.lemmas.Ranges.{either, put-before, put-inside, put-after}
 use Rattle.flat_tile.proofs.lemmas.Rows.{in-row}
@@ -68,7 +68,7 @@ which-channel s m some small red green blue =
     (λ h. either _ _ (cases_lt (m / s) 2) (λ l. green (omega arith)) (λ k. blue (omega arith)))
 
 -- ink of an item, laid where the item covers, is the item's step
-ink-step : (c : ℕ) (item : DrawItem) (cut : Area) (ink : Ink) (px py was now : ℕ) → IsInk c item cut ink
+ink-step : (c : ℕ) (item : DrawItem) (cut : Area) (ink : ChannelInk) (px py was now : ℕ) → IsInk c item cut ink
     → (has_pixel cut px py ≡ true → covers item px py ≡ true)
     → now ≡ (if has_pixel cut px py then inked ink (px - cut.x0) (py - cut.y0) was else was)
     → now ≡ (if has_pixel cut px py then channel_step c item px py was else was)
@@ -83,7 +83,7 @@ of-channel : (c d : ℕ) (item : DrawItem) (b : Bool) (px py was now : ℕ) → 
     → now ≡ (if b then channel_step d item px py was else was)
 of-channel c d item b px py was now e h = h ∙ sym (ap (λ (n : ℕ). if b then channel_step n item px py was else was) e)
 
-pub item-channel : (c d : ℕ) (item : DrawItem) (cut : Area) (ink : Ink) (px py was now : ℕ) → d ≡ c → IsInk c item cut ink
+pub item-channel : (c d : ℕ) (item : DrawItem) (cut : Area) (ink : ChannelInk) (px py was now : ℕ) → d ≡ c → IsInk c item cut ink
     → (has_pixel cut px py ≡ true → covers item px py ≡ true)
     → now ≡ (if has_pixel cut px py then inked ink (px - cut.x0) (py - cut.y0) was else was)
     → now ≡ (if has_pixel cut px py then channel_step d item px py was else was)
@@ -91,11 +91,11 @@ item-channel c d item cut ink px py was now e is covered h =
     of-channel c d item (has_pixel cut px py) px py was now e (ink-step c item cut ink px py was now is covered h)
 
 -- a byte after ink, or as it was
-abbrev pub inked_or : Tile → Area → ℕ → Ink → ℕ → ℕ
+abbrev pub inked_or : Tile → Area → ℕ → ChannelInk → ℕ → ℕ
 inked_or tile cut m ink old = if has_pixel cut (x_at tile m) (y_at tile m) then inked ink (x_at tile m - cut.x0) (y_at tile m - cut.y0) old else old
 
 -- a byte after the inks of an item, channel by channel
-pub inked-item : (tile : Tile) (cut : Area) (item : DrawItem) (m : ℕ) (red green blue : Ink) (was one two now : ℕ) → IsTile tile → m < 3 * pixels_of tile
+pub inked-item : (tile : Tile) (cut : Area) (item : DrawItem) (m : ℕ) (red green blue : ChannelInk) (was one two now : ℕ) → IsTile tile → m < 3 * pixels_of tile
     → IsInk 0 item cut red → IsInk 1 item cut green → IsInk 2 item cut blue
     → (has_pixel cut (x_at tile m) (y_at tile m) ≡ true → covers item (x_at tile m) (y_at tile m) ≡ true)
     → (channel_at tile m ≡ 0 → one ≡ inked_or tile cut m red was) → ((channel_at tile m ≡ 0 → ⊥) → one ≡ was)

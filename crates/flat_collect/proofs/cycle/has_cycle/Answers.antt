@@ -1,6 +1,6 @@
 use Rattle.std.proofs.Common.{◌≡◌, arith, rules, length, replicate, refl}
 use Rattle.std.proofs.lemmas.List.{length-replicate}
-use Rattle.flat_collect.specs.declared.cycle.Mark.TheVariants.{New}
+use Rattle.flat_collect.specs.declared.cycle.SearchMark.TheVariants.{New}
 use Rattle.flat_collect.proofs.Searches.{search-begin, links_within, new_marks}
 use Rattle.flat_collect.proofs.cycle.has_cycle.Goals as goal
 

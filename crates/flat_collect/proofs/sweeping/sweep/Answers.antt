@@ -1,6 +1,6 @@
 use Rattle.std.proofs.Common.{◌≡◌, ◌∙◌, ap, sym, subst, List, Bool, length, arith}
 use Rattle.std.specs.Prelude.{is_some, count_by}
-use Rattle.flat_graph.specs.declared.names.Named.{Named}
+use Rattle.flat_graph.specs.declared.names.NamedNode.{NamedNode}
 use Rattle.flat_graph.specs.State.{MayKeep, only_marked}
 use Rattle.flat_collect.specs.Sweep.{IsSwept}
 use Rattle.flat_collect.proofs.Sweeps.{may-keep, swept-found, swept-kept, swept-named}
@@ -8,7 +8,7 @@ use Rattle.flat_collect.proofs.sweeping.sweep.Goals as goal
 
 pub returns-then-names-len-clause-swept : goal.returns-then-names-len-clause-swept
 returns-then-names-len-clause-swept c =
-    let names : length c.names.result.now ≡ length c.args.graph.now.names = ap (length {A = Named}) c.names.ensures in
+    let names : length c.names.result.now ≡ length c.args.graph.now.names = ap (length {A = NamedNode}) c.names.ensures in
     let many : length c.args.graph.now.names ≡ count_by is_some c.args.graph.now.nodes = omega (arith, names, c.if-names-len.true, c.len.ensures) in
     swept-named c.args.graph.now c.root.ensures.sound many
 

@@ -1,4 +1,4 @@
-use Rattle.flat_scene.specs.declared.script.Cond.TheVariants as asks
+use Rattle.flat_scene.specs.declared.script.WaitCondition.TheVariants as asks
 use Rattle.flat_forms.specs.Body.{presents_asked}
 use Rattle.flat_places.proofs.lemmas.ReadsLemmas.{read_whole, then, begin}
 use Rattle.flat_forms.proofs.conditions.presents.Goals as goal

@@ -1,6 +1,6 @@
 use Rattle.std.proofs.Common.{◌∙◌, sym}
 use Rattle.flat_base.specs.declared.ids.Actor.TheVariants.{Session}
-use Rattle.flat_scene.specs.declared.script.Cond.TheVariants as asks
+use Rattle.flat_scene.specs.declared.script.WaitCondition.TheVariants as asks
 use Rattle.flat_text.specs.Pieces.{is_space}
 use Rattle.flat_text.specs.Left.{pieces_left}
 use Rattle.flat_places.specs.Places.{fence, u32}

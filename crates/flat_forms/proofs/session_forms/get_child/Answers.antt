@@ -1,5 +1,5 @@
 use Rattle.flat_scene.specs.declared.calls.Watch.TheVariants as watch
-use Rattle.flat_scene.specs.declared.script.Line.TheVariants as line
+use Rattle.flat_scene.specs.declared.script.SessionLine.TheVariants as line
 use Rattle.flat_forms.specs.Body.{child_asked}
 use Rattle.flat_places.proofs.lemmas.ReadsLemmas.{begin, read_whole}
 use Rattle.flat_forms.proofs.session_forms.get_child.Goals as goal

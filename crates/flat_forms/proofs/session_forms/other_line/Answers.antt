@@ -1,5 +1,5 @@
 use Rattle.std.proofs.Common.{◌∙◌, sym}
-use Rattle.flat_scene.specs.declared.script.Line.TheVariants as line
+use Rattle.flat_scene.specs.declared.script.SessionLine.TheVariants as line
 use Rattle.flat_text.specs.Pieces.{is_space}
 use Rattle.flat_text.specs.Left.{pieces_left}
 use Rattle.flat_forms.specs.Body.{present}

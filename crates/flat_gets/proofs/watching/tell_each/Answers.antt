@@ -4,8 +4,8 @@ use Rattle.std.proofs.lemmas.List.{length-set, take_more}
 use Rattle.flat_base.specs.declared.ids.PairNo.{PairNo}
 use Rattle.flat_scene.specs.declared.journal.Entry.{Entry}
 use Rattle.flat_scene.specs.declared.journal.Event.{Event}
-use Rattle.flat_scene.specs.declared.journal.Post.{Post}
-use Rattle.flat_scene.specs.declared.journal.Told.{Told}
+use Rattle.flat_scene.specs.declared.journal.PostedEvent.{PostedEvent}
+use Rattle.flat_scene.specs.declared.journal.WatcherValue.{WatcherValue}
 use Rattle.flat_facts.specs.Begins.{post_of}
 use Rattle.flat_rules.specs.Watch.{told}
 use Rattle.flat_gets.specs.Pairs.{IsTold, part_events, watcher_at}
@@ -29,12 +29,12 @@ loop-p-preserved g c =
     let known : p.0 < length c.args.pairs.now.items = c.requires.known i none below in
     let within : p.0 < length cur = omega (arith, known, inv.count) in
     let place : length c.loop-p.log.history ≡ length c.args.log.now.history = ap (length {A = Entry}) inv.history in
-    let f : Event → Post = post_of (length c.loop-p.log.history) c.args.s in
+    let f : Event → PostedEvent = post_of (length c.loop-p.log.history) c.args.s in
     let given : List Event = part_events c.args.part p c.told_of-now.result was in
     let due = due-next cur p.0 was then c.tell-count.result within c.index_mut-pair.ensures.value e.due in
     record {
       told = λ setup history stands.
-          let now : PairNo → Option Told = λ q. told setup history (watcher_at c.args.part q 0) in
+          let now : PairNo → Option WatcherValue = λ q. told setup history (watcher_at c.args.part q 0) in
           let is : c.told_of-now.result ≡ now p = c.told_of-now.ensures setup history stands in
           let T : List PairNo → Type 0 = λ l. TellsEach c.args.part now (length c.args.log.now.history) c.args.s l c.args.pairs.now.items
           (slice_set cur p.0 then) c.args.log.now.posts c.tell-count.new.log.posts (c.loop-p.count + c.tell-count.result) in
@@ -42,11 +42,12 @@ loop-p-preserved g c =
           (tells-next c.args.part now (length c.args.log.now.history) c.args.s (take i xs) p c.args.pairs.now.items cur was then
           c.args.log.now.posts c.loop-p.log.posts c.tell-count.new.log.posts c.loop-p.count c.tell-count.result
           (listed-before 0 xs c.requires.rising i none below) known (inv.told setup history stands) c.index_mut-pair.ensures.value
-          (subst (λ (o : Option Told). IsTold c.args.part o was then) is e.told)
-          (e.posts ∙ ap (λ (o : Option Told). c.loop-p.log.posts ++ map (post_of (length c.loop-p.log.history) c.args.s) (part_events c.args.part p o was)) is
+          (subst (λ (o : Option WatcherValue). IsTold c.args.part o was then) is e.told)
+          (e.posts ∙ ap (λ (o : Option WatcherValue). c.loop-p.log.posts ++ map (post_of (length c.loop-p.log.history) c.args.s)
+          (part_events c.args.part p o was)) is
           ∙ ap (λ (n : ℕ). c.loop-p.log.posts ++ map (post_of n c.args.s) (part_events c.args.part p (now p) was)) place)
-          (e.count ∙ ap (λ (o : Option Told). length (part_events c.args.part p o was)) is));
-      pushed = omega (arith, inv.pushed, e.count, ap (length {A = Post}) e.posts, length-append c.loop-p.log.posts (map f given), count-map f given);
+          (e.count ∙ ap (λ (o : Option WatcherValue). length (part_events c.args.part p o was)) is));
+      pushed = omega (arith, inv.pushed, e.count, ap (length {A = PostedEvent}) e.posts, length-append c.loop-p.log.posts (map f given), count-map f given);
       count = length-set cur p.0 then ∙ inv.count;
       due = omega (arith, due, inv.due);
       history = e.history ∙ inv.history;

@@ -12,7 +12,7 @@ use Rattle.flat_gets.proofs.watching.tell_each.Given as goal
 -- those before the next one were told
 abbrev pub invariant-loop-p : goal.invariant-loop-p
 invariant-loop-p g l = record {
-  told : (setup : Setup) (history : List Entry) → g.T.Tells.stands l.fn.tells setup history
+  told : (setup : Setup) (history : List Entry) → g.T.WatcherValues.stands l.fn.tells setup history
       → TellsEach l.part (λ (p : PairNo). told setup history (watcher_at l.part p 0)) (length l.fn.log.history) l.s (take l.p-index l.listed) l.fn.pairs.items
       l.pairs.items l.fn.log.posts l.log.posts l.count;
   pushed : length l.log.posts ≡ length l.fn.log.posts + l.count;

@@ -1,5 +1,5 @@
 use Rattle.std.proofs.Common.{sym, ap, arith}
-use Rattle.flat_scene.specs.declared.trees.Held.{Held}
+use Rattle.flat_scene.specs.declared.trees.HeldContent.{HeldContent}
 use Rattle.std.specs.Prelude.{Option}
 use Rattle.flat_graph.specs.State.{without_content}
 use Rattle.flat_graph.proofs.Sweeping.{changed-some, changed-none, changed-done}
@@ -12,7 +12,7 @@ loop-key-preserved c = elim c.match-get_mut.branch [
       rw w.nodes-is
       (changed-some (without_content c.args.serial) _ c.args.nodes.now c.loop-key.key w.in-Some.node.now _ c.loop-key.invariant
       (sym (rw w.in-Some.is at c.get_mut.ensures.value))
-      (ap (λ (held : Option Held). record w.in-Some.node.now { content = held }) w.held_without-node.ensures))
+      (ap (λ (held : Option HeldContent). record w.in-Some.node.now { content = held }) w.held_without-node.ensures))
   | in_default w ↦ rw w.nodes-is (changed-none (without_content c.args.serial) _ c.args.nodes.now c.loop-key.key c.loop-key.invariant
       (sym (rw w.in_default.is at c.get_mut.ensures.value)))
 ]

@@ -1,6 +1,6 @@
 use Rattle.std.proofs.Common.{refl}
 use Rattle.flat_ink.specs.Colours.{blue_at}
-use Rattle.flat_ink.specs.declared.ink.Shade.TheVariants.{Even}
+use Rattle.flat_ink.specs.declared.channel_ink.ChannelValues.TheVariants.{Even}
 use Rattle.flat_ink.specs.declared.texture.Texture.{Texture}
 use Rattle.flat_ink.proofs.lemmas.Brushing.{shade-ink}
 use Rattle.flat_ink.proofs.brush.blue_ink.Goals as goal

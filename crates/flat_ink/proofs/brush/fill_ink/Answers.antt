@@ -1,4 +1,4 @@
-use Rattle.flat_ink.specs.declared.ink.Shade.TheVariants.{Even}
+use Rattle.flat_ink.specs.declared.channel_ink.ChannelValues.TheVariants.{Even}
 use Rattle.flat_ink.proofs.lemmas.Brushing.{even-ink}
 use Rattle.flat_ink.proofs.brush.fill_ink.Goals as goal
 

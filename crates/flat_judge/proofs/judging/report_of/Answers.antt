@@ -1,5 +1,5 @@
 use Rattle.std.proofs.Common.{rules, ◌≡◌, List, length, sym, ap, ◌∙◌}
-use Rattle.flat_scene.specs.declared.frames.Lost.{Lost}
+use Rattle.flat_scene.specs.declared.frames.LostDisplay.{LostDisplay}
 use Rattle.flat_rules.specs.Legal.{frames}
 use Rattle.flat_report.specs.Handed.{handed_report}
 use Rattle.flat_judge.proofs.Reported.{reported-only, whole-loss}
@@ -14,13 +14,13 @@ returns c =
     let whole = c.requires.whole in
     let history = guided.screen.board.history in
     let many : guided.screen.store.last.frame.0 ≡ frames history = whole.stands.screen.frames.stored.ends.number in
-    let lost : List Lost = along.lost in
+    let lost : List LostDisplay = along.lost in
     let journal = c.journal-2.result.now in
     let many_entries : c.len-entries.result ≡ length c.journal.result.now.entries.items = search rules in
     let its = run script c.requires.playable guided whole c.frames_are_seen.ensures c.journal.ensures.legal lost
     (whole-loss script c.args.text.now history along c.requires.stopped) c.requires.stopped.stopped.losses.1 in
     let report_is = c.in_ok-report.ensures
-    ∙ ap (λ (ls : List Lost). handed_report script journal.entries.items journal.posts.items c.into_texts-texts.result.texts.items ls
+    ∙ ap (λ (ls : List LostDisplay). handed_report script journal.entries.items journal.posts.items c.into_texts-texts.result.texts.items ls
     guided.screen.store.answers
     c.as_slice-2.result.now) c.as_slice.ensures
     ∙ handed script c.requires.playable guided whole c.handed_is_report.ensures c.into_texts-texts.result c.into_texts-texts.ensures lost journal.entries.items

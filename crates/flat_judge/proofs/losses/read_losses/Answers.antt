@@ -1,5 +1,5 @@
 use Rattle.std.proofs.Common.{◌≡◌, ◌≤◌, ℕ, List, [], length, drop, Option, IfSome, sym, subst, arith}
-use Rattle.flat_scene.specs.declared.frames.Lost.{Lost}
+use Rattle.flat_scene.specs.declared.frames.LostDisplay.{LostDisplay}
 use Rattle.flat_judge.specs.Following.{ReadsLoss, ReadsLosses}
 use Rattle.flat_judge.proofs.LossesTold.{reading-ends, reading-more, reading-none, stops-at-end}
 use Rattle.flat_judge.proofs.Partings.{drop-past}
@@ -11,7 +11,7 @@ loop-init c = (reading-none c.args.frame.0 c.args.lost.now c.args.text.now c.arg
 pub returns-in-None-clause-reads : goal.returns-in-None-clause-reads
 returns-in-None-clause-reads c =
     let none = c.in_ok-next.ensures.none c.in-None.is in
-    let R : List Lost → Type 0 = λ ls. ReadsLosses c.args.frame.0 c.args.lost.now ls c.args.text.now c.args.at c.loop.place in
+    let R : List LostDisplay → Type 0 = λ ls. ReadsLosses c.args.frame.0 c.args.lost.now ls c.args.text.now c.args.at c.loop.place in
     subst R (sym none.0) (reading-ends c.args.frame.0 c.args.lost.now c.loop.lost c.args.text.now c.args.at c.loop.place c.loop.invariant.0 none.1)
 
 pub loop-preserved : goal.loop-preserved

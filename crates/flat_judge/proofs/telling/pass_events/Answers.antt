@@ -1,5 +1,5 @@
 use Rattle.std.proofs.Common.{◌≡◌, ℕ, List, map, ap, ◌∙◌, subst, arith}
-use Rattle.flat_scene.specs.declared.journal.Post.{Post}
+use Rattle.flat_scene.specs.declared.journal.PostedEvent.{PostedEvent}
 use Rattle.flat_scene.specs.History.{◌▹◌}
 use Rattle.flat_rules.specs.AllPosts.{posts}
 use Rattle.flat_page.specs.Words.{text_of}
@@ -24,7 +24,7 @@ returns-clause-passes c = λ earlier entry is count.
     let all : c.as_slice-posts.result.now ≡ posts script.setup (earlier ▹ entry) =
     c.as_slice-posts.ensures.value ∙ c.journal.ensures.posts ∙ (λ i. posts (c.requires.shows.setup i) (is i)) in
     let lines : c.as_slice.result.now ≡ events_text script earlier entry =
-    c.as_slice.ensures.value ∙ c.in_ok-lines.ensures ∙ ap (λ (ps : List Post). text_of (map (post_line script) ps))
+    c.as_slice.ensures.value ∙ c.in_ok-lines.ensures ∙ ap (λ (ps : List PostedEvent). text_of (map (post_line script) ps))
     (rest-all c.as_slice-posts.result.now c.args.before)
     ∙ events-are script earlier entry c.as_slice-posts.result.now c.args.before all count in
     let P : List ℕ → Type 0 = λ b. Passes c.args.text.now c.args.at b c.pass.result in

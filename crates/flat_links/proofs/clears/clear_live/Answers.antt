@@ -1,5 +1,5 @@
 use Rattle.std.proofs.Common.{◌≡◌, ◌∙◌, sym, drop, ◌+◌, [], ◌∷◌, List, subst, slice_index_or}
-use Rattle.flat_facts.specs.declared.live.Live.{Live}
+use Rattle.flat_facts.specs.declared.live_viewport.LiveViewport.{LiveViewport}
 use Rattle.flat_links.specs.declared.pairs.PairState.{PairState}
 use Rattle.flat_links.specs.Clears.{ClearsLive}
 use Rattle.flat_links.proofs.Marks.{drop-is, drop-end}
@@ -13,11 +13,11 @@ loop-one-preserved c =
     let live = c.args.live.now in
     let calls = c.args.calls.now in
     let k = c.args.presents in
-    let one : Live = slice_index_or live i (record { name = record { 0 = 0 }; pair = record { 0 = 0 } }) in
-    let rest : List Live = drop (i + 1) live in
+    let one : LiveViewport = slice_index_or live i (record { name = record { 0 = 0 }; pair = record { 0 = 0 } }) in
+    let rest : List LiveViewport = drop (i + 1) live in
     let is : drop i live ≡ one ∷ rest = drop-is live i (record { name = record { 0 = 0 }; pair = record { 0 = 0 } }) c.loop-one-test.true in
     let onward : (last : List PairState) → ClearsLive (one ∷ rest) calls k c.loop-one.pairs last → ClearsLive live calls k c.args.pairs.now last =
-    λ last all. c.loop-one.invariant last (subst (λ (l : List Live). ClearsLive l calls k c.loop-one.pairs last) (sym is) all) in
+    λ last all. c.loop-one.invariant last (subst (λ (l : List LiveViewport). ClearsLive l calls k c.loop-one.pairs last) (sym is) all) in
     elim c.if-is_cleared.branch [
       | then-is_cleared w ↦
           (λ last later.
@@ -34,5 +34,5 @@ pub returns : goal.returns
 returns c =
     let none : drop c.loop-one.one-index c.args.live.now ≡ [] = drop-end c.args.live.now c.loop-one.one-index c.loop-one-test.false in
     c.loop-one.invariant c.loop-one.pairs
-    (subst (λ (l : List Live). ClearsLive l c.args.calls.now c.args.presents c.loop-one.pairs c.loop-one.pairs) (sym none)
+    (subst (λ (l : List LiveViewport). ClearsLive l c.args.calls.now c.args.presents c.loop-one.pairs c.loop-one.pairs) (sym none)
     (clears-none c.args.calls.now c.args.presents c.loop-one.pairs))

@@ -17,7 +17,7 @@ returns-in-Session-clause-ends c =
     let old = c.args.ends.now.items in
     let after = c.note_ends.new.ends in
     let P : Actor → Type 0 = λ who. EndsEnteredBy who c.args.entry.now c.args.sessions.now.items old (slice_set old (c.in-Session.s.0 - 1) after)
-    c.args.ties.now c.note_ends.new.ties in
+    c.args.links.now c.note_ends.new.links in
     subst P (sym c.in-Session.is)
     (record {
       state = c.index_mut-state.result.now;
@@ -27,5 +27,5 @@ returns-in-Session-clause-ends c =
       of_before = c.index_mut.ensures.value;
       heard = c.note_ends.ensures.ends;
       new_is = refl;
-      ties = c.note_ends.ensures.ties;
+      links = c.note_ends.ensures.links;
     })

@@ -10,5 +10,6 @@ fetch_add-requires g c = (
 )
 
 pub returns-clause-left : goal.returns-clause-left
-returns-clause-left g c = given_back g.T.Storied.history g.T.Storied.actor g.T.Storied.fixed _ _ _ c.args.value c.requires.turn c.exchange-left.ensures.3
+returns-clause-left g c = given_back g.T.HasHistory.history g.T.HasHistory.actor g.T.HasHistory.fixed _ _ _ c.args.value c.requires.turn
+    c.exchange-left.ensures.3
     c.fetch_add.ensures.2

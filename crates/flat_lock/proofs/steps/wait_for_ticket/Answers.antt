@@ -13,7 +13,7 @@ returns-then-read_serving-ticket-clause-same g c = (c.read_serving.ensures.same.
 
 pub returns-then-read_serving-ticket-clause-served : goal.returns-then-read_serving-ticket-clause-served
 returns-then-read_serving-ticket-clause-served g c =
-    subst (λ m. HasEntered g.T.Storied.history g.T.Storied.actor g.T.Storied.fixed m c.read_serving.new.seat.me) c.loop.invariant.1
+    subst (λ m. HasEntered g.T.HasHistory.history g.T.HasHistory.actor g.T.HasHistory.fixed m c.read_serving.new.seat.me) c.loop.invariant.1
     (c.read_serving.ensures.served c.if-read_serving-ticket.true)
 
 pub loop-preserved : goal.loop-preserved

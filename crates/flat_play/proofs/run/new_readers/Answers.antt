@@ -1,5 +1,5 @@
 use Rattle.std.proofs.Common.{◌≡◌, ◌+◌, ℕ, List, refl, sym, subst, arith}
-use Rattle.flat_session.specs.declared.reader.Reader.{Reader}
+use Rattle.flat_session.specs.declared.session_reader.SessionReader.{SessionReader}
 use Rattle.flat_play.specs.Playing.{AreNew}
 use Rattle.flat_play.proofs.lemmas.Starting.{is_numbered, new_more}
 use Rattle.flat_play.proofs.run.new_readers.Goals as goal
@@ -10,7 +10,7 @@ new-requires c = (c.args.setup.now, c.requires, refl)
 pub loop-before-preserved : goal.loop-before-preserved
 loop-before-preserved c =
     let setup = c.args.setup.now in
-    let P : List Reader → Type 0 = AreNew setup (c.loop-before.before + 1) in
+    let P : List SessionReader → Type 0 = AreNew setup (c.loop-before.before + 1) in
     let new = c.in_ok-reader.ensures setup refl (is_numbered setup c.loop-before.before (omega (arith, c.loop-before-test.true))) in
     subst P (sym c.in_ok-push.ensures.items) (new_more setup c.loop-before.before c.loop-before.readers.items c.in_ok-reader.reader c.loop-before.invariant new)
 

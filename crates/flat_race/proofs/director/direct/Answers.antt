@@ -8,7 +8,7 @@ use Rattle.flat_play.proofs.lemmas.Seen.{as_long, seen_counted, seen_none, seen_
 use Rattle.flat_play.proofs.lemmas.Places.{setup_is}
 use Rattle.flat_play.specs.Keeping.{keeping_of}
 use Rattle.flat_display.specs.Lost.{Driven}
-use Rattle.flat_race.specs.declared.film.Film.{Film}
+use Rattle.flat_race.specs.declared.race_frames.RaceFrames.{RaceFrames}
 use Rattle.flat_race.specs.Directing.{CompositorStands}
 use Rattle.flat_race.specs.Publishing.{PublishedStand}
 use Rattle.flat_race.proofs.Finishing.{published_more, published_none}
@@ -18,16 +18,16 @@ use Rattle.flat_race.proofs.director.direct.Goals as goal
 
 pub loop-place-init : goal.loop-place-init
 loop-place-init g c = record {
-  stands = stands_first c.args.lent.now.script.now c.args.lent.now.stage.now c.args.compositor.now c.args.film.now c.requires.playable c.requires.of.setup
+  stands = stands_first c.args.context.now.script.now c.args.context.now.stage.now c.args.compositor.now c.args.film.now c.requires.playable c.requires.of.setup
       c.requires.fresh c.requires.film.stands;
   seen = seen_none _ _ _ _ _ _
-      (ap (λ (s : DisplayView). finished c.args.lent.now.script.now.setup (history_of s.seen)) c.requires.fresh.display) c.requires.film.none;
+      (ap (λ (s : DisplayView). finished c.args.context.now.script.now.setup (history_of s.seen)) c.requires.fresh.display) c.requires.film.none;
   keeping = refl;
   number = c.requires.film.number;
   kinds = refl;
   same = refl;
-  published = subst (λ (s : DisplayView). PublishedStand c.args.lent.now.script.now (history_of s.seen) c.args.published.now) (sym c.requires.fresh.display)
-      (published_none c.args.lent.now.script.now c.args.published.now c.requires.unpublished);
+  published = subst (λ (s : DisplayView). PublishedStand c.args.context.now.script.now (history_of s.seen) c.args.published.now) (sym c.requires.fresh.display)
+      (published_none c.args.context.now.script.now c.args.published.now c.requires.unpublished);
   home = refl;
 }
 
@@ -44,7 +44,7 @@ pub direct_next-requires-clause-number : goal.direct_next-requires-clause-number
 direct_next-requires-clause-number g c κs within = c.loop-place.invariant.number
 
 pub end_line-requires-clause-setup : goal.end_line-requires-clause-setup
-end_line-requires-clause-setup g c κs within = setup_is c.args.lent.now.script.now c.requires.playable
+end_line-requires-clause-setup g c κs within = setup_is c.args.context.now.script.now c.requires.playable
 
 pub end_line-requires-clause-last : goal.end_line-requires-clause-last
 end_line-requires-clause-last g c κs within = c.in_ok-direct_next.ensures.stands.frames.stored.ends.is
@@ -57,16 +57,16 @@ end_line-requires-clause-given g c κs within =
 
 pub loop-place-preserved : goal.loop-place-preserved
 loop-place-preserved g c =
-    let script = c.args.lent.now.script.now in
+    let script = c.args.context.now.script.now in
     let was = c.loop-place.invariant in
     let now = c.in_ok-direct_next.ensures in
     let kept = c.direct_next.ensures.displays in
     let sent = c.end_line.ensures in
     let was_seen : List Entry = history_of c.loop-place.compositor.display.seen in
     let now_seen : List Entry = history_of c.direct_next.new.compositor.display.seen in
-    let set : c.end_line.new.film.set ≡ c.direct_next.new.film.set = ap (λ (f : Film). f.set) sent.others in
+    let set : c.end_line.new.film.set ≡ c.direct_next.new.film.set = ap (λ (f : RaceFrames). f.set) sent.others in
     record {
-      stands = stands_published script c.args.lent.now.stage.now (c.loop-place.place + 1) c.direct_next.new.compositor c.direct_next.new.film
+      stands = stands_published script c.args.context.now.stage.now (c.loop-place.place + 1) c.direct_next.new.compositor c.direct_next.new.film
           c.end_line.new.film sent.others
           c.in_ok-end_line.ensures.stays now.stands;
       seen = seen_counted _ _ (finished script.setup now_seen) (finished script.setup now_seen) now_seen now_seen _ _ _ _ _ refl refl
@@ -74,7 +74,7 @@ loop-place-preserved g c =
           (omega (arith, was.number, was.same, c.requires.film.few)) now.directs.shown was.seen);
       number = as_long _ _ _ kept.kinds ∙ was.number ∙ sym kept.count ∙ ap (λ (s : Driven). s.displays) (sym set);
       kinds = kept.kinds ∙ was.kinds;
-      keeping = ap (λ (f : Film). keeping_of f.store.kept) sent.others ∙ now.directs.keeping ∙ was.keeping;
+      keeping = ap (λ (f : RaceFrames). keeping_of f.store.kept) sent.others ∙ now.directs.keeping ∙ was.keeping;
       same = ap (λ (s : Driven). s.displays) set ∙ kept.count ∙ was.same;
       published = published_more script was_seen now_seen c.loop-place.film.store.last.frame.0 c.direct_next.new.film.store.last c.loop-place.published
           c.end_line.new.published
@@ -86,10 +86,10 @@ loop-place-preserved g c =
 
 pub returns-clause-directs : goal.returns-clause-directs
 returns-clause-directs g c =
-    let script = c.args.lent.now.script.now in
+    let script = c.args.context.now.script.now in
     let was = c.loop-place.invariant in
     let last : c.loop-place.place ≡ length script.lines = omega (arith, c.loop-place.auto.place-end, c.loop-place-test.false) in
-    let P : ℕ → Type 0 = λ n. CompositorStands script c.args.lent.now.stage.now n c.loop-place.compositor c.loop-place.film in
+    let P : ℕ → Type 0 = λ n. CompositorStands script c.args.context.now.stage.now n c.loop-place.compositor c.loop-place.film in
     record {
       stands = (subst P last was.stands).seat;
       film = was.stands.frames.stored;
@@ -106,7 +106,7 @@ returns-in_err-direct_next-clause-stopped g c =
     let was = c.loop-place.invariant in
     let stays = c.in_err-direct_next.ensures.stays in
     MatchResult-from_err _ _ _ c.from_residual.ensures.0
-    (λ why. stopped_at _ _ c.args.lent.now.script.now c.args.lent.now.stage.now c.loop-place.place c.loop-place.compositor c.direct_next.new.compositor
+    (λ why. stopped_at _ _ c.args.context.now.script.now c.args.context.now.stage.now c.loop-place.place c.loop-place.compositor c.direct_next.new.compositor
     stays.compositor c.loop-place.film was.stands _ _ _ _ stays.displays was.seen)
 
 pub returns-in_err-direct_next-clause-kinds : goal.returns-in_err-direct_next-clause-kinds
@@ -120,10 +120,10 @@ returns-in_err-end_line-clause-stopped g c =
     let was = c.loop-place.invariant in
     let now = c.in_ok-direct_next.ensures in
     MatchResult-from_err _ _ _ c.from_residual-in_err-end_line.ensures.0
-    (λ why. stopped_at _ _ c.args.lent.now.script.now c.args.lent.now.stage.now (c.loop-place.place + 1) c.direct_next.new.compositor
+    (λ why. stopped_at _ _ c.args.context.now.script.now c.args.context.now.stage.now (c.loop-place.place + 1) c.direct_next.new.compositor
     c.direct_next.new.compositor refl
     c.direct_next.new.film now.stands _ _ _ _ refl
-    (seen_line _ _ c.args.lent.now.script.now.setup _ _ (history_of c.loop-place.compositor.display.seen)
+    (seen_line _ _ c.args.context.now.script.now.setup _ _ (history_of c.loop-place.compositor.display.seen)
     (history_of c.direct_next.new.compositor.display.seen) refl refl _ _ _ _ _ (omega (arith, was.number, was.same, c.requires.film.few)) now.directs.shown
     was.seen))
 

@@ -1,9 +1,9 @@
 use Rattle.std.proofs.Common.{rules, ◌≡◌, true, refl, ap, sym, ◌∙◌, subst}
 use Rattle.std.proofs.lemmas.Result.{MatchResult-from_err}
 use Rattle.flat_base.specs.declared.ids.Actor.TheVariants.{Display}
-use Rattle.flat_scene.specs.declared.journal.Kind.TheVariants.{Begin}
+use Rattle.flat_scene.specs.declared.journal.EntryKind.TheVariants.{Begin}
 use Rattle.flat_scene.specs.declared.journal.Reply.TheVariants.{Done}
-use Rattle.flat_scene.specs.declared.script.Body.TheVariants as body
+use Rattle.flat_scene.specs.declared.script.LineBody.TheVariants as body
 use Rattle.flat_scene.specs.declared.script.DisplayLine.TheVariants as display
 use Rattle.flat_scene.specs.declared.script.ScriptLine.{ScriptLine}
 use Rattle.flat_scene.specs.declared.setup.Setup.{Setup}
@@ -19,7 +19,7 @@ use Rattle.flat_play.proofs.lemmas.Places.{setup_is}
 use Rattle.flat_play.proofs.lemmas.Starting.{few_sessions}
 use Rattle.flat_play.proofs.lemmas.Steps.{At, at_place}
 use Rattle.flat_play.proofs.lemmas.Storing.{may_follow}
-use Rattle.flat_race.specs.declared.film.Film.{Film}
+use Rattle.flat_race.specs.declared.race_frames.RaceFrames.{RaceFrames}
 use Rattle.flat_race.specs.Directing.{EntersBeside}
 use Rattle.flat_race.proofs.Finishing.{finishes_then}
 use Rattle.flat_race.proofs.LineSteps.{begins_closed, compositor_looks, finished_still, finished_then, finishes_open, frames_few, line_begins}
@@ -35,8 +35,8 @@ begin-requires-clause-own g c κs within =
 
 pub begin-requires-clause-room : goal.begin-requires-clause-room
 begin-requires-clause-room g c κs within =
-    let script = c.args.lent.now.script.now in
-    let view = c.args.lent.now.stage.now in
+    let script = c.args.context.now.script.now in
+    let view = c.args.context.now.stage.now in
     let x : ScriptLine = record { number = c.args.line.number; actor = Display; body = body.Display c.args.line.text } in
     let at : At script c.args.place x = at_place script c.args.place x c.requires.playable c.requires.line in
     seat_room script view c.args.place x at refl c.requires.of c.args.compositor.now.display c.requires.stands.seat
@@ -47,8 +47,8 @@ finish-requires-clause-own g c κs within =
 
 pub finish-requires-clause-room : goal.finish-requires-clause-room
 finish-requires-clause-room g c κs within =
-    let script = c.args.lent.now.script.now in
-    let view = c.args.lent.now.stage.now in
+    let script = c.args.context.now.script.now in
+    let view = c.args.context.now.stage.now in
     let x : ScriptLine = record { number = c.args.line.number; actor = Display; body = body.Display c.args.line.text } in
     let at : At script c.args.place x = at_place script c.args.place x c.requires.playable c.requires.line in
     seat_room script view c.args.place x at refl c.requires.of c.args.compositor.now.display c.requires.stands.seat
@@ -59,16 +59,16 @@ enter_beside-requires-clause-own g c κs within =
 
 pub enter_beside-requires-clause-room : goal.enter_beside-requires-clause-room
 enter_beside-requires-clause-room g c κs within =
-    let script = c.args.lent.now.script.now in
-    let view = c.args.lent.now.stage.now in
+    let script = c.args.context.now.script.now in
+    let view = c.args.context.now.stage.now in
     let x : ScriptLine = record { number = c.args.line.number; actor = Display; body = body.Display c.args.line.text } in
     let at : At script c.args.place x = at_place script c.args.place x c.requires.playable c.requires.line in
     seat_room script view c.args.place x at refl c.requires.of c.args.compositor.now.display c.requires.stands.seat
 
 pub begin-requires-clause-closed : goal.begin-requires-clause-closed
 begin-requires-clause-closed g c κs within =
-    let script = c.args.lent.now.script.now in
-    let view = c.args.lent.now.stage.now in
+    let script = c.args.context.now.script.now in
+    let view = c.args.context.now.stage.now in
     let x : ScriptLine = record { number = c.args.line.number; actor = Display; body = body.Display c.args.line.text } in
     let at : At script c.args.place x = at_place script c.args.place x c.requires.playable c.requires.line in
     let is : x.body ≡ body.Display (display.Begin c.in-Begin.time) = ap (λ t. body.Display t) c.in-Begin.is in
@@ -76,8 +76,8 @@ begin-requires-clause-closed g c κs within =
 
 pub begin-requires-clause-time : goal.begin-requires-clause-time
 begin-requires-clause-time g c κs within =
-    let script = c.args.lent.now.script.now in
-    let view = c.args.lent.now.stage.now in
+    let script = c.args.context.now.script.now in
+    let view = c.args.context.now.stage.now in
     let x : ScriptLine = record { number = c.args.line.number; actor = Display; body = body.Display c.args.line.text } in
     let at : At script c.args.place x = at_place script c.args.place x c.requires.playable c.requires.line in
     let is : x.body ≡ body.Display (display.Begin c.in-Begin.time) = ap (λ t. body.Display t) c.in-Begin.is in
@@ -87,8 +87,8 @@ begin-requires-clause-time g c κs within =
 
 pub finish-requires-clause-open : goal.finish-requires-clause-open
 finish-requires-clause-open g c κs within =
-    let script = c.args.lent.now.script.now in
-    let view = c.args.lent.now.stage.now in
+    let script = c.args.context.now.script.now in
+    let view = c.args.context.now.stage.now in
     let x : ScriptLine = record { number = c.args.line.number; actor = Display; body = body.Display c.args.line.text } in
     let at : At script c.args.place x = at_place script c.args.place x c.requires.playable c.requires.line in
     let is : x.body ≡ body.Display display.Done = ap (λ t. body.Display t) c.in-Done.is in
@@ -96,16 +96,16 @@ finish-requires-clause-open g c κs within =
 
 pub finish-requires-clause-setup : goal.finish-requires-clause-setup
 finish-requires-clause-setup g c κs within =
-    setup_is c.args.lent.now.script.now c.requires.playable
+    setup_is c.args.context.now.script.now c.requires.playable
 
 pub enter_beside-requires-clause-setup : goal.enter_beside-requires-clause-setup
 enter_beside-requires-clause-setup g c κs within =
-    setup_is c.args.lent.now.script.now c.requires.playable
+    setup_is c.args.context.now.script.now c.requires.playable
 
 pub finish-requires-clause-follows : goal.finish-requires-clause-follows
 finish-requires-clause-follows g c κs within =
-    let script = c.args.lent.now.script.now in
-    let view = c.args.lent.now.stage.now in
+    let script = c.args.context.now.script.now in
+    let view = c.args.context.now.stage.now in
     let x : ScriptLine = record { number = c.args.line.number; actor = Display; body = body.Display c.args.line.text } in
     let at : At script c.args.place x = at_place script c.args.place x c.requires.playable c.requires.line in
     may_follow c.shown_states_fit.ensures.begun c.shown_states_fit.ensures.each script (history_of c.args.compositor.now.display.seen)
@@ -119,8 +119,8 @@ finish-requires-clause-number g c κs within =
 
 pub enter_beside-requires-clause-acts : goal.enter_beside-requires-clause-acts
 enter_beside-requires-clause-acts g c κs within =
-    let script = c.args.lent.now.script.now in
-    let view = c.args.lent.now.stage.now in
+    let script = c.args.context.now.script.now in
+    let view = c.args.context.now.stage.now in
     let x : ScriptLine = record { number = c.args.line.number; actor = Display; body = body.Display c.args.line.text } in
     let at : At script c.args.place x = at_place script c.args.place x c.requires.playable c.requires.line in
     let beside : is_beside c.args.line.text ≡ true = search rules in
@@ -128,8 +128,8 @@ enter_beside-requires-clause-acts g c κs within =
 
 pub enter_beside-requires-clause-named : goal.enter_beside-requires-clause-named
 enter_beside-requires-clause-named g c κs within =
-    let script = c.args.lent.now.script.now in
-    let view = c.args.lent.now.stage.now in
+    let script = c.args.context.now.script.now in
+    let view = c.args.context.now.stage.now in
     let x : ScriptLine = record { number = c.args.line.number; actor = Display; body = body.Display c.args.line.text } in
     let at : At script c.args.place x = at_place script c.args.place x c.requires.playable c.requires.line in
     let beside : is_beside c.args.line.text ≡ true = search rules in
@@ -151,8 +151,8 @@ enter_beside-requires-clause-last g c κs within =
 
 pub returns-in-Begin-clause-stands : goal.returns-in-Begin-clause-stands
 returns-in-Begin-clause-stands g c =
-    let script = c.args.lent.now.script.now in
-    let view = c.args.lent.now.stage.now in
+    let script = c.args.context.now.script.now in
+    let view = c.args.context.now.stage.now in
     let x : ScriptLine = record { number = c.args.line.number; actor = Display; body = body.Display c.args.line.text } in
     let at : At script c.args.place x = at_place script c.args.place x c.requires.playable c.requires.line in
     let is : x.body ≡ body.Display (display.Begin c.in-Begin.time) = ap (λ t. body.Display t) c.in-Begin.is in
@@ -163,8 +163,8 @@ returns-in-Begin-clause-stands g c =
 
 pub returns-in-Begin-clause-directs : goal.returns-in-Begin-clause-directs
 returns-in-Begin-clause-directs g c =
-    let script = c.args.lent.now.script.now in
-    let view = c.args.lent.now.stage.now in
+    let script = c.args.context.now.script.now in
+    let view = c.args.context.now.stage.now in
     let x : ScriptLine = record { number = c.args.line.number; actor = Display; body = body.Display c.args.line.text } in
     let at : At script c.args.place x = at_place script c.args.place x c.requires.playable c.requires.line in
     let still = finished_still script view c.args.place x at refl c.requires.of c.args.compositor.now c.begin.new.compositor c.args.film.now c.requires.stands
@@ -173,8 +173,8 @@ returns-in-Begin-clause-directs g c =
 
 pub returns-in_ok-finish-in-Done-clause-stands : goal.returns-in_ok-finish-in-Done-clause-stands
 returns-in_ok-finish-in-Done-clause-stands g c =
-    let script = c.args.lent.now.script.now in
-    let view = c.args.lent.now.stage.now in
+    let script = c.args.context.now.script.now in
+    let view = c.args.context.now.stage.now in
     let x : ScriptLine = record { number = c.args.line.number; actor = Display; body = body.Display c.args.line.text } in
     let at : At script c.args.place x = at_place script c.args.place x c.requires.playable c.requires.line in
     let is : x.body ≡ body.Display display.Done = ap (λ t. body.Display t) c.in-Done.is in
@@ -185,8 +185,8 @@ returns-in_ok-finish-in-Done-clause-stands g c =
 
 pub returns-in_ok-finish-in-Done-clause-directs : goal.returns-in_ok-finish-in-Done-clause-directs
 returns-in_ok-finish-in-Done-clause-directs g c =
-    let script = c.args.lent.now.script.now in
-    let view = c.args.lent.now.stage.now in
+    let script = c.args.context.now.script.now in
+    let view = c.args.context.now.stage.now in
     let x : ScriptLine = record { number = c.args.line.number; actor = Display; body = body.Display c.args.line.text } in
     let at : At script c.args.place x = at_place script c.args.place x c.requires.playable c.requires.line in
     let is : x.body ≡ body.Display display.Done = ap (λ t. body.Display t) c.in-Done.is in
@@ -202,8 +202,8 @@ returns-in_ok-finish-in-Done-clause-displays g c =
 
 pub returns-in_ok-enter_beside-in_default : goal.returns-in_ok-enter_beside-in_default
 returns-in_ok-enter_beside-in_default g c =
-    let script = c.args.lent.now.script.now in
-    let view = c.args.lent.now.stage.now in
+    let script = c.args.context.now.script.now in
+    let view = c.args.context.now.stage.now in
     let x : ScriptLine = record { number = c.args.line.number; actor = Display; body = body.Display c.args.line.text } in
     let at : At script c.args.place x = at_place script c.args.place x c.requires.playable c.requires.line in
     let beside : is_beside c.args.line.text ≡ true = search rules in
@@ -220,12 +220,12 @@ returns-in_ok-enter_beside-in_default g c =
       directs = record {
         finishes = finishes_then script.setup (history_of c.args.compositor.now.display.seen) (history_of e.looked.display.seen)
             (history_of c.enter_beside.new.compositor.display.seen) seen still.1;
-        shown = IsShown.shows_none (still.0 ∙ seen.finishing) (ap (λ (f : Film). f.set) c.enter_beside.ensures.others) refl;
+        shown = IsShown.shows_none (still.0 ∙ seen.finishing) (ap (λ (f : RaceFrames). f.set) c.enter_beside.ensures.others) refl;
         keeping = ap keeping_of (answers_keep script.setup c.args.line.number c.args.line.text c.args.film.now.store c.enter_beside.new.film.store
             c.in_ok-enter_beside-in_default.ensures.answers);
       };
       stays = tt;
-      displays = record { count = ap (λ (f : Film). f.set.displays) c.enter_beside.ensures.others; kinds = refl };
+      displays = record { count = ap (λ (f : RaceFrames). f.set.displays) c.enter_beside.ensures.others; kinds = refl };
     }
 
 pub returns-in_err-enter_beside-in_default : goal.returns-in_err-enter_beside-in_default
@@ -234,10 +234,10 @@ returns-in_err-enter_beside-in_default g c = record {
   directs = search rules;
   stays = MatchResult-from_err _ _ _ c.from_residual-in_err-enter_beside-in_default.ensures.0 (λ why. record {
     compositor = c.in_err-enter_beside-in_default.ensures.unmoved;
-    set = ap (λ (f : Film). f.set) c.enter_beside.ensures.others;
+    set = ap (λ (f : RaceFrames). f.set) c.enter_beside.ensures.others;
     displays = refl;
   });
-  displays = record { count = ap (λ (f : Film). f.set.displays) c.enter_beside.ensures.others; kinds = refl };
+  displays = record { count = ap (λ (f : RaceFrames). f.set.displays) c.enter_beside.ensures.others; kinds = refl };
 }
 
 pub returns-in-Begin-clause-displays : goal.returns-in-Begin-clause-displays

@@ -7,8 +7,8 @@ use Rattle.flat_race.proofs.director.direct_next.Goals as goal
 pub direct_line-requires-clause-line : goal.direct_line-requires-clause-line
 direct_line-requires-clause-line g c κs within =
     let x = c.at-line.result.now in
-    let at : At c.args.lent.now.script.now c.args.place x = at_place c.args.lent.now.script.now c.args.place x c.requires.playable c.at-line.ensures in
-    display_line_at c.args.lent.now.script.now c.args.place x at c.at-line.ensures c.in-Display.text c.in-Display.is
+    let at : At c.args.context.now.script.now c.args.place x = at_place c.args.context.now.script.now c.args.place x c.requires.playable c.at-line.ensures in
+    display_line_at c.args.context.now.script.now c.args.place x at c.at-line.ensures c.in-Display.text c.in-Display.is
 
 pub at-line-requires : goal.at-line-requires
 at-line-requires g c = c.requires.place
@@ -28,9 +28,9 @@ direct_line-requires-clause-number g c κs within = c.requires.number
 pub returns-in_default : goal.returns-in_default
 returns-in_default g c =
     let x = c.at-line.result.now in
-    let at : At c.args.lent.now.script.now c.args.place x = at_place c.args.lent.now.script.now c.args.place x c.requires.playable c.at-line.ensures in
+    let at : At c.args.context.now.script.now c.args.place x = at_place c.args.context.now.script.now c.args.place x c.requires.playable c.at-line.ensures in
     record {
-      stands = line_other c.args.lent.now.script.now c.args.lent.now.stage.now c.args.place x at (λ text is. c.in_default.not-Display text is)
+      stands = line_other c.args.context.now.script.now c.args.context.now.stage.now c.args.place x at (λ text is. c.in_default.not-Display text is)
           c.args.compositor.now c.args.film.now c.requires.stands;
       directs = record { finishes = inl (refl, refl); shown = IsShown.shows_none refl refl refl; keeping = refl };
       stays = tt;

@@ -12,7 +12,7 @@ use Rattle.flat_race.proofs.director.finish.Goals as goal
 
 pub returns-clause-finishes : goal.returns-clause-finishes
 returns-clause-finishes g c = λ history stored starts.
-    let script = c.args.lent.now.script.now in
+    let script = c.args.context.now.script.now in
     let before : List FrameOut = finished script.setup history in
     let frame : FrameOut = frame_at script.setup (frames history + 1) (to_begin history) in
     let counted = finished_length script.setup history in

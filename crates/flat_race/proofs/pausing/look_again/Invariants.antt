@@ -4,4 +4,4 @@ use Rattle.flat_race.specs.Directing.{HasLooked}
 use Rattle.flat_race.proofs.pausing.look_again.Given as goal
 
 abbrev pub invariant-loop : goal.invariant-loop
-invariant-loop g l = (l.compositor.display.stage ≡ l.lent.stage.now) × HasLooked (setup_of l.lent.stage.now) l.fn.compositor l.compositor
+invariant-loop g l = (l.compositor.display.stage ≡ l.context.stage.now) × HasLooked (setup_of l.context.stage.now) l.fn.compositor l.compositor

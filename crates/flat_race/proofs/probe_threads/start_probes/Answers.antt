@@ -8,11 +8,11 @@ loop-probe-preserved g c =
     let was = c.loop-probe.invariant in
     let pushed : c.push_back_reserved.new.self.items ≡ c.loop-probe.out.items ++ c.start-started.result ∷ [] = search rules in
     record {
-      out = probe-out c.args.lent.now.script.now c.args.published.now.home c.loop-probe.out.items c.push_back_reserved.new.self.items c.start-started.result
+      out = probe-out c.args.context.now.script.now c.args.published.now.home c.loop-probe.out.items c.push_back_reserved.new.self.items c.start-started.result
           c.loop-probe.probe pushed was.many (search rules) was.out;
       many = search rules;
       room = search rules;
-      left = home-without c.args.published.now.home c.loop-probe.probe c.args.lent.now.script.now.setup.probes c.loop-probe.probes c.take.new.self
+      left = home-without c.args.published.now.home c.loop-probe.probe c.args.context.now.script.now.setup.probes c.loop-probe.probes c.take.new.self
           (search rules) was.left;
     }
 

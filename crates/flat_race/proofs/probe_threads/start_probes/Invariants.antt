@@ -5,8 +5,8 @@ use Rattle.flat_race.proofs.probe_threads.start_probes.Given as goal
 
 abbrev pub invariant-loop-probe : goal.invariant-loop-probe
 invariant-loop-probe g l = record {
-  out : AreProbesOut l.lent.script.now l.published.home 0 l.out.items;
+  out : AreProbesOut l.context.script.now l.published.home 0 l.out.items;
   many : length l.out.items ≡ l.probe;
-  room : l.lent.script.now.setup.probes ≤ deque_capacity l.out;
-  left : (k : ℕ) → l.probe ≤ k → k < l.lent.script.now.setup.probes → slice_index_or l.probes k None ≡ Some (newcomer l.published.home);
+  room : l.context.script.now.setup.probes ≤ deque_capacity l.out;
+  left : (k : ℕ) → l.probe ≤ k → k < l.context.script.now.setup.probes → slice_index_or l.probes k None ≡ Some (newcomer l.published.home);
 }

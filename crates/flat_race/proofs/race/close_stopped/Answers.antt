@@ -4,7 +4,7 @@ use Rattle.flat_report.specs.Report.{finished}
 use Rattle.flat_play.specs.Beginning.{AreBegun}
 use Rattle.flat_play.proofs.lemmas.Places.{setup_is}
 use Rattle.flat_play.proofs.lemmas.Starting.{few_sessions}
-use Rattle.flat_race.specs.declared.running.Stopped.{Stopped}
+use Rattle.flat_race.specs.declared.running.StoppedRace.{StoppedRace}
 use Rattle.flat_race.proofs.Closing.{IsClosed, all_home, has_begun}
 use Rattle.flat_race.proofs.race.close_stopped.Goals as goal
 
@@ -29,7 +29,7 @@ returns c = λ one is. (
     record { display = made.compositor; sessions = made.sessions; legal = made.legal } in
     let both : Some stopped ≡ Some one = sym c.in-Some.is ∙ is in
     let same : stopped ≡ one = cc in
-    let B : Stopped → Type 0 = λ s. AreBegun script (finished script.setup (history_of s.compositor.display.seen)) in
+    let B : StoppedRace → Type 0 = λ s. AreBegun script (finished script.setup (history_of s.compositor.display.seen)) in
     subst B same
     (has_begun script c.args.stage rest.place stopped.compositor.display rest.directed stopped.seats rest.are_whole rest.back c.close.result closed
     (made.fixed.0 ∙ c.requires.of.setup) (few_sessions script.setup (setup_is script c.requires.playable))

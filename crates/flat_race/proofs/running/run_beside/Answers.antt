@@ -11,7 +11,7 @@ meet_each-requires-clause-is g c = c.in-Ok-directed.ensures.directs.film.ends.is
 pub meet_each-requires-clause-last : goal.meet_each-requires-clause-last
 meet_each-requires-clause-last g c = λ any. (
     let was = c.in-Ok-directed.ensures.directs in
-    last-published-is c.args.lent.now.script.now (history_of c.direct-directed.new.compositor.display.seen) c.direct-directed.new.film.store.last
+    last-published-is c.args.context.now.script.now (history_of c.direct-directed.new.compositor.display.seen) c.direct-directed.new.film.store.last
     c.direct-directed.new.published
     was.film.ends.number was.film.ends.shows was.film.ends.scales (was.published.are any)
     )
@@ -19,7 +19,7 @@ meet_each-requires-clause-last g c = λ any. (
 pub returns-clause-raced : goal.returns-clause-raced
 returns-clause-raced g c =
     let was = c.in-Ok-directed.ensures.directs in
-    let script = c.args.lent.now.script.now in
+    let script = c.args.context.now.script.now in
     let history = history_of c.direct-directed.new.compositor.display.seen in
     let ends = was.film.ends in
     let stays = c.in-Ok-meet_each.ensures.stays in

@@ -12,8 +12,8 @@ pub overflow_cast-session : goal.overflow_cast-session
 overflow_cast-session g c =
     let popped : c.loop-last.out.items ≡ c.pop.new.self.items ++ c.in-Some.last ∷ [] = search rules in
     let long = ap length popped ∙ length-append c.pop.new.self.items (c.in-Some.last ∷ []) in
-    let most : c.args.lent.now.script.now.setup.sessions ≤ 16 =
-    few_sessions c.args.lent.now.script.now.setup (setup_is c.args.lent.now.script.now c.requires.playable) in
+    let most : c.args.context.now.script.now.setup.sessions ≤ 16 =
+    few_sessions c.args.context.now.script.now.setup (setup_is c.args.context.now.script.now c.requires.playable) in
     let few = c.loop-last.invariant.few in
     let is = c.len.ensures in
     omega (arith, long, most, few, is)
@@ -22,8 +22,8 @@ pub overflow_add-session : goal.overflow_add-session
 overflow_add-session g c =
     let popped : c.loop-last.out.items ≡ c.pop.new.self.items ++ c.in-Some.last ∷ [] = search rules in
     let long = ap length popped ∙ length-append c.pop.new.self.items (c.in-Some.last ∷ []) in
-    let most : c.args.lent.now.script.now.setup.sessions ≤ 16 =
-    few_sessions c.args.lent.now.script.now.setup (setup_is c.args.lent.now.script.now c.requires.playable) in
+    let most : c.args.context.now.script.now.setup.sessions ≤ 16 =
+    few_sessions c.args.context.now.script.now.setup (setup_is c.args.context.now.script.now c.requires.playable) in
     let few = c.loop-last.invariant.few in
     let is = c.len.ensures in
     omega (arith, long, most, few, is)
@@ -32,13 +32,13 @@ pub wait-seat-requires : goal.wait-seat-requires
 wait-seat-requires g c =
     let popped : c.loop-last.out.items ≡ c.pop.new.self.items ++ c.in-Some.last ∷ [] = search rules in
     let is : length c.pop.new.self.items ≡ c.len.result = search rules in
-    (out-last c.args.lent.now.stage.now c.args.lent.now.script.now c.loop-last.out.items c.pop.new.self.items c.in-Some.last c.len.result popped is
+    (out-last c.args.context.now.stage.now c.args.context.now.script.now c.loop-last.out.items c.pop.new.self.items c.in-Some.last c.len.result popped is
     c.loop-last.invariant.out).0
 
 pub loop-last-preserved : goal.loop-last-preserved
 loop-last-preserved g c =
-    let view = c.args.lent.now.stage.now in
-    let script = c.args.lent.now.script.now in
+    let view = c.args.context.now.stage.now in
+    let script = c.args.context.now.script.now in
     let was = c.loop-last.invariant in
     let left = c.pop.new.self.items in
     let back = c.wait-seat.result in

@@ -4,10 +4,10 @@ use Rattle.flat_race.proofs.threads.put_back.Given as goal
 
 abbrev pub invariant-loop-last : goal.invariant-loop-last
 invariant-loop-last g l = record {
-  out : AreOut l.lent.stage.now l.lent.script.now (length l.out.items) l.out.items;
-  few : length l.out.items ≤ l.lent.script.now.setup.sessions;
-  own : l.seats.stage ≡ l.lent.stage.now;
-  back : AreBack l.lent.stage.now l.lent.script.now (length l.out.items) l.are_whole l.seats.seats;
+  out : AreOut l.context.stage.now l.context.script.now (length l.out.items) l.out.items;
+  few : length l.out.items ≤ l.context.script.now.setup.sessions;
+  own : l.seats.stage ≡ l.context.stage.now;
+  back : AreBack l.context.stage.now l.context.script.now (length l.out.items) l.are_whole l.seats.seats;
 }
 
 abbrev pub decreases-loop-last : goal.decreases-loop-last

@@ -11,7 +11,8 @@ loop-before-preserved g c =
     record {
       own = c.start_next-started.ensures.own ∙ was.own;
       left = c.start_next-started.ensures.left;
-      out = out-more c.args.lent.now.stage.now c.args.lent.now.script.now c.loop-before.out.items c.push_reserved.new.self.items c.start_next-started.result k
+      out = out-more c.args.context.now.stage.now c.args.context.now.script.now c.loop-before.out.items c.push_reserved.new.self.items
+          c.start_next-started.result k
           pushed was.out.many c.start_next-started.ensures.out was.out;
       places = c.start_next-started.ensures.places;
       many = c.start_next-started.ensures.many ∙ was.many;

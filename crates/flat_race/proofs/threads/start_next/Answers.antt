@@ -12,21 +12,21 @@ use Rattle.flat_race.proofs.threads.start_next.Goals as goal
 
 pub unreachable-requires : goal.unreachable-requires
 unreachable-requires g c =
-    let view = c.args.lent.now.stage.now in
+    let view = c.args.context.now.stage.now in
     let k = c.args.before in
-    let next = left-next view c.args.lent.now.script.now.setup.sessions k c.args.seats.now.seats c.requires.next c.requires.left in
+    let next = left-next view c.args.context.now.script.now.setup.sessions k c.args.seats.now.seats c.requires.next c.requires.left in
     let fresh : SessionView = fresh_view view (record { 0 = k + 1 }) in
     let wrong : ◌≡◌ {A = Option SessionView} None (Some fresh) = sym c.in_default.is ∙ c.take.ensures.seat ∙ next in
     cc
 
 pub start-requires-clause-fresh : goal.start-requires-clause-fresh
-start-requires-clause-fresh g c κs within = next_is_fresh c.args.lent.now.stage.now c.args.lent.now.script.now.setup.sessions c.args.before
+start-requires-clause-fresh g c κs within = next_is_fresh c.args.context.now.stage.now c.args.context.now.script.now.setup.sessions c.args.before
     c.args.seats.now.seats c.in-Some.seat c.requires.next c.requires.left c.in-Some.ensures.seat
 
 pub start-requires-clause-places : goal.start-requires-clause-places
 start-requires-clause-places g c κs asked =
-    let view = c.args.lent.now.stage.now in
-    let script = c.args.lent.now.script.now in
+    let view = c.args.context.now.stage.now in
+    let script = c.args.context.now.script.now in
     let k = c.args.before in
     let session = is_next view script.setup.sessions k c.args.seats.now.seats c.in-Some.seat c.requires.next c.requires.left c.in-Some.ensures.seat in
     let got : slice_get c.args.places.now.items k ≡ Some c.replace-own.result =
@@ -40,8 +40,8 @@ start-requires-clause-places g c κs asked =
 
 pub returns-clause-out : goal.returns-clause-out
 returns-clause-out g c =
-    let view = c.args.lent.now.stage.now in
-    let script = c.args.lent.now.script.now in
+    let view = c.args.context.now.stage.now in
+    let script = c.args.context.now.script.now in
     let session = is_next view script.setup.sessions c.args.before c.args.seats.now.seats c.in-Some.seat c.requires.next c.requires.left
     c.in-Some.ensures.seat in
     let O : SessionNo → Type 0 = λ s. IsOut view script s c.start.result in
@@ -49,12 +49,12 @@ returns-clause-out g c =
 
 pub returns-clause-left : goal.returns-clause-left
 returns-clause-left g c =
-    left-more c.args.lent.now.stage.now c.args.lent.now.script.now.setup.sessions c.args.before c.args.seats.now.seats c.take.new.self.seats
+    left-more c.args.context.now.stage.now c.args.context.now.script.now.setup.sessions c.args.before c.args.seats.now.seats c.take.new.self.seats
     (ap (λ (s : SeatsView). s.seats) c.take.ensures.away) c.requires.left
 
 pub returns-clause-places : goal.returns-clause-places
 returns-clause-places g c =
-    let script = c.args.lent.now.script.now in
+    let script = c.args.context.now.script.now in
     subst (λ (ps : List (List ℕ)). ArePlaces script.lines (c.args.before + 1) ps) (sym (search rules))
     (placed-next script.lines c.args.before c.args.places.now.items [] c.requires.places)
 

@@ -2,7 +2,7 @@ use Rattle.std.proofs.Common.{ℕ, ◌≡◌, ◌∙◌, ◌+◌, ◌*◌, ap, L
 use Rattle.std.proofs.lemmas.List.{with_items_is}
 use Rattle.flat_render.specs.Pictures.{pixel_of}
 use Rattle.flat_render.specs.Rows.{band_of, colour_in}
-use Rattle.flat_render.specs.declared.grid.Grid.{Grid}
+use Rattle.flat_render.specs.declared.tile_grid.TileGrid.{TileGrid}
 use Rattle.flat_render.specs.declared.picture.Picture.{Picture}
 use Rattle.flat_render.proofs.Bands.{band-in-grid}
 use Rattle.flat_render.proofs.RowsOf.{copied-colour, rows-more}
@@ -35,7 +35,7 @@ slice_bounds-copy_from_slice-end c =
 pub loop-n-preserved : goal.loop-n-preserved
 loop-n-preserved c =
     let p : Picture = c.args.picture.now in
-    let g : Grid = p.grid in
+    let g : TileGrid = p.grid in
     let n : ℕ = c.loop-n.n in
     let band : List ℕ = c.as_slice.result.now in
     let is : band ≡ c.copy_from_slice.new.self = c.as_slice.ensures.value

@@ -2,14 +2,14 @@ use Rattle.std.proofs.Common.{ℕ, ◌≡◌, ◌≤◌, ◌++◌, ◌∙◌, ap
 use Rattle.std.proofs.lemmas.Nat.{row_fits}
 use Rattle.flat_render.specs.Ppm.{row_bytes}
 use Rattle.flat_render.specs.Rows.{colour_in}
-use Rattle.flat_render.specs.declared.grid.Grid.{Grid}
+use Rattle.flat_render.specs.declared.tile_grid.TileGrid.{TileGrid}
 use Rattle.flat_render.proofs.lemmas.Bytes.{run-more}
 use Rattle.flat_render.proofs.Runs.{run-colour}
 use Rattle.flat_render.proofs.ppm.push_row.Goals as goal
 
 pub loop-n-preserved : goal.loop-n-preserved
 loop-n-preserved c =
-    let g : Grid = c.args.grid.now in
+    let g : TileGrid = c.args.grid.now in
     let n : ℕ = c.loop-n.n in
     let a : ℕ = min (n * g.tile_w) g.width in
     let first : ℕ = c.run_start-first.result in
@@ -26,7 +26,7 @@ loop-n-preserved c =
 
 pub overflow_mul-n : goal.overflow_mul-n
 overflow_mul-n c =
-    let g : Grid = c.args.grid.now in
+    let g : TileGrid = c.args.grid.now in
     omega (arith, row_fits c.loop-n.n g.tile_w g.across g.tile_w c.loop-n-test.true (omega arith), c.requires.grid.most_right)
 
 pub push_run-requires-clause-there : goal.push_run-requires-clause-there
@@ -35,7 +35,7 @@ push_run-requires-clause-there c =
 
 pub returns : goal.returns
 returns c =
-    let g : Grid = c.args.grid.now in
+    let g : TileGrid = c.args.grid.now in
     let all : c.loop-n.n ≡ g.across = omega (arith, c.loop-n-test.false, c.loop-n.auto.n-end) in
     let wide : g.width ≤ c.loop-n.n * g.tile_w = omega (arith, c.requires.grid.right, ap (λ (k : ℕ). k * g.tile_w) all) in
     let whole : min (c.loop-n.n * g.tile_w) g.width ≡ g.width = omega (arith, wide) in

@@ -5,14 +5,14 @@ use Rattle.flat_drawable.specs.Drawable.{IsDrawable}
 use Rattle.flat_scene.specs.declared.frames.DrawItem.{DrawItem}
 use Rattle.flat_render.specs.Bands.{AreRows}
 use Rattle.flat_tile.specs.Preparing.{ArePrepared}
-use Rattle.flat_tile.specs.declared.prepared.Prepared.{Prepared}
-use Rattle.flat_render.specs.declared.grid.Grid.{Grid}
+use Rattle.flat_tile.specs.declared.prepared_item.PreparedItem.{PreparedItem}
+use Rattle.flat_render.specs.declared.tile_grid.TileGrid.{TileGrid}
 use Rattle.flat_render.proofs.Rendered.{rendered}
 use Rattle.flat_render.proofs.rendering.render.Goals as goal
 
 pub returns : goal.returns
 returns g c =
-    let grid : Grid = c.grid_for-grid.result in record {
+    let grid : TileGrid = c.grid_for-grid.result in record {
       width = c.grid_for-grid.ensures.width;
       height = c.grid_for-grid.ensures.height;
       pixels = λ x y hx hy.
@@ -34,7 +34,7 @@ invariant_of-result g c = record {
 pub draw_rows-requires-clause-plan : goal.draw_rows-requires-clause-plan
 draw_rows-requires-clause-plan g c = λ lives within. record {
   items = subst (λ (all : List DrawItem). All IsDrawable all) (sym c.as_slice-drawn.ensures) c.requires.items;
-  prepared = subst (λ (list : List Prepared). ArePrepared c.as_slice-drawn.result.now list) (sym c.as_slice-list.ensures.value) c.in_ok-prepared.ensures;
+  prepared = subst (λ (list : List PreparedItem). ArePrepared c.as_slice-drawn.result.now list) (sym c.as_slice-list.ensures.value) c.in_ok-prepared.ensures;
   grid = c.grid_for-grid.ensures.grid;
   rows = subst (λ (rows : List (Vec ℕ Global)). AreRows c.grid_for-grid.result c.as_slice-drawn.result.now rows (length c.as_slice-drawn.result.now))
       (sym c.as_slice.ensures.value) c.in_ok-rows.ensures;

@@ -5,7 +5,7 @@ use Rattle.flat_drawable.specs.Drawable.{IsDrawable}
 use Rattle.flat_scene.specs.declared.frames.DrawItem.{DrawItem}
 use Rattle.flat_render.specs.Bands.{AreRows}
 use Rattle.flat_tile.specs.Preparing.{ArePrepared}
-use Rattle.flat_tile.specs.declared.prepared.Prepared.{Prepared}
+use Rattle.flat_tile.specs.declared.prepared_item.PreparedItem.{PreparedItem}
 use Rattle.flat_render.proofs.Rendered.{rendered}
 use Rattle.flat_render.proofs.rendering.render_into.Goals as goal
 
@@ -22,7 +22,7 @@ returns-clause-ok g c = record {
 pub draw_rows-requires-clause-plan : goal.draw_rows-requires-clause-plan
 draw_rows-requires-clause-plan g c = λ lives within. record {
   items = subst (λ (all : List DrawItem). All IsDrawable all) (sym c.as_slice-drawn.ensures) c.requires;
-  prepared = subst (λ (list : List Prepared). ArePrepared c.as_slice-drawn.result.now list) (sym c.as_slice-list.ensures.value) c.in_ok-prepared.ensures;
+  prepared = subst (λ (list : List PreparedItem). ArePrepared c.as_slice-drawn.result.now list) (sym c.as_slice-list.ensures.value) c.in_ok-prepared.ensures;
   grid = c.args.picture.now.sides;
   rows = subst (λ (rows : List (Vec ℕ Global)). AreRows c.args.picture.now.grid c.as_slice-drawn.result.now rows (length c.as_slice-drawn.result.now))
       (sym c.as_slice.ensures.value) c.in_ok-rows.ensures;

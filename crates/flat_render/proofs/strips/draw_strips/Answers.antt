@@ -1,7 +1,7 @@
 use Rattle.std.proofs.Common.{ℕ, ◌≡◌, ◌∙◌, ◌+◌, ◌-◌, ◌<◌, ◌++◌, ap, List, length, get_or, arith}
 use Rattle.std.specs.Arc.{arc_value}
 use Rattle.std.proofs.lemmas.List.{with_items_is}
-use Rattle.flat_render.specs.declared.grid.Grid.{Grid}
+use Rattle.flat_render.specs.declared.tile_grid.TileGrid.{TileGrid}
 use Rattle.flat_render.specs.Grids.{band_bytes}
 use Rattle.flat_render.specs.Strips.{rows_above, strip_in}
 use Rattle.flat_render.proofs.StripSteps.{rows-grow, strip-more}
@@ -9,7 +9,7 @@ use Rattle.flat_render.proofs.strips.draw_strips.Goals as goal
 
 pub loop-n-preserved : goal.loop-n-preserved
 loop-n-preserved c =
-    let g : Grid = c.args.plan.now.grid in
+    let g : TileGrid = c.args.plan.now.grid in
     let n : ℕ = c.loop-n.n in
     let drawn : List ℕ = c.draw_band.new.bytes in
     let band : List ℕ = c.as_slice-in-loop-n-2.result.now in

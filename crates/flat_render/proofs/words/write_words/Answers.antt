@@ -2,13 +2,13 @@ use Rattle.std.proofs.Common.{ℕ, ◌+◌, ◌*◌, ◌∙◌, List, min, arith
 use Rattle.std.proofs.lemmas.List.{length-take, length-drop}
 use Rattle.flat_render.specs.Pictures.{pixel_of}
 use Rattle.flat_render.specs.Words.{xrgb}
-use Rattle.flat_render.specs.declared.grid.Grid.{Grid}
+use Rattle.flat_render.specs.declared.tile_grid.TileGrid.{TileGrid}
 use Rattle.flat_render.proofs.RowWords.{part-more, run-word}
 use Rattle.flat_render.proofs.words.write_words.Goals as goal
 
 pub loop-n-preserved : goal.loop-n-preserved
 loop-n-preserved c =
-    let g : Grid = c.args.picture.now.grid in
+    let g : TileGrid = c.args.picture.now.grid in
     let n : ℕ = c.loop-n.n in
     let a : ℕ = c.min-from.result in
     let bytes : List ℕ = c.as_slice-bytes.result.now in

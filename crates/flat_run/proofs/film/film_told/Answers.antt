@@ -4,7 +4,7 @@ use Rattle.flat_play.proofs.lemmas.Places.{setup_is}
 use Rattle.flat_play.proofs.lemmas.Seen.{kept_none}
 use Rattle.flat_report.specs.Probes.{frames_seen}
 use Rattle.flat_report.specs.Report.{finished}
-use Rattle.flat_words.specs.declared.form.Form.TheVariants.{Film}
+use Rattle.flat_words.specs.declared.service_word.ServiceWord.TheVariants.{Film}
 use Rattle.flat_run.specs.Answering.{ran_of}
 use Rattle.flat_run.proofs.Reporting.{if_ok, has_run, have_had}
 use Rattle.flat_run.proofs.Written.{wide, high}

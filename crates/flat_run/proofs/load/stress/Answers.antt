@@ -1,11 +1,12 @@
 use Rattle.std.proofs.Common.{◌≡◌, ℕ, List, Option, sym, subst}
 use Rattle.flat_scene.specs.declared.frames.FrameOut.{FrameOut}
-use Rattle.flat_words.specs.declared.form.Form.{Form}
+use Rattle.flat_words.specs.declared.service_word.ServiceWord.{ServiceWord}
 use Rattle.flat_run.specs.Promise.{IsTold}
 use Rattle.flat_run.proofs.load.stress.Goals as goal
 
 -- the same text is told of the same run
-told_same : {D : Type 0} (shown : D → Option (List FrameOut)) (faults : D → ℕ) (olds news : List D) (form : Form) (bytes text text' : List ℕ) → text' ≡ text
+told_same : {D : Type 0} (shown : D → Option (List FrameOut)) (faults : D → ℕ) (olds news : List D) (form : ServiceWord) (bytes text text' : List ℕ)
+    → text' ≡ text
     → IsTold shown faults olds news form bytes text → IsTold shown faults olds news form bytes text'
 told_same shown faults olds news form bytes text text' same told = subst (λ t. IsTold shown faults olds news form bytes t) (sym same) told
 

@@ -6,7 +6,7 @@ use Rattle.flat_report.specs.Report.{finished}
 use Rattle.flat_stress.specs.Load.{load_text}
 use Rattle.flat_stress.specs.Summary.{summary_line}
 use Rattle.flat_run.specs.Totals.{totals_of}
-use Rattle.flat_words.specs.declared.form.Form.TheVariants.{Stress}
+use Rattle.flat_words.specs.declared.service_word.ServiceWord.TheVariants.{Stress}
 use Rattle.flat_run.specs.Answering.{ran_of}
 use Rattle.flat_run.specs.Forms.{plain, read_as}
 use Rattle.flat_run.proofs.Reporting.{if_ok, has_run, have_had, load_asked}

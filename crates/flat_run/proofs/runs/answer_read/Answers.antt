@@ -1,6 +1,6 @@
 use Rattle.std.proofs.Common.{◌≡◌, ◌≢◌, Ok, Err, refl, ap, sym, ◌∙◌, subst}
-use Rattle.flat_words.specs.declared.form.Form.TheVariants.{Race}
-use Rattle.flat_run.specs.declared.answers.Unanswered.TheVariants.{Fault}
+use Rattle.flat_words.specs.declared.service_word.ServiceWord.TheVariants.{Race}
+use Rattle.flat_run.specs.declared.answers.NoAnswer.TheVariants.{Fault}
 use Rattle.flat_run.specs.Answering.{IsGiven}
 use Rattle.flat_run.proofs.Replying.{answers_nothing, answers_refused, answers_run, answers_unrun, ok_holds}
 use Rattle.flat_run.proofs.runs.answer_read.Goals as goal

@@ -2,7 +2,7 @@ use Rattle.std.proofs.Common.{◌≡◌, ◌∙◌, ℕ, true, nat_lt, sym, ap, 
 use Rattle.std.specs.List.{list_all}
 use Rattle.flat_page.specs.Steps.{without_items}
 use Rattle.flat_pointer.specs.declared.pointers.TheConstants.{POINTERS}
-use Rattle.flat_pointer.specs.declared.text.Touch.{Touch}
+use Rattle.flat_pointer.specs.declared.text.PointerTouch.{PointerTouch}
 use Rattle.flat_pointer.specs.Text.{pointer_text}
 use Rattle.flat_report.specs.Report.{finished}
 use Rattle.flat_scene.specs.declared.frames.FrameOut.{FrameOut}
@@ -12,7 +12,7 @@ use Rattle.flat_run.proofs.texts.pointers_of.Goals as goal
 
 pub print_pointers-requires : goal.print_pointers-requires
 print_pointers-requires c =
-    let K : List Touch → Type 0 = λ touches. list_all (λ (touch : Touch). nat_lt touch.line.pointer POINTERS) touches ≡ true in
+    let K : List PointerTouch → Type 0 = λ touches. list_all (λ (touch : PointerTouch). nat_lt touch.line.pointer POINTERS) touches ≡ true in
     record {
       all = subst K (sym c.requires.touches) (pointers_touched c.args.reading.now.script.setup c.args.played.board.history c.args.reading.now.pointers
           c.requires.runnable.pointers);

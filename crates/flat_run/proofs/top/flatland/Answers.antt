@@ -1,5 +1,5 @@
 use Rattle.std.proofs.Common.{◌≡◌, ◌∙◌, ap, sym}
-use Rattle.flat_words.specs.declared.form.Form.TheVariants.{Race}
+use Rattle.flat_words.specs.declared.service_word.ServiceWord.TheVariants.{Race}
 use Rattle.flat_run.specs.Serving.{SinkState, SourceState}
 use Rattle.flat_run.proofs.lemmas.Serving.{serves_by, serves_from, untouched_by, unwritten_by}
 use Rattle.flat_run.proofs.top.flatland.Goals as goal

@@ -1,6 +1,6 @@
 use Rattle.std.proofs.Common.{◌≡◌, ◌∙◌, ap, refl, None, Some, Ok, map}
 use Rattle.std.specs.String.{string_bytes}
-use Rattle.flat_words.specs.declared.form.Form.{Form}
+use Rattle.flat_words.specs.declared.service_word.ServiceWord.{ServiceWord}
 use Rattle.flat_words.specs.Forms.{CallFor}
 use Rattle.flat_run.specs.Serving.{SinkState}
 use Rattle.flat_run.proofs.Answering.{called_for, none_called, one_form}
@@ -10,7 +10,7 @@ use Rattle.flat_run.proofs.top.serve.Goals as goal
 pub returns-in-Ok-Some : goal.returns-in-Ok-Some
 returns-in-Ok-Some g c =
     let calls = called_for _ c.in-Ok-Some.field-0 c.in-Ok-Some.form c.in-Ok-Some.field-0-is c.in-Ok-Some.ensures.form in
-    let one : (f : Form) → CallFor (map string_bytes c.args.words.now) f → f ≡ c.in-Ok-Some.form =
+    let one : (f : ServiceWord) → CallFor (map string_bytes c.args.words.now) f → f ≡ c.in-Ok-Some.form =
     λ f called. one_form c.in-Ok-Some.field-0 c.in-Ok-Some.form f c.in-Ok-Some.field-0-is (c.in-Ok-Some.ensures.only f called) in
     let wrote = c.write_answer.ensures in
     let made = c.answer_in_order-answer.ensures in

@@ -1,5 +1,5 @@
 use Rattle.flat_report.specs.Probes.{frames_seen}
-use Rattle.flat_words.specs.declared.form.Form.TheVariants.{Why}
+use Rattle.flat_words.specs.declared.service_word.ServiceWord.TheVariants.{Why}
 use Rattle.flat_run.specs.Answering.{ran_of}
 use Rattle.flat_run.proofs.Reporting.{if_ok, has_run, have_had}
 use Rattle.std.proofs.Common.{refl, ap, ◌∙◌}

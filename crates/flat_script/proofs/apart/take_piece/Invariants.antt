@@ -1,6 +1,6 @@
 use Rattle.std.proofs.Common.{◌≡◌, ◌≤◌, ◌+◌, List, ℕ, ◌++◌, length}
 use Rattle.flat_text.specs.Pieces.{lines_of}
-use Rattle.flat_forms.specs.declared.lines.Part.TheVariants.{Body}
+use Rattle.flat_forms.specs.declared.lines.TextPart.TheVariants.{Body}
 use Rattle.flat_forms.specs.Ahead.{head_of}
 use Rattle.flat_forms.specs.Progress.{sofar_of}
 use Rattle.flat_script.specs.Ahead.{AreAhead, StandsBefore}

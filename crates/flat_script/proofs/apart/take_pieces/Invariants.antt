@@ -1,5 +1,5 @@
 use Rattle.std.proofs.Common.{◌≡◌, ◌≤◌, ◌+◌, List, ℕ, ◌++◌, length, drop}
-use Rattle.flat_forms.specs.declared.lines.Part.TheVariants.{Body}
+use Rattle.flat_forms.specs.declared.lines.TextPart.TheVariants.{Body}
 use Rattle.flat_forms.specs.Ahead.{head_of}
 use Rattle.flat_forms.specs.Progress.{sofar_of}
 use Rattle.flat_script.specs.Ahead.{AreAheadIn, StandsBefore, lines_in}

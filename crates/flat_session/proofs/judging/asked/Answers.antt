@@ -1,10 +1,10 @@
 use Rattle.std.proofs.Common.{◌≡◌, true, false, sym, ◌∙◌, subst, Err, Some}
 use Rattle.flat_base.specs.declared.errors.Reason.{Reason}
-use Rattle.flat_scene.specs.declared.script.Line.TheVariants as line
+use Rattle.flat_scene.specs.declared.script.SessionLine.TheVariants as line
 use Rattle.flat_draft.specs.declared.fault.DraftFault.{DraftFault}
 use Rattle.flat_draft.specs.declared.fault.DraftFault.TheVariants.{Closed, Memory}
 use Rattle.flat_draft.specs.Answers.{IsWatched}
-use Rattle.flat_session.specs.declared.made.Made.TheVariants as made
+use Rattle.flat_session.specs.declared.requested_entry.RequestedEntry.TheVariants as made
 use Rattle.flat_session.specs.Reads.{Tells}
 use Rattle.flat_session.proofs.lemmas.Tellings.{get_closes, get_done}
 use Rattle.flat_session.proofs.judging.asked.Goals as goal

@@ -1,11 +1,11 @@
 use Rattle.std.proofs.Common.{◌≡◌, true, false, sym, ◌∙◌, subst, Err, Some, Option}
 use Rattle.flat_base.specs.declared.errors.Reason.{Reason}
-use Rattle.flat_scene.specs.declared.script.Line.TheVariants as line
+use Rattle.flat_scene.specs.declared.script.SessionLine.TheVariants as line
 use Rattle.flat_draft.specs.declared.fault.DraftFault.{DraftFault}
 use Rattle.flat_draft.specs.declared.fault.DraftFault.TheVariants.{Closed, Memory}
 use Rattle.flat_draft.specs.Answers.{IsAnswer}
-use Rattle.flat_session.specs.declared.made.Made.{Made}
-use Rattle.flat_session.specs.declared.made.Made.TheVariants as made
+use Rattle.flat_session.specs.declared.requested_entry.RequestedEntry.{RequestedEntry}
+use Rattle.flat_session.specs.declared.requested_entry.RequestedEntry.TheVariants as made
 use Rattle.flat_session.specs.Reads.{Tells}
 use Rattle.flat_session.proofs.lemmas.Tellings.{call_closes, call_done}
 use Rattle.flat_session.proofs.judging.done.Goals as goal
@@ -20,7 +20,7 @@ unreachable-requires c =
 
 pub returns-in-Ok-clause-tells : goal.returns-in-Ok-clause-tells
 returns-in-Ok-clause-tells c = λ setup s before stands played.
-    let T : Option Made → Type 0 = λ made. Tells setup s before (line.Call c.args.call.now) c.call.new.self made in
+    let T : Option RequestedEntry → Type 0 = λ made. Tells setup s before (line.Call c.args.call.now) c.call.new.self made in
     subst T (sym c.view_made-made.ensures) (call_done setup s before c.args.draft.now c.call.new.self c.args.call.now c.requires.other played
     (c.in-Ok.ensures.answered setup before stands))
 

@@ -1,11 +1,11 @@
 use Rattle.std.proofs.Common.{◌≡◌, true, false, sym, ◌∙◌, subst, Some}
 use Rattle.std.specs.Arc.{arc_value}
 use Rattle.flat_base.specs.declared.errors.Reason.{Reason}
-use Rattle.flat_scene.specs.declared.script.Line.TheVariants as line
+use Rattle.flat_scene.specs.declared.script.SessionLine.TheVariants as line
 use Rattle.flat_draft.specs.declared.fault.DraftFault.{DraftFault}
 use Rattle.flat_draft.specs.declared.fault.DraftFault.TheVariants.{Closed, Memory}
 use Rattle.flat_draft.specs.Answers.{IsRefused}
-use Rattle.flat_session.specs.declared.made.Made.TheVariants as made
+use Rattle.flat_session.specs.declared.requested_entry.RequestedEntry.TheVariants as made
 use Rattle.flat_session.specs.Reads.{Tells}
 use Rattle.flat_session.proofs.lemmas.Tellings.{present_closes, present_kind, present_leaves}
 use Rattle.flat_session.proofs.judging.presented.Goals as goal

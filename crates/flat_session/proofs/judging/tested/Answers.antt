@@ -2,12 +2,12 @@ use Rattle.std.proofs.Common.{◌≡◌, true, false, sym, ◌∙◌, subst, Err
 use Rattle.flat_base.specs.declared.errors.Reason.{Reason}
 use Rattle.flat_scene.specs.declared.calls.Call.{Call}
 use Rattle.flat_scene.specs.declared.calls.Call.TheVariants.{CreateViewport}
-use Rattle.flat_scene.specs.declared.script.Line.TheVariants as line
+use Rattle.flat_scene.specs.declared.script.SessionLine.TheVariants as line
 use Rattle.flat_draft.specs.declared.fault.DraftFault.{DraftFault}
 use Rattle.flat_draft.specs.declared.fault.DraftFault.TheVariants.{Closed, Memory}
 use Rattle.flat_draft.specs.Answers.{IsReadied}
 use Rattle.flat_rules.specs.Owned.{is_played_line}
-use Rattle.flat_session.specs.declared.made.Made.TheVariants as made
+use Rattle.flat_session.specs.declared.requested_entry.RequestedEntry.TheVariants as made
 use Rattle.flat_session.specs.Reads.{Tells}
 use Rattle.flat_session.proofs.lemmas.Tellings.{call_closes, viewport_ready}
 use Rattle.flat_session.proofs.judging.tested.Goals as goal

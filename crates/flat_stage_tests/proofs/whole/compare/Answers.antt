@@ -1,6 +1,6 @@
 use Rattle.std.proofs.Common.{◌≡◌, refl, sym, ap, ◌∙◌, subst}
 use Rattle.flat_base.specs.declared.ids.Actor.TheVariants.{Display}
-use Rattle.flat_scene.specs.declared.script.Cond.TheVariants.{Presents}
+use Rattle.flat_scene.specs.declared.script.WaitCondition.TheVariants.{Presents}
 use Rattle.flat_scene.specs.declared.setup.Setup.{Setup}
 use Rattle.flat_core.specs.Machines.{MayLook}
 use Rattle.flat_stage.specs.Displays.{DisplayView}

@@ -4,7 +4,7 @@ use Rattle.flat_ink.specs.Areas.{has_pixel}
 use Rattle.flat_tile.specs.Preparing.{AreTonesOf}
 use Rattle.flat_tile.specs.Tiles.{x_at, y_at, channel_at, pixels_of, tile_area}
 use Rattle.flat_ink.specs.declared.area.Area.{Area}
-use Rattle.flat_tile.specs.declared.prepared.Tones.{Tones}
+use Rattle.flat_tile.specs.declared.prepared_item.ItemChannels.{ItemChannels}
 use Rattle.flat_tile.proofs.Fresh.{filled-over, tile-covered}
 use Rattle.flat_tile.proofs.lemmas.Items.{tile-has-byte}
 use Rattle.flat_tile.proofs.lemmas.Planes.{some-pixels}
@@ -24,6 +24,6 @@ returns c = λ m small.
     (wider-area c.args.it.now.area (tile_area c.args.tile) (x_at c.args.tile m) (y_at c.args.tile m) c.requires.covered has)
     (tile-covered c.args.item.now c.args.it.now c.args.tile (x_at c.args.tile m) (y_at c.args.tile m) c.requires.prepared c.requires.covered
     c.requires.tile has)
-    (subst (λ (t : Tones). AreTonesOf c.args.item.now c.args.it.now.mix c.args.it.now.area t) c.requires.tones c.requires.prepared.tones)
+    (subst (λ (t : ItemChannels). AreTonesOf c.args.item.now c.args.it.now.mix c.args.it.now.area t) c.requires.tones c.requires.prepared.tones)
     channel (c.colour_over_black-colour.ensures (channel_at c.args.tile m) channel)
     (c.lay_fill.ensures m small)

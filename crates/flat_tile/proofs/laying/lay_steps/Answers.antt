@@ -4,10 +4,10 @@ use Rattle.flat_ink.specs.Inks.{mixed}
 use Rattle.flat_tile.specs.Preparing.{stamped, toned}
 use Rattle.flat_tile.specs.Tiles.{x_at, y_at, channel_at, tile_area}
 use Rattle.flat_ink.specs.declared.area.Area.{Area}
-use Rattle.flat_ink.specs.declared.ink.Mix.{Mix}
-use Rattle.flat_ink.specs.declared.ink.Mix.TheVariants.{Replace}
-use Rattle.flat_tile.specs.declared.prepared.Tones.{Tones}
-use Rattle.flat_tile.specs.declared.prepared.Tones.TheVariants.{Stepped}
+use Rattle.flat_ink.specs.declared.channel_ink.BlendRule.{BlendRule}
+use Rattle.flat_ink.specs.declared.channel_ink.BlendRule.TheVariants.{Replace}
+use Rattle.flat_tile.specs.declared.prepared_item.ItemChannels.{ItemChannels}
+use Rattle.flat_tile.specs.declared.prepared_item.ItemChannels.TheVariants.{Stepped}
 use Rattle.flat_tile.proofs.Preparing.{where-it-holds}
 use Rattle.flat_tile.proofs.laying.lay_steps.Goals as goal
 
@@ -26,7 +26,7 @@ returns-in-Replace c = λ m small.
     let has : Bool = has_pixel c.args.cut px py in
     let old : ℕ = get_or c.args.bytes.now m 0 in
     let now : ℕ = get_or c.stamp_tile.new.bytes m 0 in
-    subst (λ (mix : Mix). now ≡ (if has then mixed mix (toned area c.args.it.now.tones n px py) old else old)) (sym c.in-Replace.is)
-    (subst (λ (t : Tones). now ≡ (if has then mixed Replace (toned area t n px py) old else old)) (sym c.requires.steps)
+    subst (λ (mix : BlendRule). now ≡ (if has then mixed mix (toned area c.args.it.now.tones n px py) old else old)) (sym c.in-Replace.is)
+    (subst (λ (t : ItemChannels). now ≡ (if has then mixed Replace (toned area t n px py) old else old)) (sym c.requires.steps)
     (where-it-holds has Replace (stamped c.stamp_of.result n px py) (toned area (Stepped c.args.steps) n px py) old now (c.stamp_of.ensures.values n px py)
     (c.stamp_tile.ensures m small ∙ ap (λ (a : Area). if has_pixel a px py then stamped c.stamp_of.result n px py else old) c.stamp_of.ensures.cut)))

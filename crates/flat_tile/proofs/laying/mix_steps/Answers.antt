@@ -5,8 +5,8 @@ use Rattle.flat_tile.specs.Preparing.{toned}
 use Rattle.flat_ink.specs.Textures.{stride_of}
 use Rattle.flat_tile.specs.Tiles.{x_at, y_at, channel_at, pixels_of}
 use Rattle.flat_ink.specs.declared.area.Area.{Area}
-use Rattle.flat_tile.specs.declared.prepared.Tones.{Tones}
-use Rattle.flat_tile.specs.declared.prepared.Tones.TheVariants.{Stepped}
+use Rattle.flat_tile.specs.declared.prepared_item.ItemChannels.{ItemChannels}
+use Rattle.flat_tile.specs.declared.prepared_item.ItemChannels.TheVariants.{Stepped}
 use Rattle.flat_tile.proofs.lemmas.Planes.{some-pixels}
 use Rattle.flat_tile.proofs.Preparing.{by-channels, table-step, where-it-holds}
 use Rattle.flat_ink.proofs.lemmas.Windows.{pixel-left, pixel-right, pixel-top, pixel-bottom}
@@ -21,7 +21,7 @@ returns c = λ m small.
     let cut : Area = c.args.cut in
     let area : Area = c.args.it.now.area in
     let has : Bool = has_pixel cut px py in
-    subst (λ (t : Tones). get_or c.lay_even.new.bytes m 0
+    subst (λ (t : ItemChannels). get_or c.lay_even.new.bytes m 0
     ≡ (if has then mixed c.args.it.now.mix (toned area t (channel_at c.args.tile m) px py) (get_or c.args.bytes.now m 0) else get_or c.args.bytes.now m 0))
     (sym c.requires.steps)
     (by-channels (pixels_of c.args.tile) m has (λ n old. mixed c.args.it.now.mix (toned area (Stepped c.args.steps) n px py) old) _ _ _ _

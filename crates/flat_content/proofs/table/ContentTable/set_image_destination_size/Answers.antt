@@ -1,7 +1,7 @@
 use Rattle.std.proofs.Common.{◌≡◌, Some, refl, rules}
 use Rattle.flat_scene.specs.Draft.{of_serial}
 use Rattle.flat_graph.specs.Names.{key_named}
-use Rattle.flat_content.specs.declared.stored.Stored.TheVariants.{Image}
+use Rattle.flat_content.specs.declared.stored_content.StoredContent.TheVariants.{Image}
 use Rattle.flat_content.specs.Table.{TableState}
 use Rattle.flat_content.proofs.Soundness.{room-same, set-by, table-set}
 use Rattle.std.proofs.Common.{◌≡◌, [], ◌∷◌, sym, ◌∙◌, ◌||◌}

@@ -3,7 +3,7 @@ use Rattle.flat_base.specs.declared.errors.Reason.TheVariants.{BadOpacity}
 use Rattle.flat_base.specs.declared.limits.TheConstants.{OPACITY_MAX}
 use Rattle.flat_scene.specs.Draft.{of_serial}
 use Rattle.flat_graph.specs.Names.{key_named}
-use Rattle.flat_content.specs.declared.stored.Stored.TheVariants.{Image}
+use Rattle.flat_content.specs.declared.stored_content.StoredContent.TheVariants.{Image}
 use Rattle.flat_content.specs.Table.{TableState}
 use Rattle.std.proofs.lemmas.Bool.{le-ltb, lt-ltb}
 use Rattle.flat_scene.specs.Misuse.{is_image}

@@ -2,8 +2,8 @@ use Rattle.std.proofs.Common.{◌≡◌, Some, ap, unwrap_or, rules}
 use Rattle.flat_scene.specs.declared.calls.Inset.{Inset}
 use Rattle.flat_scene.specs.Draft.{of_serial}
 use Rattle.flat_graph.specs.Names.{key_named}
-use Rattle.flat_content.specs.declared.stored.Stored.{Stored}
-use Rattle.flat_content.specs.declared.stored.Stored.TheVariants.{Viewport}
+use Rattle.flat_content.specs.declared.stored_content.StoredContent.{StoredContent}
+use Rattle.flat_content.specs.declared.stored_content.StoredContent.TheVariants.{Viewport}
 use Rattle.flat_content.specs.Table.{TableState}
 use Rattle.flat_content.proofs.Soundness.{room-same, set-by, table-set}
 use Rattle.std.proofs.Common.{◌≡◌, [], ◌∷◌, sym, ap, ◌∙◌, ◌||◌}
@@ -32,7 +32,7 @@ returns-clause-set c =
     let named : key_named table.names c.args.c.0 ≡ Some c.in_ok-serial.serial = search rules in
     let there : of_serial table.contents c.in_ok-serial.serial ≡ Some (Viewport c.in_ok-serial.pair c.in_ok-serial.props) = search rules in
     let inset : c.unwrap_or-inset.result ≡ unwrap_or c.args.inset c.in_ok-serial.props.inset = search rules in
-    let same = ap (λ (i : Inset). let s : Stored = Viewport c.in_ok-serial.pair (record { w = c.args.w; h = c.args.h; inset = i }) in s) inset in
+    let same = ap (λ (i : Inset). let s : StoredContent = Viewport c.in_ok-serial.pair (record { w = c.args.w; h = c.args.h; inset = i }) in s) inset in
     rw (← c.self.view_is) (set-by table c.args.c.0 c.in_ok-serial.serial (Viewport c.in_ok-serial.pair c.in_ok-serial.props) _ _ _ named there same
     c.put.ensures.items)
 

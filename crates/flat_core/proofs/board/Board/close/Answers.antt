@@ -1,6 +1,6 @@
 use Rattle.std.proofs.Common.{◌≡◌, ◌-◌, true, false, refl, sym, ◌∙◌, ap, slice_set}
 use Rattle.flat_base.specs.declared.ids.Actor.TheVariants.{Session}
-use Rattle.flat_scene.specs.declared.journal.Kind.TheVariants.{Close}
+use Rattle.flat_scene.specs.declared.journal.EntryKind.TheVariants.{Close}
 use Rattle.flat_scene.specs.declared.journal.Reply.{Reply}
 use Rattle.flat_scene.specs.History.{closes}
 use Rattle.flat_states.specs.declared.state.SessionState.{SessionState}
@@ -43,7 +43,7 @@ invariant_of-self c =
     let stands = standing m (Session c.args.s) c.args.calls (Close c.args.why) call inside.clock inside.fences inside.view_ends states c.self.invariant.0 in
     let ends = ends-after m (Session c.args.s) c.args.line c.args.calls (Close c.args.why) reply call is refl refl
     (λ opened. let wrong : true ≡ false = sym shut ∙ opened in absurd (cc)) c.self.invariant.0.legal states inside.viewports.items c.enter.new.ends.items
-    inside.ties c.enter.new.ties stands at c.self.invariant.2 c.self.invariant.3 in
+    inside.links c.enter.new.links stands at c.self.invariant.2 c.self.invariant.3 in
     let placed = placed-of setup (Close c.args.why) (Session c.args.s) _ c.self.invariant.0.count call.may.acts in
     let closed : SessionState = record at.state { closed = true } in
     let sessions : c.enter.new.sessions.items ≡ slice_set states (c.args.s.0 - 1) closed =

@@ -7,7 +7,7 @@ use Rattle.flat_states.proofs.lemmas.Opened.{few-declared}
 use Rattle.std.specs.List.{list_any}
 use Rattle.flat_facts.specs.Lives.{is_new_viewport}
 use Rattle.flat_base.specs.declared.ids.Actor.TheVariants.{Display}
-use Rattle.flat_scene.specs.declared.journal.Kind.TheVariants.{Finish}
+use Rattle.flat_scene.specs.declared.journal.EntryKind.TheVariants.{Finish}
 use Rattle.flat_scene.specs.declared.journal.Reply.TheVariants.{Done}
 use Rattle.flat_scene.specs.History.{◌▹◌}
 use Rattle.flat_scene.specs.declared.journal.Entry.{Entry}

@@ -2,7 +2,7 @@ use Rattle.std.proofs.Common.{◌≡◌, [], ap, refl, sym, ◌∙◌}
 use Rattle.std.specs.List.{list_any}
 use Rattle.flat_facts.specs.Lives.{is_new_viewport}
 use Rattle.flat_base.specs.declared.ids.Actor.TheVariants.{Display}
-use Rattle.flat_scene.specs.declared.journal.Kind.TheVariants.{Dpr}
+use Rattle.flat_scene.specs.declared.journal.EntryKind.TheVariants.{Dpr}
 use Rattle.flat_scene.specs.declared.journal.Reply.TheVariants.{Done}
 use Rattle.flat_scene.specs.History.{◌▹◌}
 use Rattle.flat_scene.specs.declared.journal.Entry.{Entry}
@@ -34,7 +34,7 @@ invariant_of-self c =
     let history : c.enter.new.log.history ≡ (inside.log.history ▹ entry_of Display c.args.line [] (Dpr c.args.ratio) Done) =
     log.history in
     let ends = ends-after m Display c.args.line [] (Dpr c.args.ratio) Done call refl refl refl (λ opened. refl) c.self.invariant.0.legal inside.sessions.items
-    inside.viewports.items c.enter.new.ends.items inside.ties c.enter.new.ties tt log.ends c.self.invariant.2 c.self.invariant.3 in
+    inside.viewports.items c.enter.new.ends.items inside.links c.enter.new.links tt log.ends c.self.invariant.2 c.self.invariant.3 in
     let kept = kept-quiet m Display c.args.line [] (Dpr c.args.ratio) Done call refl
     (record { no_begin = refl; no_finish = refl; no_poll = refl; no_view = refl; none = λ made. refl }) refl refl _ _ _ _ _ _ _ _ _ _ refl
     c.self.invariant.0 c.self.invariant.1

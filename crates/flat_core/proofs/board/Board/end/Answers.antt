@@ -1,7 +1,7 @@
 use Rattle.std.proofs.Common.{refl, sym, ◌∙◌}
 use Rattle.flat_base.specs.declared.ids.Actor.{Actor}
 use Rattle.flat_base.specs.declared.ids.Actor.TheVariants.{Session}
-use Rattle.flat_scene.specs.declared.journal.Kind.TheVariants.{End}
+use Rattle.flat_scene.specs.declared.journal.EntryKind.TheVariants.{End}
 use Rattle.flat_scene.specs.declared.journal.Reply.TheVariants.{Done}
 use Rattle.flat_states.specs.Machines.{Machine}
 use Rattle.flat_links.proofs.lemmas.EndSteps.{ends-after, none-new, standing}
@@ -32,7 +32,7 @@ invariant_of-self c =
     let states = inside.sessions.items in
     let stands = standing m who c.args.calls (End c.args.refused) call inside.clock inside.fences inside.view_ends states c.self.invariant.0 in
     let ends = ends-after m who c.args.line c.args.calls (End c.args.refused) Done call refl refl refl (λ opened. refl) c.self.invariant.0.legal states
-    inside.viewports.items c.enter.new.ends.items inside.ties c.enter.new.ties stands did.ends c.self.invariant.2 c.self.invariant.3 in
+    inside.viewports.items c.enter.new.ends.items inside.links c.enter.new.links stands did.ends c.self.invariant.2 c.self.invariant.3 in
     let kept = kept-quiet m who c.args.line c.args.calls (End c.args.refused) Done call refl (plain-end _ _ _ _) refl refl _ _ _ _ _ _ _ _ _ _ refl
     c.self.invariant.0 c.self.invariant.1
     (unchanged _ _ _ _ (λ sessions g f. refl) (λ p. refl))

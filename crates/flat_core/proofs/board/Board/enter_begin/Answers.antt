@@ -3,7 +3,7 @@ use Rattle.flat_facts.specs.Lives.{is_new_viewport}
 use Rattle.std.proofs.Common.{◌≡◌, List, [], length, ◌+◌, ◌<◌, ◌^◌, refl, sym, ◌∙◌, ap, subst, arith}
 use Rattle.flat_base.specs.declared.ids.Actor.TheVariants.{Display}
 use Rattle.flat_scene.specs.declared.journal.Entry.{Entry}
-use Rattle.flat_scene.specs.declared.journal.Kind.TheVariants.{Begin}
+use Rattle.flat_scene.specs.declared.journal.EntryKind.TheVariants.{Begin}
 use Rattle.flat_scene.specs.declared.journal.Reply.TheVariants.{Done}
 use Rattle.flat_scene.specs.History.{◌▹◌}
 use Rattle.flat_states.specs.declared.state.SessionState.{SessionState}

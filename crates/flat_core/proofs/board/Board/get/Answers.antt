@@ -1,12 +1,12 @@
 use Rattle.std.proofs.Common.{◌≡◌, ◌-◌, sym, slice_set, ◌+◌, ◌<◌, ◌≤◌, ◌^◌, refl, ◌∙◌, ap, arith, subst}
 use Rattle.flat_base.specs.declared.ids.Actor.TheVariants.{Session}
 use Rattle.flat_scene.specs.declared.journal.Entry.{Entry}
-use Rattle.flat_scene.specs.declared.journal.Kind.TheVariants.{Get}
+use Rattle.flat_scene.specs.declared.journal.EntryKind.TheVariants.{Get}
 use Rattle.flat_scene.specs.History.{◌▹◌}
 use Rattle.flat_states.specs.Machines.{Machine}
 use Rattle.flat_facts.specs.Begins.{entry_of}
 use Rattle.flat_rules.specs.Legal.{Legal, reply_to}
-use Rattle.flat_core.specs.Telling.{IsTelling}
+use Rattle.flat_core.specs.PairValues.{TellsPairs}
 use Rattle.flat_links.proofs.lemmas.EndSteps.{ends-after, none-new, standing}
 use Rattle.flat_states.proofs.lemmas.Heard.{after_get, entered-set, heard-get}
 use Rattle.flat_states.specs.declared.state.SessionState.{SessionState}
@@ -78,7 +78,7 @@ invariant_of-self-2 c =
     let did = c.enter.ensures in
     let at = did.ends in
     let reply = c.in-Ok.reply in
-    let telling : IsTelling inside.setup c.port_of.result inside.ties inside.view_ends inside.setup h =
+    let telling : TellsPairs inside.setup c.port_of.result inside.links inside.view_ends inside.setup h =
     record {
       same = refl;
       shows = port-kept inside.setup h inside.clock.ratios c.port_of.result (ratios-kept inside.setup h _ _ _ _ c.self.invariant.0)
@@ -94,7 +94,7 @@ invariant_of-self-2 c =
     asked-replied inside.setup h c.args.s c.args.calls c.args.get c.args.p known means _ _ reply asked c.self.invariant.4 in
     let stands = standing m (Session c.args.s) c.args.calls (Get c.args.get) call inside.clock inside.fences inside.view_ends states c.self.invariant.0 in
     let ends = ends-after m (Session c.args.s) c.args.line c.args.calls (Get c.args.get) reply call replied refl refl (λ opened. refl) c.self.invariant.0.legal
-    states inside.viewports.items c.enter.new.ends.items inside.ties c.enter.new.ties stands at c.self.invariant.2 c.self.invariant.3 in
+    states inside.viewports.items c.enter.new.ends.items inside.links c.enter.new.links stands at c.self.invariant.2 c.self.invariant.3 in
     let placed = placed-of inside.setup (Get c.args.get) (Session c.args.s) _ c.self.invariant.0.count call.may.acts in
     let sessions : c.enter.new.sessions.items ≡ slice_set states (c.args.s.0 - 1) (after_get reply at.state) =
     did.sessions ∙ entered-set c.args.s c.args.line c.args.calls (Get c.args.get) reply states at.state placed at.of_state
@@ -125,7 +125,7 @@ returns-clause-reply c =
     let means = rw (← c.self.view_is) at c.requires.meant in
     let inside = c.self.inside in
     let h = inside.log.history in
-    let telling : IsTelling inside.setup c.port_of.result inside.ties inside.view_ends inside.setup h =
+    let telling : TellsPairs inside.setup c.port_of.result inside.links inside.view_ends inside.setup h =
     record {
       same = refl;
       shows = port-kept inside.setup h inside.clock.ratios c.port_of.result (ratios-kept inside.setup h _ _ _ _ c.self.invariant.0)

@@ -4,7 +4,7 @@ use Rattle.flat_facts.specs.Lives.{is_new_viewport}
 use Rattle.std.specs.Int.{w32}
 use Rattle.std.proofs.lemmas.Int.{to_z-of_z}
 use Rattle.flat_base.specs.declared.ids.Actor.TheVariants.{Display}
-use Rattle.flat_scene.specs.declared.journal.Kind.TheVariants.{Hit}
+use Rattle.flat_scene.specs.declared.journal.EntryKind.TheVariants.{Hit}
 use Rattle.flat_scene.specs.declared.journal.Reply.TheVariants.{Done}
 use Rattle.flat_scene.specs.History.{◌▹◌}
 use Rattle.flat_scene.specs.declared.journal.Entry.{Entry}
@@ -36,7 +36,7 @@ invariant_of-self c =
     let history : c.enter.new.log.history ≡ (inside.log.history ▹ entry_of Display c.args.line [] (Hit c.args.x c.args.y) Done) =
     log.history ∙ rw (to_z-of_z w32 c.args.x c.ranges.x, to_z-of_z w32 c.args.y c.ranges.y) refl in
     let ends = ends-after m Display c.args.line [] (Hit c.args.x c.args.y) Done call refl refl refl (λ opened. refl) c.self.invariant.0.legal
-    inside.sessions.items inside.viewports.items c.enter.new.ends.items inside.ties c.enter.new.ties tt log.ends c.self.invariant.2 c.self.invariant.3 in
+    inside.sessions.items inside.viewports.items c.enter.new.ends.items inside.links c.enter.new.links tt log.ends c.self.invariant.2 c.self.invariant.3 in
     let kept = kept-quiet m Display c.args.line [] (Hit c.args.x c.args.y) Done call refl
     (record { no_begin = refl; no_finish = refl; no_poll = refl; no_view = refl; none = λ made. refl }) refl refl _ _ _ _ _ _ _ _ _ _ refl
     c.self.invariant.0 c.self.invariant.1

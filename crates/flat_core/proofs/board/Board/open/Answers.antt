@@ -17,8 +17,8 @@ invariant_of-result c =
     c.in_ok-log.ensures.history c.in_ok-log.ensures.posts c.in_ok-log.ensures.room c.in_ok-fences.ensures.fences c.in_ok-fences.ensures.none
     c.in_ok-fences.ensures.views c.in_ok-fences.ensures.unused c.in_ok-sessions.ensures.count c.in_ok-sessions.ensures.new in (
       subst at (sym (c.new-ratios.ensures c.args.setup refl)) two.0,
-      rw (back-new ends c.in_ok-sessions.ensures.none, c.in_ok-ties.ensures.told) two.1,
+      rw (back-new ends c.in_ok-sessions.ensures.none, c.in_ok-links.ensures.told) two.1,
       rw c.in_ok-log.ensures.history (ends-new c.args.setup ends c.in_ok-sessions.ensures.ends c.in_ok-sessions.ensures.none),
-      rw c.in_ok-log.ensures.history c.in_ok-ties.ensures.tied,
-      rw c.in_ok-log.ensures.history c.in_ok-ties.ensures.watched,
+      rw c.in_ok-log.ensures.history c.in_ok-links.ensures.tied,
+      rw c.in_ok-log.ensures.history c.in_ok-links.ensures.watched,
     )

@@ -1,6 +1,6 @@
 use Rattle.std.proofs.Common.{◌≡◌, ◌-◌, ◌<◌, ◌^◌, ◌++◌, length, refl, sym, ◌∙◌, ap, arith, slice_set, subst}
 use Rattle.flat_base.specs.declared.ids.Actor.TheVariants.{Session}
-use Rattle.flat_scene.specs.declared.journal.Kind.TheVariants.{Poll}
+use Rattle.flat_scene.specs.declared.journal.EntryKind.TheVariants.{Poll}
 use Rattle.flat_scene.specs.declared.journal.Reply.TheVariants.{Polled}
 use Rattle.flat_states.specs.Machines.{Machine}
 use Rattle.flat_rules.specs.Legal.{reply_to, unread_events}
@@ -70,7 +70,7 @@ invariant_of-self-2 c =
     let stands = standing-set c.args.s states h state polled below of_state refl refl refl
     (standing m (Session c.args.s) c.args.calls Poll call inside.clock inside.fences inside.view_ends states c.self.invariant.0) in
     let ends = ends-after m (Session c.args.s) c.args.line c.args.calls Poll reply call (ap Polled over.as_many) refl refl (λ opened. refl)
-    c.self.invariant.0.legal (slice_set states place polled) inside.viewports.items c.enter.new.ends.items inside.ties c.enter.new.ties stands did.ends
+    c.self.invariant.0.legal (slice_set states place polled) inside.viewports.items c.enter.new.ends.items inside.links c.enter.new.links stands did.ends
     c.self.invariant.2 c.self.invariant.3 in
     let sessions : c.enter.new.sessions.items ≡ slice_set states place polled =
     did.sessions ∙ entered-changed c.args.s c.args.line c.args.calls Poll reply states polled placed in

@@ -7,12 +7,12 @@ use Rattle.flat_states.proofs.lemmas.Steps.{has-room, owed-small}
 use Rattle.flat_core.proofs.PresentSteps.{kept-after-present, count-small, present-reply, owed-few}
 use Rattle.flat_scene.specs.History.{◌▹◌}
 use Rattle.flat_rules.specs.Legal.{reply_to}
-use Rattle.flat_scene.specs.declared.journal.Kind.TheVariants.{Present}
+use Rattle.flat_scene.specs.declared.journal.EntryKind.TheVariants.{Present}
 use Rattle.flat_states.specs.Machines.{Machine, present_of}
 use Rattle.flat_facts.specs.Begins.{entry_of}
 use Rattle.flat_states.specs.Presents.{after_reply, present_reply, with_waiting}
 use Rattle.flat_states.proofs.lemmas.Heard.{after_present, entered-changed, heard-present, waiting-alone}
-use Rattle.flat_states.specs.declared.state.Account.{Account}
+use Rattle.flat_states.specs.declared.state.SessionCounts.{SessionCounts}
 use Rattle.flat_states.specs.declared.state.SessionState.{SessionState}
 use Rattle.flat_scene.specs.declared.journal.Entry.{Entry}
 use Rattle.flat_scene.specs.declared.journal.Reply.{Reply}
@@ -77,11 +77,11 @@ invariant_of-self-2 c =
     let placed = placed-of inside.setup (Present c.args.args) (Session c.args.s) _ c.self.invariant.0.count may.may.acts in
     let below : place < length states = omega (arith, placed.0, placed.1) in
     let stands = standing-set c.args.s states inside.log.history state joined below of_state (ap (λ (x : SessionState). x.closed) joins ∙ alone.0)
-    (ap (λ (x : SessionState). x.account.presents) joins ∙ ap (λ (a : Account). a.presents) alone.1)
-    (ap (λ (x : SessionState). x.account.view) joins ∙ ap (λ (a : Account). a.view) alone.1)
+    (ap (λ (x : SessionState). x.account.presents) joins ∙ ap (λ (a : SessionCounts). a.presents) alone.1)
+    (ap (λ (x : SessionState). x.account.view) joins ∙ ap (λ (a : SessionCounts). a.view) alone.1)
     (standing m (Session c.args.s) c.args.calls (Present c.args.args) may inside.clock inside.fences inside.view_ends states c.self.invariant.0) in
     let ends = ends-after m (Session c.args.s) c.args.line c.args.calls (Present c.args.args) c.present_in-reply.result may replied refl refl (λ opened. refl)
-    c.self.invariant.0.legal (slice_set states place joined) inside.viewports.items c.enter.new.ends.items inside.ties c.enter.new.ties stands did.ends
+    c.self.invariant.0.legal (slice_set states place joined) inside.viewports.items c.enter.new.ends.items inside.links c.enter.new.links stands did.ends
     c.self.invariant.2 c.self.invariant.3 in
     let after : after_reply (Present c.args.args) c.present_in-reply.result joined ≡ after_present state c.args.snap c.args.args =
     ap (λ (r : Reply). after_reply (Present c.args.args) r joined) reply ∙ ap (after_reply (Present c.args.args) (present_reply state)) joins

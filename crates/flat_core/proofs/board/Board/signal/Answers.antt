@@ -1,5 +1,5 @@
 use Rattle.std.proofs.Common.{refl, sym, ◌∙◌}
-use Rattle.flat_scene.specs.declared.journal.Kind.TheVariants.{Signal}
+use Rattle.flat_scene.specs.declared.journal.EntryKind.TheVariants.{Signal}
 use Rattle.flat_scene.specs.declared.journal.Reply.TheVariants.{Done}
 use Rattle.flat_states.specs.Machines.{Machine}
 use Rattle.flat_links.proofs.lemmas.EndSteps.{ends-after, none-new, standing}
@@ -34,7 +34,7 @@ invariant_of-self c =
     let states = inside.sessions.items in
     let stands = standing m c.args.who c.args.calls (Signal c.args.f) call inside.clock inside.fences inside.view_ends states c.self.invariant.0 in
     let ends = ends-after m c.args.who c.args.line c.args.calls (Signal c.args.f) Done call refl refl refl (λ opened. refl) c.self.invariant.0.legal states
-    inside.viewports.items c.enter.new.ends.items inside.ties c.enter.new.ties stands did.ends c.self.invariant.2 c.self.invariant.3 in
+    inside.viewports.items c.enter.new.ends.items inside.links c.enter.new.links stands did.ends c.self.invariant.2 c.self.invariant.3 in
     let kept = kept-quiet m c.args.who c.args.line c.args.calls (Signal c.args.f) Done call refl (plain-signal _ _ _ _) refl refl _ _ _ _ _ _ _ _ _ _ refl
     c.self.invariant.0 c.self.invariant.1
     (signalled _ _ _ _ _ c.args.f c.signal.ensures.size c.signal.ensures.members)

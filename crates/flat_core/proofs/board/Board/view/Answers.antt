@@ -1,7 +1,7 @@
 use Rattle.std.proofs.Common.{◌≡◌, ◌-◌, refl, sym, ◌∙◌, ap, slice_set, subst}
 use Rattle.std.specs.Prelude.{not}
 use Rattle.flat_base.specs.declared.ids.Actor.TheVariants.{Session}
-use Rattle.flat_scene.specs.declared.journal.Kind.TheVariants.{View}
+use Rattle.flat_scene.specs.declared.journal.EntryKind.TheVariants.{View}
 use Rattle.flat_scene.specs.declared.journal.Reply.{Reply}
 use Rattle.flat_states.specs.Machines.{Machine}
 use Rattle.flat_states.specs.Presents.{after_reply}
@@ -47,7 +47,7 @@ invariant_of-self c =
     (c.is_used-is_held.ensures ∙ c.self.invariant.0.viewed c.args.p) in
     let stands = standing m (Session c.args.s) c.args.calls (View c.args.p) call inside.clock inside.fences inside.view_ends states c.self.invariant.0 in
     let ends = ends-after m (Session c.args.s) c.args.line c.args.calls (View c.args.p) reply call is refl refl (λ opened. refl) c.self.invariant.0.legal states
-    inside.viewports.items c.enter.new.ends.items inside.ties c.enter.new.ties stands at c.self.invariant.2 c.self.invariant.3 in
+    inside.viewports.items c.enter.new.ends.items inside.links c.enter.new.links stands at c.self.invariant.2 c.self.invariant.3 in
     let placed = placed-of inside.setup (View c.args.p) (Session c.args.s) _ c.self.invariant.0.count call.may.acts in
     let sessions : c.enter.new.sessions.items ≡ slice_set states (c.args.s.0 - 1) (after_view c.args.p held at.state) =
     did.sessions ∙ entered-set c.args.s c.args.line c.args.calls (View c.args.p) reply states at.state placed at.of_state

@@ -1,7 +1,7 @@
 use Rattle.std.proofs.Common.{◌≡◌, ◌+◌, ◌-◌, ◌<◌, ◌≤◌, ◌^◌, refl, sym, ◌∙◌, ap, arith, List, subst, length, slice_set}
 use Rattle.flat_base.specs.declared.ids.Actor.TheVariants.{Session}
 use Rattle.flat_scene.specs.declared.calls.Call.{Call}
-use Rattle.flat_scene.specs.declared.journal.Kind.TheVariants.{Viewport}
+use Rattle.flat_scene.specs.declared.journal.EntryKind.TheVariants.{Viewport}
 use Rattle.flat_scene.specs.History.{◌▹◌}
 use Rattle.flat_links.specs.declared.viewports.Viewports.{Viewports}
 use Rattle.flat_states.specs.Machines.{HasRoom, Machine}
@@ -17,7 +17,7 @@ use Rattle.flat_rules.specs.Legal.{has_token, reply_to}
 use Rattle.flat_states.specs.Presents.{after_reply, use_reply}
 use Rattle.flat_states.proofs.lemmas.Heard.{after_viewport, heard-viewport}
 use Rattle.flat_scene.specs.declared.journal.Reply.{Reply}
-use Rattle.flat_links.specs.AllEnds.{IsUsed, TiesUsed}
+use Rattle.flat_links.specs.AllEnds.{IsUsed, LinksUsed}
 use Rattle.flat_states.proofs.lemmas.Counts.{declared-some, few-if}
 use Rattle.flat_links.proofs.lemmas.EndSteps.{ends-same}
 use Rattle.flat_states.proofs.lemmas.Ones.{declared-of}
@@ -132,15 +132,15 @@ invariant_of-self-2 c =
     c.index_mut-ends-2.result.now c.index_mut-ends-2.ensures.value same.0 held did.held in
     let used_by = subst (λ (calls : List Call). IsUsed c.args.p calls state.account.presents held c.index_mut-ends-2.result.now c.use_ends-is_held.new.ends)
     c.as_slice-2.ensures did.used in
-    let ties = subst (λ (calls : List Call). TiesUsed c.args.s calls c.args.p c.args.props held state c.index_mut-ends-2.result.now inside.ties
-    c.use_ends-is_held.new.ties) c.as_slice-2.ensures did.ties in
+    let links = subst (λ (calls : List Call). LinksUsed c.args.s calls c.args.p c.args.props held state c.index_mut-ends-2.result.now inside.links
+    c.use_ends-is_held.new.links) c.as_slice-2.ensures did.links in
     let e : Entry = entry_of (Session c.args.s) c.args.line c.args.calls (Viewport c.args.p c.args.props) (use_reply held) in
     let used = kept-used m c.args.s c.args.line c.args.calls c.args.p c.args.props call held is inside.clock inside.fences inside.view_ends
     inside.sessions.items roomy state c.index_mut-ends-2.result.now c.use_ends-is_held.new.ends
-    c.index_mut-state.ensures.value c.index_mut-ends-2.ensures.value c.self.invariant.0 same.0 used_by inside.ties c.use_ends-is_held.new.ties
-    c.self.invariant.3 ties in
+    c.index_mut-state.ensures.value c.index_mut-ends-2.ensures.value c.self.invariant.0 same.0 used_by inside.links c.use_ends-is_held.new.links
+    c.self.invariant.3 links in
     let telling = telling-used m c.args.s c.args.line c.args.calls c.args.p c.args.props call held inside.clock inside.fences inside.view_ends
-    inside.sessions.items c.port_of.result c.use_ends-is_held.new.ties c.port_of.ensures c.self.invariant.0 used.0 used.3 in
+    inside.sessions.items c.port_of.result c.use_ends-is_held.new.links c.port_of.ensures c.self.invariant.0 used.0 used.3 in
     let room : HasRoom inside.setup inside.shares c.make_room.new.log inside.owed (all_due inside.sessions.items roomy c.make_room.new.watchers) =
     room-more inside.setup inside.shares inside.log c.make_room.new.log inside.owed _ (all_due inside.sessions.items roomy c.make_room.new.watchers)
     c.self.invariant.1 took.history took.posts took.room took.post_room (omega (arith, same.1, c.make_room.ensures.told)) in

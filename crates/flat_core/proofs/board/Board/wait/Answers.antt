@@ -1,5 +1,5 @@
 use Rattle.std.proofs.Common.{◌≡◌, refl, sym, ◌∙◌, ap}
-use Rattle.flat_scene.specs.declared.journal.Kind.TheVariants.{Wait}
+use Rattle.flat_scene.specs.declared.journal.EntryKind.TheVariants.{Wait}
 use Rattle.flat_scene.specs.declared.journal.Reply.{Reply}
 use Rattle.flat_states.specs.Machines.{Machine}
 use Rattle.flat_states.specs.Presents.{after_reply}
@@ -37,7 +37,7 @@ invariant_of-self c =
     let is : reply ≡ reply_to inside.setup inside.log.history c.args.who c.args.calls (Wait c.args.c) = rw (← asked, ← value) replied in
     let stands = standing m c.args.who c.args.calls (Wait c.args.c) call inside.clock inside.fences inside.view_ends states c.self.invariant.0 in
     let ends = ends-after m c.args.who c.args.line c.args.calls (Wait c.args.c) reply call is refl refl (λ opened. refl) c.self.invariant.0.legal states
-    inside.viewports.items c.enter.new.ends.items inside.ties c.enter.new.ties stands did.ends c.self.invariant.2 c.self.invariant.3 in
+    inside.viewports.items c.enter.new.ends.items inside.links c.enter.new.links stands did.ends c.self.invariant.2 c.self.invariant.3 in
     let kept = kept-quiet m c.args.who c.args.line c.args.calls (Wait c.args.c) reply call is (plain-wait _ _ _ _ _)
     (rw replied (closes-waited c.asked_of.result c.value-value.result)) refl _ _ _ _ _ _ _ _ _ _ refl c.self.invariant.0 c.self.invariant.1
     (unchanged _ _ _ _ (λ sessions g f. refl) (λ p. refl))

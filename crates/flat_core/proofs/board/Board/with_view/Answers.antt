@@ -12,7 +12,7 @@ returns-clause-members c =
     let inside = c.self.inside in
     let P : Machine → Type 0 = λ m. (s : SessionNo) → is_declared m.setup s ≡ true → is_member c.with_view.result s.0 ≡ has_view m.setup m.history s in
     subst P c.self.view_is
-    (members inside.setup inside.log.history _ _ _ inside.sessions.items inside.ties.pairs.items c.with_view.result c.self.invariant.0 c.self.invariant.3
+    (members inside.setup inside.log.history _ _ _ inside.sessions.items inside.links.pairs.items c.with_view.result c.self.invariant.0 c.self.invariant.3
     (rw c.as_slice.ensures.value at c.with_view.ensures.each))
 
 pub returns-clause-others : goal.returns-clause-others

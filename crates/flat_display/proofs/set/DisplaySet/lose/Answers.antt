@@ -1,14 +1,14 @@
 use Rattle.std.proofs.Common.{arith, length-append, ◌≡◌, ℕ, ◌+◌, ◌<◌, ◌≤◌, ◌++◌, ◌∷◌, List, [], length, false, subst, sym}
-use Rattle.flat_scene.specs.declared.frames.Lost.{Lost}
+use Rattle.flat_scene.specs.declared.frames.LostDisplay.{LostDisplay}
 use Rattle.flat_display.specs.Lost.{Driven, is_lost, AreWithin}
 use Rattle.flat_display.specs.Shows.{IsOnce}
 use Rattle.flat_display.proofs.Losses.{fewer, once-more, within-more}
 use Rattle.flat_display.proofs.set.DisplaySet.lose.Goals as goal
 
-has_room : (d room : ℕ) (ls : List Lost) (n : ℕ) → (d ≤ room + length ls) × IsOnce ls × AreWithin d ls → 1 ≤ n → n ≤ d → is_lost ls n ≡ false → 0 < room
+has_room : (d room : ℕ) (ls : List LostDisplay) (n : ℕ) → (d ≤ room + length ls) × IsOnce ls × AreWithin d ls → 1 ≤ n → n ≤ d → is_lost ls n ≡ false → 0 < room
 has_room d room ls n (roomy, once, within) low high new = omega (arith, fewer d ls n once within new low high)
 
-stays : (d room room' : ℕ) (ls ls' : List Lost) (l : Lost) → (d ≤ room + length ls) × IsOnce ls × AreWithin d ls → 1 ≤ l.display → l.display ≤ d
+stays : (d room room' : ℕ) (ls ls' : List LostDisplay) (l : LostDisplay) → (d ≤ room + length ls) × IsOnce ls × AreWithin d ls → 1 ≤ l.display → l.display ≤ d
     → is_lost ls l.display ≡ false → ls' ≡ ls ++ l ∷ [] → room' + 1 ≡ room → (d ≤ room' + length ls') × IsOnce ls' × AreWithin d ls'
 stays d room room' ls ls' l (roomy, once, within) low high new is less =
     rw is (grind (arith, length-append), once-more ls l once new, within-more d ls l within low high)

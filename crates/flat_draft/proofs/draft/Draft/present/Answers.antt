@@ -5,7 +5,7 @@ use Rattle.flat_draft.specs.State.{DraftState}
 use Rattle.flat_draft.specs.Shown.{shown_tree}
 use Rattle.flat_graph.specs.Stands as graph
 use Rattle.flat_collect.specs.Judge.{HasTree, IsJudged}
-use Rattle.flat_collect.specs.declared.Verdict.TheVariants.{Good, Bad}
+use Rattle.flat_collect.specs.declared.TreeCheck.TheVariants.{Good, Bad}
 use Rattle.flat_collect.proofs.lemmas.Verdicts.{verdict_stands}
 use Rattle.flat_draft.proofs.Shows.{many, stands-swept, tree-refuses, fences-allow, fences-refuse, tree-stands}
 use Rattle.flat_draft.proofs.draft.Draft.present.Goals as goal

@@ -5,11 +5,11 @@ use Rattle.flat_scene.specs.declared.journal.Entry.{Entry}
 use Rattle.flat_facts.specs.Begins.{post_of}
 use Rattle.flat_rules.specs.Posts.{event_of}
 use Rattle.flat_rules.specs.Legal.{number_if}
-use Rattle.flat_watch.specs.Cells.{answered_get}
+use Rattle.flat_watch.specs.HangingGets.{answered_get}
 use Rattle.flat_watch.specs.Told.{Watching, answer, news, settled}
 use Rattle.flat_gets.specs.declared.pair.FormerGet.{FormerGet}
 use Rattle.flat_gets.specs.Pairs.{events_of, former_events, still_waiting}
-use Rattle.flat_gets.proofs.PartSteps.{cell-due, events-given, former-due, given-count, two-posted}
+use Rattle.flat_gets.proofs.PartSteps.{hanging_get-due, events-given, former-due, given-count, two-posted}
 use Rattle.flat_gets.proofs.pair.PairWatchers.tell.Goals as goal
 
 pub returns-in-Child-clause-told : goal.returns-in-Child-clause-told
@@ -66,4 +66,4 @@ returns-in-Child-clause-due c =
     c.post_answer-in-Child.ensures.count ∙ ap (λ o. number_if (is_some o)) c.tell-in-Child.ensures.answer in
     let waits : number_if (is_some c.tell-in-Child.new.self.waits) ≡ number_if (is_some (settled true now child).waits) =
     ap (λ (w : Watching). number_if (is_some w.waits)) c.tell-in-Child.ensures.after in
-    omega (arith, fewer, earlier, last, waits, former-due p now former, cell-due now child)
+    omega (arith, fewer, earlier, last, waits, former-due p now former, hanging_get-due now child)

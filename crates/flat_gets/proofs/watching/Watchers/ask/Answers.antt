@@ -1,15 +1,15 @@
 use Rattle.std.proofs.Common.{◌≡◌, ◌∙◌, ◌-◌, ap, sym, subst, refl, arith, Bool, slice_set}
 use Rattle.std.specs.Prelude.{Option, cond, is_some, not, ◌&&◌, sum_by}
-use Rattle.flat_scene.specs.declared.journal.Told.{Told}
+use Rattle.flat_scene.specs.declared.journal.WatcherValue.{WatcherValue}
 use Rattle.flat_scene.specs.declared.journal.Reply.{Reply}
 use Rattle.flat_rules.specs.Legal.{got, number_if}
 use Rattle.flat_rules.specs.Watch.{told}
 use Rattle.flat_watch.specs.Told.{news}
-use Rattle.flat_gets.specs.declared.pair.Part.{Part}
+use Rattle.flat_gets.specs.declared.pair.WatchedPart.{WatchedPart}
 use Rattle.flat_gets.specs.Listed.{KeptGets, with_pair}
-use Rattle.flat_gets.specs.Pairs.{IsGot, cell_at, is_child, part_of, waiting_in, watcher_at}
+use Rattle.flat_gets.specs.Pairs.{IsGot, hanging_get_at, is_child, part_of, waiting_in, watcher_at}
 use Rattle.flat_gets.specs.Watchers.{is_held, replied}
-use Rattle.flat_gets.proofs.GotCells.{got-due, held-is, if-err, reply-is}
+use Rattle.flat_gets.proofs.GotHangingGets.{got-due, held-is, if-err, reply-is}
 use Rattle.flat_gets.proofs.WatchedJoins.{due-set, same-set, watched-items}
 use Rattle.flat_gets.proofs.watching.Watchers.ask.Goals as goal
 
@@ -37,16 +37,18 @@ returns-clause-asked g c = λ setup history stands.
     let p = c.args.p in
     let part : c.of-part.result ≡ part_of get = c.of-part.ensures in
     let now : c.told_of-now.result ≡ told setup history (watcher_at (part_of get) p 0) =
-    c.told_of-now.ensures setup history stands ∙ ap (λ (k : Part). told setup history (watcher_at k p 0)) part in
-    let value : Option Told = told setup history (watcher_at (part_of get) p 0) in
-    let answer : c.reply_of-reply.result ≡ got (is_some (cell_at (part_of get) was).waits) (news value (cell_at (part_of get) was).last) =
+    c.told_of-now.ensures setup history stands ∙ ap (λ (k : WatchedPart). told setup history (watcher_at k p 0)) part in
+    let value : Option WatcherValue = told setup history (watcher_at (part_of get) p 0) in
+    let answer : c.reply_of-reply.result ≡ got (is_some (hanging_get_at (part_of get) was).waits) (news value (hanging_get_at (part_of get) was).last) =
     c.reply_of-reply.ensures ∙ ap replied c.get.ensures.answer
-    ∙ reply-is (is_some (cell_at (part_of get) was).waits) (news c.told_of-now.result (cell_at (part_of get) was).last)
-    ∙ ap (λ (o : Option Told). got (is_some (cell_at (part_of get) was).waits) (news o (cell_at (part_of get) was).last)) now in
+    ∙ reply-is (is_some (hanging_get_at (part_of get) was).waits) (news c.told_of-now.result (hanging_get_at (part_of get) was).last)
+    ∙ ap (λ (o : Option WatcherValue). got (is_some (hanging_get_at (part_of get) was).waits) (news o (hanging_get_at (part_of get) was).last)) now in
     let waits : c.would_wait.result ≡ is_held c.reply_of-reply.result =
-    c.would_wait.ensures ∙ ap (λ (k : Part). not (is_some (cell_at k was).waits) && not (is_some (news c.told_of-now.result (cell_at k was).last))) part
-    ∙ ap (λ (o : Option Told). not (is_some (cell_at (part_of get) was).waits) && not (is_some (news o (cell_at (part_of get) was).last))) now
-    ∙ sym (held-is (is_some (cell_at (part_of get) was).waits) (news value (cell_at (part_of get) was).last)) ∙ ap is_held (sym answer) in
+    c.would_wait.ensures ∙ ap (λ (k : WatchedPart). not (is_some (hanging_get_at k was).waits)
+    && not (is_some (news c.told_of-now.result (hanging_get_at k was).last))) part
+    ∙ ap (λ (o : Option WatcherValue). not (is_some (hanging_get_at (part_of get) was).waits) && not (is_some (news o (hanging_get_at (part_of get) was).last)))
+    now
+    ∙ sym (held-is (is_some (hanging_get_at (part_of get) was).waits) (news value (hanging_get_at (part_of get) was).last)) ∙ ap is_held (sym answer) in
     record {
       was = was;
       then = then;
@@ -56,16 +58,16 @@ returns-clause-asked g c = λ setup history stands.
       pairs_are = refl;
       of_from = c.index_mut-session.ensures.value;
       sessions_are = refl;
-      gets = subst (λ (o : Option Told). IsGot (part_of get) get o was then) now c.get.ensures.gets;
+      gets = subst (λ (o : Option WatcherValue). IsGot (part_of get) get o was then) now c.get.ensures.gets;
       replied = answer;
       counted = ap (λ (k : KeptGets). k.answers) c.count.ensures ∙ omega (arith, c.list.ensures.answers, c.count_now.ensures);
       views =
           ap (λ (k : KeptGets). k.views) c.count.ensures ∙ c.in_ok-list.ensures.views
-          ∙ ap (λ (k : Part). cond (c.would_wait.result && not (is_child k)) (with_pair p from.views) from.views) part
+          ∙ ap (λ (k : WatchedPart). cond (c.would_wait.result && not (is_child k)) (with_pair p from.views) from.views) part
           ∙ ap (λ (b : Bool). cond (b && not (is_child (part_of get))) (with_pair p from.views) from.views) waits;
       viewports =
           ap (λ (k : KeptGets). k.viewports) c.count.ensures ∙ c.in_ok-list.ensures.viewports
-          ∙ ap (λ (k : Part). cond (c.would_wait.result && is_child k) (with_pair p from.viewports) from.viewports) part
+          ∙ ap (λ (k : WatchedPart). cond (c.would_wait.result && is_child k) (with_pair p from.viewports) from.viewports) part
           ∙ ap (λ (b : Bool). cond (b && is_child (part_of get)) (with_pair p from.viewports) from.viewports) waits;
     }
 
@@ -75,9 +77,10 @@ returns-clause-due g c =
     let then = c.get.new.self in
     let get = c.args.get in
     let own = c.args.self.now.pairs.items in
-    let answer : c.reply_of-reply.result ≡ got (is_some (cell_at (part_of get) was).waits) (news c.told_of-now.result (cell_at (part_of get) was).last) =
+    let answer : c.reply_of-reply.result ≡ got (is_some (hanging_get_at (part_of get) was).waits)
+    (news c.told_of-now.result (hanging_get_at (part_of get) was).last) =
     c.reply_of-reply.ensures ∙ ap replied c.get.ensures.answer
-    ∙ reply-is (is_some (cell_at (part_of get) was).waits) (news c.told_of-now.result (cell_at (part_of get) was).last) in
+    ∙ reply-is (is_some (hanging_get_at (part_of get) was).waits) (news c.told_of-now.result (hanging_get_at (part_of get) was).last) in
     let held = ap (λ (r : Reply). number_if (is_held r)) answer in
     omega (
       arith,

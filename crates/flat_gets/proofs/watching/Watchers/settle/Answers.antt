@@ -5,7 +5,7 @@ use Rattle.flat_base.specs.declared.ids.SessionNo.{SessionNo}
 use Rattle.flat_scene.specs.declared.journal.Entry.{Entry}
 use Rattle.flat_scene.specs.declared.setup.Setup.{Setup}
 use Rattle.flat_rules.specs.Watch.{told}
-use Rattle.flat_gets.specs.declared.pair.Part.TheVariants as parts
+use Rattle.flat_gets.specs.declared.pair.WatchedPart.TheVariants as parts
 use Rattle.flat_gets.specs.declared.pair.PairWatchers.{PairWatchers}
 use Rattle.flat_gets.specs.Listed.{AreListed, KeptGets, view_waits, viewport_waits, waits_at}
 use Rattle.flat_gets.specs.Pairs.{watcher_at}

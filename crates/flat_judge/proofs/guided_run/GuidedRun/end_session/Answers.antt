@@ -1,7 +1,7 @@
 use Rattle.std.proofs.Common.{rules, ◌≡◌, ◌+◌, ◌<◌, true, length, get_or, Some, slice_get, refl, sym, ap, ◌∙◌, arith}
 use Rattle.std.proofs.lemmas.Option.{slice_get-get_or}
 use Rattle.flat_play.proofs.lemmas.Starting.{few}
-use Rattle.flat_judge.specs.declared.seat.Seat.{Seat}
+use Rattle.flat_judge.specs.declared.session_cursor.SessionCursor.{SessionCursor}
 use Rattle.flat_judge.proofs.RunSteps.{ended_more, must_end, seat_found, still_ended}
 use Rattle.flat_base.specs.declared.ids.Actor.TheVariants.{Session}
 use Rattle.flat_judge.proofs.Growth.{grown-goes, grown-none, grown-on}
@@ -16,12 +16,12 @@ overflow_add-end c =
 pub loop-init : goal.loop-init
 loop-init c =
     let guided = c.args.self.now in
-    let first : Seat = c.index.result.now in
+    let first : SessionCursor = c.index.result.now in
     let found : first ≡ get_or guided.seats.items c.args.k first = search rules in (
       c.requires.stands,
       c.requires.before,
       (λ seat at unended. let same : first.place ≡ seat.place =
-          ap (λ (p : Seat). p.place) (seat_found guided.seats.items c.args.k first seat c.requires.within found at) in omega (arith, same)),
+          ap (λ (p : SessionCursor). p.place) (seat_found guided.seats.items c.args.k first seat c.requires.within found at) in omega (arith, same)),
       refl,
       grown-none _ _ refl,
       refl,
@@ -30,18 +30,19 @@ loop-init c =
 pub returns-then-index-clause-ended : goal.returns-then-index-clause-ended
 returns-then-index-clause-ended c =
     let guided = c.loop.self in
-    let first : Seat = c.index-in-loop.result.now in
+    let first : SessionCursor = c.index-in-loop.result.now in
     let found : first ≡ get_or guided.seats.items c.args.k first = search rules in
     let many = c.loop.invariant.0.seats.count in
     let were = c.requires.stands.seats.count in
     ended_more c.args.k guided.seats.items c.loop.invariant.1
-    (λ seat at. sym (ap (λ (p : Seat). p.has_ended) (seat_found guided.seats.items c.args.k first seat (omega (arith, many, were, c.requires.within)) found at))
+    (λ seat at. sym (ap (λ (p : SessionCursor). p.has_ended) (seat_found guided.seats.items c.args.k first seat (omega (arith, many, were, c.requires.within))
+    found at))
     ∙ c.if-index.true)
 
 pub loop-preserved : goal.loop-preserved
 loop-preserved c =
     let guided = c.loop.self in
-    let first : Seat = c.index-in-loop.result.now in
+    let first : SessionCursor = c.index-in-loop.result.now in
     let found : first ≡ get_or guided.seats.items c.args.k first = search rules in
     let many = c.loop.invariant.0.seats.count in
     let were = c.requires.stands.seats.count in
@@ -73,9 +74,9 @@ returns-clause-ended c =
 pub session_turn-requires-clause-open : goal.session_turn-requires-clause-open
 session_turn-requires-clause-open c = λ seat at.
     let guided = c.loop.self in
-    let first : Seat = c.index-in-loop.result.now in
+    let first : SessionCursor = c.index-in-loop.result.now in
     let found : first ≡ get_or guided.seats.items c.args.k first = search rules in
     let many = c.loop.invariant.0.seats.count in
     let were = c.requires.stands.seats.count in
-    sym (ap (λ (p : Seat). p.has_ended) (seat_found guided.seats.items c.args.k first seat (omega (arith, many, were, c.requires.within)) found at))
+    sym (ap (λ (p : SessionCursor). p.has_ended) (seat_found guided.seats.items c.args.k first seat (omega (arith, many, were, c.requires.within)) found at))
     ∙ c.if-index.false

@@ -3,7 +3,7 @@ use Rattle.std.specs.Prelude.{slice_get}
 use Rattle.std.specs.List.{list_any}
 use Rattle.flat_scene.specs.declared.calls.Call.{Call}
 use Rattle.flat_scene.specs.declared.calls.Call.TheVariants.{CreateViewport}
-use Rattle.flat_facts.specs.declared.live.Live.{Live}
+use Rattle.flat_facts.specs.declared.live_viewport.LiveViewport.{LiveViewport}
 use Rattle.flat_links.specs.declared.tokens.OutToken.{OutToken}
 use Rattle.flat_rules.specs.Legal.{all_but_last}
 use Rattle.flat_facts.specs.Lives.{lives_after, is_new_viewport}
@@ -25,8 +25,8 @@ returns-in-CreateViewport-clause-live c =
     let at : slice_get calls (length calls - 1) ≡ Some (CreateViewport it.c it.pair it.w it.h it.inset) =
     one.1 ∙ ap Some (sym (c.index-calls-place.is ∙ at-get calls (length calls - 1) one.0 c.index-calls-place.result one.1) ∙ it.is) in
     let is : IsUseCall c.args.p calls it.c it.w it.h it.inset = use-of c.args.p calls it.c it.pair it.w it.h it.inset c.requires.last at in
-    let new : List Live = record { name = it.c; pair = c.args.p } ∷ [] in
-    c.join.ensures.live ∙ ap (λ (l : List Live). l ++ new)
+    let new : List LiveViewport = record { name = it.c; pair = c.args.p } ∷ [] in
+    c.join.ensures.live ∙ ap (λ (l : List LiveViewport). l ++ new)
     (c.note_calls.ensures.live ∙ ap (lives_after c.args.self.now.live.items) (but-last calls one.0 one.1))
     ∙ sym (lives-used c.args.p calls it.c it.w it.h it.inset is c.args.self.now.live.items)
 
@@ -52,7 +52,7 @@ join-requires-clause-room_live c =
     let one = last-some c.args.p calls (slice_get calls (length calls - 1)) refl c.requires.last in
     let few : length (lives_after lives (all_but_last calls)) ≤ length lives = lives-fewer lives (all_but_last calls) c.requires.others in
     let long : length c.note_calls.new.self.live.items ≡ length (lives_after lives (all_but_last calls)) =
-    ap (length {A = Live}) (c.note_calls.ensures.live ∙ ap (lives_after lives) (but-last calls one.0 one.1)) in
+    ap (length {A = LiveViewport}) (c.note_calls.ensures.live ∙ ap (lives_after lives) (but-last calls one.0 one.1)) in
     omega (arith, few, long, c.note_calls.ensures.room_live, c.requires.room_live)
 
 pub returns-in_default : goal.returns-in_default

@@ -37,8 +37,8 @@ close_with-closed-requires g c =
 pub unreachable-requires : goal.unreachable-requires
 unreachable-requires g c =
     let first = c.into_first-first.ensures in
-    none_whole g.T.Storied.history g.T.Storied.actor g.T.Storied.fixed c.args.self c.args.seats.seats c.take.result c.in_default.is
-    (closed g.T.Storied.history g.T.Storied.actor g.T.Storied.fixed c.first.inside.seat.table_id c.gather.new.keeper.id c.gather.new.keeper.me
+    none_whole g.T.HasHistory.history g.T.HasHistory.actor g.T.HasHistory.fixed c.args.self c.args.seats.seats c.take.result c.in_default.is
+    (closed g.T.HasHistory.history g.T.HasHistory.actor g.T.HasHistory.fixed c.first.inside.seat.table_id c.gather.new.keeper.id c.gather.new.keeper.me
     c.into_first-first.result.0 c.args.self c.args.seats c.into_first-first.result.1 _ _ c.take.result
     c.requires.own first.in_order c.requires.home first.first first.others c.first.invariant c.first.view_is c.gather.ensures.joined
     c.close_with-closed.ensures.values.2 c.take.ensures.value)
@@ -46,8 +46,8 @@ unreachable-requires g c =
 pub returns-clause-seats : goal.returns-clause-seats
 returns-clause-seats g c =
     let first = c.into_first-first.ensures in
-    (some_whole g.T.Storied.history g.T.Storied.actor g.T.Storied.fixed c.args.self c.args.seats.seats c.take.result c.in-Some.value c.in-Some.is
-    (closed g.T.Storied.history g.T.Storied.actor g.T.Storied.fixed c.first.inside.seat.table_id c.gather.new.keeper.id c.gather.new.keeper.me
+    (some_whole g.T.HasHistory.history g.T.HasHistory.actor g.T.HasHistory.fixed c.args.self c.args.seats.seats c.take.result c.in-Some.value c.in-Some.is
+    (closed g.T.HasHistory.history g.T.HasHistory.actor g.T.HasHistory.fixed c.first.inside.seat.table_id c.gather.new.keeper.id c.gather.new.keeper.me
     c.into_first-first.result.0 c.args.self c.args.seats c.into_first-first.result.1 _ _ c.take.result
     c.requires.own first.in_order c.requires.home first.first first.others c.first.invariant c.first.view_is c.gather.ensures.joined
     c.close_with-closed.ensures.values.2 c.take.ensures.value)).each
@@ -55,8 +55,8 @@ returns-clause-seats g c =
 pub returns-clause-others : goal.returns-clause-others
 returns-clause-others g c =
     let first = c.into_first-first.ensures in
-    (some_whole g.T.Storied.history g.T.Storied.actor g.T.Storied.fixed c.args.self c.args.seats.seats c.take.result c.in-Some.value c.in-Some.is
-    (closed g.T.Storied.history g.T.Storied.actor g.T.Storied.fixed c.first.inside.seat.table_id c.gather.new.keeper.id c.gather.new.keeper.me
+    (some_whole g.T.HasHistory.history g.T.HasHistory.actor g.T.HasHistory.fixed c.args.self c.args.seats.seats c.take.result c.in-Some.value c.in-Some.is
+    (closed g.T.HasHistory.history g.T.HasHistory.actor g.T.HasHistory.fixed c.first.inside.seat.table_id c.gather.new.keeper.id c.gather.new.keeper.me
     c.into_first-first.result.0 c.args.self c.args.seats c.into_first-first.result.1 _ _ c.take.result
     c.requires.own first.in_order c.requires.home first.first first.others c.first.invariant c.first.view_is c.gather.ensures.joined
     c.close_with-closed.ensures.values.2 c.take.ensures.value)).others
@@ -64,8 +64,8 @@ returns-clause-others g c =
 pub returns-clause-fixed : goal.returns-clause-fixed
 returns-clause-fixed g c =
     let first = c.into_first-first.ensures in
-    (some_whole g.T.Storied.history g.T.Storied.actor g.T.Storied.fixed c.args.self c.args.seats.seats c.take.result c.in-Some.value c.in-Some.is
-    (closed g.T.Storied.history g.T.Storied.actor g.T.Storied.fixed c.first.inside.seat.table_id c.gather.new.keeper.id c.gather.new.keeper.me
+    (some_whole g.T.HasHistory.history g.T.HasHistory.actor g.T.HasHistory.fixed c.args.self c.args.seats.seats c.take.result c.in-Some.value c.in-Some.is
+    (closed g.T.HasHistory.history g.T.HasHistory.actor g.T.HasHistory.fixed c.first.inside.seat.table_id c.gather.new.keeper.id c.gather.new.keeper.me
     c.into_first-first.result.0 c.args.self c.args.seats c.into_first-first.result.1 _ _ c.take.result
     c.requires.own first.in_order c.requires.home first.first first.others c.first.invariant c.first.view_is c.gather.ensures.joined
     c.close_with-closed.ensures.values.2 c.take.ensures.value)).fixed_is

@@ -1,18 +1,18 @@
 use Rattle.std.proofs.Common.{◌≡◌, ◌+◌, ◌<◌, ℕ, length, get_or, refl, sym, ap, ◌∙◌, subst, arith, append-nil}
 use Rattle.flat_places.specs.declared.script.Script.{Script}
 use Rattle.flat_report.specs.Report.{finished}
-use Rattle.flat_session.specs.declared.reader.Reader.{Reader}
+use Rattle.flat_session.specs.declared.session_reader.SessionReader.{SessionReader}
 use Rattle.flat_play.specs.declared.play.Play.{Play}
 use Rattle.flat_play.specs.Playing.{ReaderStands, EndsStand}
 use Rattle.flat_play.proofs.Ending.{end_share, end_stands, ends_more}
 use Rattle.flat_play.proofs.Touching.{no-ends, one-end-more}
 use Rattle.flat_play.proofs.play.Play.end_next.Goals as goal
 
-waiting_is : (script : Script) (before : ℕ) (old : Play) (reader : Reader) → before < script.setup.sessions → EndsStand script before old
+waiting_is : (script : Script) (before : ℕ) (old : Play) (reader : SessionReader) → before < script.setup.sessions → EndsStand script before old
     → reader ≡ get_or old.readers.items before reader
     → ReaderStands script (record { 0 = before + 1 }) (length script.lines) old.board.history reader
 waiting_is script before old reader within stands is =
-    let P : Reader → Type 0 = λ r. ReaderStands script (record { 0 = before + 1 }) (length script.lines) old.board.history r in
+    let P : SessionReader → Type 0 = λ r. ReaderStands script (record { 0 = before + 1 }) (length script.lines) old.board.history r in
     let count : length old.readers.items ≡ script.setup.sessions = stands.count in
     subst P (sym is) (stands.waiting before reader (omega arith) (omega (arith, count)))
 

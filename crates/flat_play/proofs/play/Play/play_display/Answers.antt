@@ -2,8 +2,8 @@ use Rattle.std.proofs.Common.{rules, ◌≡◌, ◌≤◌, ◌∙◌, true, leng
 use Rattle.std.proofs.lemmas.Result.{on_ok_weaker}
 use Rattle.flat_base.specs.declared.ids.Actor.{Actor}
 use Rattle.flat_base.specs.declared.ids.Actor.TheVariants.{Display}
-use Rattle.flat_scene.specs.declared.script.Body.{Body}
-use Rattle.flat_scene.specs.declared.script.Body.TheVariants as body
+use Rattle.flat_scene.specs.declared.script.LineBody.{LineBody}
+use Rattle.flat_scene.specs.declared.script.LineBody.TheVariants as body
 use Rattle.flat_scene.specs.declared.script.DisplayLine.TheVariants as display
 use Rattle.flat_scene.specs.declared.script.ScriptLine.{ScriptLine}
 use Rattle.flat_scene.specs.declared.setup.Setup.{Setup}
@@ -113,7 +113,7 @@ enter_beside-requires-clause-may g c =
     let beside : is_beside c.args.text ≡ true = search rules in
     let script = c.args.script.now in
     let A : Actor → Type 0 = λ who. is_played script.setup who x.body ≡ true in
-    let B : Body → Type 0 = λ all. is_played script.setup Display all ≡ true in
+    let B : LineBody → Type 0 = λ all. is_played script.setup Display all ≡ true in
     let P : Setup → Type 0 = λ s. is_played_display s c.args.text ≡ true in
     may_beside c.args.self.now.board c.args.text beside
     (display_share c.args.script.now c.args.place x at c.args.self.now.board c.requires.stands.shares says.0 c.requires.stands.spent)

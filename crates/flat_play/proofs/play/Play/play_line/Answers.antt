@@ -1,7 +1,7 @@
 use Rattle.std.proofs.Common.{◌≡◌, ◌∙◌, true, OnOk, Some, refl, sym, ap, subst}
 use Rattle.flat_base.specs.declared.ids.Actor.{Actor}
-use Rattle.flat_scene.specs.declared.script.Body.{Body}
-use Rattle.flat_scene.specs.declared.script.Body.TheVariants as body
+use Rattle.flat_scene.specs.declared.script.LineBody.{LineBody}
+use Rattle.flat_scene.specs.declared.script.LineBody.TheVariants as body
 use Rattle.flat_scene.specs.declared.script.DisplayLine.{DisplayLine}
 use Rattle.flat_scene.specs.declared.script.ScriptLine.{ScriptLine}
 use Rattle.flat_playable.specs.Playable.{is_played}
@@ -27,7 +27,7 @@ unreachable-requires-in-None-display_text g c =
     no_display_text c.args.script.now.setup x.body (subst P c.in-Display.is at.played) (sym c.in-None-display_text.ensures)
 
 -- the line of the display that a body is, read back
-is_display : (all : Body) (text : DisplayLine) → display_text all ≡ Some text → all ≡ body.Display text
+is_display : (all : LineBody) (text : DisplayLine) → display_text all ≡ Some text → all ≡ body.Display text
 is_display (body.Display own) text is = cc
 is_display _ text is = cc
 

@@ -1,10 +1,10 @@
 use Rattle.std.proofs.Common.{◌≡◌, true, refl, sym, subst, arith}
 use Rattle.flat_base.specs.declared.ids.SessionNo.{SessionNo}
 use Rattle.flat_base.specs.declared.ids.Actor.TheVariants.{Session}
-use Rattle.flat_scene.specs.declared.script.Body.TheVariants as body
+use Rattle.flat_scene.specs.declared.script.LineBody.TheVariants as body
 use Rattle.flat_scene.specs.declared.script.ScriptLine.{ScriptLine}
 use Rattle.flat_play.proofs.lemmas.PlaySteps.{below_declared, session_finishes, session_share, session_more, own_reader}
-use Rattle.flat_scene.specs.declared.script.Line.{Line}
+use Rattle.flat_scene.specs.declared.script.SessionLine.{SessionLine}
 use Rattle.flat_core.specs.Machines.{HasShare}
 use Rattle.flat_rules.specs.Owned.{is_played_line}
 use Rattle.flat_session.specs.Reads.{Reads, Stands}
@@ -31,7 +31,7 @@ call-requires-clause-owned c =
     let reader = c.index_mut-reader.result.now in
     let mine = own_reader c.args.script.now c.args.place c.args.self.now.board.history c.args.self.now.readers.items c.args.s h.declared
     c.requires.stands.readers reader c.index_mut-reader.ensures.value in
-    let P : Line → Type 0 = λ text. is_played_line c.args.self.now.board.setup reader.session text ≡ true in
+    let P : SessionLine → Type 0 = λ text. is_played_line c.args.self.now.board.setup reader.session text ≡ true in
     subst P (sym c.in_ok-text.ensures)
     (reader_owns c.args.script.now c.args.s c.args.self.now.board reader c.requires.stands.setup mine.session
     (λ setup s. is_played_line setup s c.args.text.now ≡ true) h.played)
@@ -72,7 +72,7 @@ returns-clause-plays c =
     let reader = c.index_mut-reader.result.now in
     let mine = own_reader script c.args.place old.board.history old.readers.items c.args.s h.declared c.requires.stands.readers reader
     c.index_mut-reader.ensures.value in
-    let R : Line → Type 0 = λ text. Reads c.args.number text c.in_ok-_reply._reply old.board c.call.new.board reader c.call.new.self reader.closed in
+    let R : SessionLine → Type 0 = λ text. Reads c.args.number text c.in_ok-_reply._reply old.board c.call.new.board reader c.call.new.self reader.closed in
     let reads = subst R c.in_ok-text.ensures c.in_ok-_reply.ensures.reads in
     let after = reader_more script c.args.s c.args.place c.args.number c.args.text.now h c.in_ok-_reply._reply old.board c.call.new.board reader c.call.new.self
     c.requires.stands.setup mine reads c.lines_are_read.ensures.more c.call.ensures.stands in
@@ -94,7 +94,7 @@ returns-clause-frames c =
     let reader = c.index_mut-reader.result.now in
     let mine = own_reader script c.args.place old.board.history old.readers.items c.args.s h.declared c.requires.stands.readers reader
     c.index_mut-reader.ensures.value in
-    let R : Line → Type 0 = λ text. Reads c.args.number text c.in_ok-_reply._reply old.board c.call.new.board reader c.call.new.self reader.closed in
+    let R : SessionLine → Type 0 = λ text. Reads c.args.number text c.in_ok-_reply._reply old.board c.call.new.board reader c.call.new.self reader.closed in
     let reads = subst R c.in_ok-text.ensures c.in_ok-_reply.ensures.reads in
     session_finishes script.setup x c.args.s old.board c.call.new.board refl
     (reader_grows script c.args.s c.args.place c.args.number c.args.text.now h c.in_ok-_reply._reply old.board c.call.new.board reader c.call.new.self

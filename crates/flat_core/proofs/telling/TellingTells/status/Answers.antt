@@ -1,8 +1,0 @@
-use Rattle.std.proofs.Common.{sym, ◌∙◌}
-use Rattle.flat_gets.proofs.lemmas.GetPosts.{undeclared-untold}
-use Rattle.flat_core.proofs.TellingSteps.{unknown}
-use Rattle.flat_core.proofs.telling.TellingTells.status.Goals as goal
-
-pub returns-else-knows : goal.returns-else-knows
-returns-else-knows c = λ setup history stands. sym (undeclared-untold setup history stands.legal c.args.p
-    (unknown _ _ _ _ setup history stands c.args.p (sym c.knows.ensures ∙ c.if-knows.false))).1.0

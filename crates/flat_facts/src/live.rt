@@ -1,9 +1,0 @@
-use flat_base::{ContentId, PairNo};
-
-/// A viewport that a session's calls made, and neither released nor cleared.
-#[derive(Clone, Copy, PartialEq, Eq)]
-pub struct Live {
-    /// The id that names it.
-    pub name: ContentId,
-    pub pair: PairNo,
-}

@@ -1,5 +1,0 @@
-use Rattle.flat_report.proofs.Reaching.{Reaches}
-use Rattle.flat_report.proofs.cursor.Cursor.skip.Given as goal
-
-abbrev pub invariant-loop-entry : goal.invariant-loop-entry
-invariant-loop-entry l = Reaches l.fn.self l.entries l.cursor l.entry-index
